@@ -1,6 +1,6 @@
 //! Gates that hold nodes, and what is seen through them.
 
-use crate::setting::{End, Setting, Started, command_of, end_of, start};
+use crate::setting::{ONE, Setting, Started, THREE, TWO, command_of, end_of, start};
 use crate::verdicts::holds;
 use pg_cluster::Gate;
 use pg_step::Command;
@@ -100,14 +100,7 @@ fn are_taken(started: &mut Started) -> bool {
 }
 
 fn is_create(back: Result<(), Command>) -> bool {
-    match back {
-        Err(command) => {
-            let is_create = matches!(&command, Command::Create(_));
-            drop(command);
-            is_create
-        }
-        Ok(()) => false,
-    }
+    with!(back, Err command => matches!(&command, Command::Create(_)), else false)
 }
 
 // Whether the port of a node takes 64 commands, and hands back the next.
@@ -139,13 +132,6 @@ fn is_seen<R: Threads + Wait>(
     }
 }
 
-fn is_well(end: Option<End>) -> bool {
-    match end {
-        Some(end) => end.is_well(),
-        None => false,
-    }
-}
-
 // Whether all is seen as it should be, and all is well then; none missed another who meet.
 fn passes<R: Threads + Wait>(
     rt: &R,
@@ -159,7 +145,8 @@ fn passes<R: Threads + Wait>(
         Ok(begun) => {
             let mut started = begun;
             let is_seen = is_seen(rt, alloc, &mut started, rule, board);
-            let is_well = is_well(end_of(rt, alloc, started));
+            let end = end_of(rt, alloc, started);
+            let is_well = matches!(end, Some(end) if end.is_well());
             let missed = board.second.load(Ordering::SeqCst);
             is_seen && is_well && (missed == 0 || matches!(rule, Rule::InStep))
         }
@@ -184,44 +171,26 @@ fn check<R: Threads + Wait + Abort>(rt: &R, alloc: Global, setting: Setting<'_>,
     holds(rt, passes, "what is seen at a gate");
 }
 
-const ONE: Setting = Setting {
-    names: &["a"],
-    ports: 1,
-    ring: 64,
-    seed: 0,
-    limit: 1_000_000,
-};
-
-const PAIR: Setting = Setting {
-    names: &["a", "b"],
-    ports: 0,
-    ring: 64,
-    seed: 0,
-    limit: 10,
-};
-
-const THREE: Setting = Setting {
-    names: &["a", "b", "c"],
-    ports: 1,
-    ring: 64,
-    seed: 0,
-    limit: 1_000_000_000,
-};
-
 // While its node is held a port takes 64 commands, and hands back the next.
 #[test]
 fn full_port(rt: HostRuntime) {
-    check(&rt, rt.alloc(), ONE, Rule::Held);
+    check(&rt, rt.alloc(), Setting { ring: 64, ..ONE }, Rule::Held);
 }
 
 // In its first turn each node says that it is there, and waits for the other.
 #[test]
 fn nodes_run_at_once(rt: HostRuntime) {
-    check(&rt, rt.alloc(), PAIR, Rule::Meeting);
+    let setting = Setting {
+        ports: 0,
+        ring: 64,
+        limit: 10,
+        ..TWO
+    };
+    check(&rt, rt.alloc(), setting, Rule::Meeting);
 }
 
 // No node is more than a turn ahead of the others for a thousand turns, in which a group is created.
 #[test]
 fn nodes_go_in_step(rt: HostRuntime) {
-    check(&rt, rt.alloc(), THREE, Rule::InStep);
+    check(&rt, rt.alloc(), Setting { ring: 64, ..THREE }, Rule::InStep);
 }

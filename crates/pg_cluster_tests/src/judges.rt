@@ -1,29 +1,16 @@
 //! What the judges of a cluster say of one that was tampered with after it was closed.
 
-use crate::setting::{End, Open, Setting, Started, end_of_closed, start};
+use crate::rows::Row::{self, Asks, Lose};
+use crate::rows::play;
+use crate::setting::{End, Open, Setting, Started, THREE, TWO, end_of_closed, start};
 use crate::verdicts::holds;
 use pg_cluster::Closed;
 use pg_world::Config;
 use std::alloc::Global;
 use std::mem;
+use std::process::Abort;
 use std::sync::Wait;
 use std::thread::Threads;
-
-const TWO: Setting = Setting {
-    names: &["a", "b"],
-    ports: 1,
-    ring: 65536,
-    seed: 0,
-    limit: 100_000_000,
-};
-
-const THREE: Setting = Setting {
-    names: &["a", "b", "c"],
-    ports: 1,
-    ring: 65536,
-    seed: 0,
-    limit: 100_000_000,
-};
 
 /// A cluster that is closed, and what it began with.
 #[derive(Drop)]
@@ -44,18 +31,6 @@ impl Judged {
                 drop(step);
                 true
             }
-            None => false,
-        }
-    }
-
-    // Puts the last node of another cluster in the place of the last one; whether both have some.
-    fn take_node(&mut self, other: &mut Judged) -> bool {
-        let Some(own) = self.closed.nodes.pop() else {
-            return false;
-        };
-        drop(own);
-        match other.closed.nodes.pop() {
-            Some(node) => self.closed.nodes.push(node).is_ok(),
             None => false,
         }
     }
@@ -85,21 +60,19 @@ fn closed(rt: &impl Threads, started: Started) -> Option<Judged> {
     }
 }
 
-// Nodes of which these were lost, and then the second was asked by this line.
-fn closed_cluster(
-    rt: &(impl Threads + Wait),
+/// A cluster in which the rows held, and then the second node was asked by a line, and that is closed.
+pub fn closed_after(
+    rt: &(impl Threads + Wait + Abort),
     alloc: Global,
     setting: Setting<'_>,
-    lost: &[usize],
+    rows: &[Row<'_>],
     line: &str,
 ) -> Option<Judged> {
     match start(rt, alloc, setting, Open) {
         Ok(begun) => {
             let mut started = begun;
-            for node in lost {
-                drop(started.lose(rt, *node));
-            }
-            started.asks(rt, alloc, 1, line, "ok");
+            play(rt, alloc, &mut started, rows);
+            holds(rt, started.asks(rt, alloc, 1, line, "ok"), line);
             closed(rt, started)
         }
         Err(_) => None,
@@ -108,12 +81,12 @@ fn closed_cluster(
 
 // How a cluster ended, and how it is judged without its last step.
 fn step_less(
-    rt: &(impl Threads + Wait),
+    rt: &(impl Threads + Wait + Abort),
     alloc: Global,
     setting: Setting<'_>,
-    lost: &[usize],
+    rows: &[Row<'_>],
 ) -> Option<(End, End)> {
-    let mut cluster = closed_cluster(rt, alloc, setting, lost, "create b g")?;
+    let mut cluster = closed_after(rt, alloc, setting, rows, "create b g")?;
     let before = cluster.end(alloc);
     let is_less = cluster.forget_step();
     let after = cluster.end(alloc);
@@ -124,82 +97,67 @@ fn step_less(
 // The last step is one behind each loss, since as many losses are left.
 #[test]
 fn a_step_less(rt: HostRuntime) {
-    const NONE: &[usize] = &[];
-    const LAST: &[usize] = &[2];
-    for (setting, lost) in [(TWO, NONE), (THREE, LAST)] {
-        match step_less(&rt, rt.alloc(), setting, lost) {
-            Some((before, after)) => {
-                holds(&rt, before.replays, "it replays");
-                holds(&rt, !after.replays, "a step less does not");
-                holds(&rt, after.losses == lost.len(), "no loss is left out");
-            }
-            None => holds(&rt, false, "it is closed"),
-        }
+    const NONE: &[Row] = &[];
+    const LAST: &[Row] = &[Lose(2)];
+    for (setting, rows) in [(TWO, NONE), (THREE, LAST)] {
+        let Some((before, after)) = step_less(&rt, rt.alloc(), setting, rows) else {
+            return holds(&rt, false, "it is closed");
+        };
+        holds(&rt, before.replays, "it replays");
+        holds(&rt, !after.replays, "a step less does not");
+        holds(&rt, after.losses == rows.len(), "no loss is left out");
+    }
+}
+
+// How a cluster ended, and how it is judged with the second node of another, which was asked for another group.
+fn mixed(
+    rt: &(impl Threads + Wait + Abort),
+    alloc: Global,
+    setting: Setting<'_>,
+    rows: &[Row<'_>],
+) -> Option<(End, End)> {
+    let mut cluster = closed_after(rt, alloc, setting, rows, "create b g")?;
+    let Some(beside) = closed_after(rt, alloc, setting, rows, "create b x") else {
+        drop(cluster);
+        return None;
+    };
+    let mut other = beside;
+    let before = cluster.end(alloc);
+    let is_other = cluster.swap_node(&mut other, 1);
+    let after = cluster.end(alloc);
+    drop(cluster);
+    drop(other);
+    if is_other {
+        Some((before, after))
+    } else {
+        None
     }
 }
 
 #[test]
 fn a_node_of_another_cluster(rt: HostRuntime) {
-    let Some(told) = closed_cluster(&rt, rt.alloc(), TWO, &[], "create b g") else {
-        return holds(&rt, false, "it is closed");
+    let Some((before, after)) = mixed(&rt, rt.alloc(), TWO, &[]) else {
+        return holds(&rt, false, "both are closed");
     };
-    let mut cluster = told;
-    let Some(beside) = closed_cluster(&rt, rt.alloc(), TWO, &[], "create b h") else {
-        drop(cluster);
-        return holds(&rt, false, "the other is closed");
-    };
-    let mut other = beside;
-    let before = cluster.end(rt.alloc());
-    let is_other = cluster.take_node(&mut other);
-    let after = cluster.end(rt.alloc());
-    drop(cluster);
-    drop(other);
     holds(&rt, before.is_well(), "the nodes agree");
-    holds(
-        &rt,
-        is_other && !after.agrees,
-        "those of two clusters do not",
-    );
+    holds(&rt, !after.agrees, "those of two clusters do not");
     holds(&rt, !after.replays, "nor are they where the schedule leads");
 }
 
-/// Three nodes that all speak before the last is lost, and the two that are left after it.
-pub fn closed_survivors(rt: &(impl Threads + Wait), alloc: Global, line: &str) -> Option<Judged> {
-    match start(rt, alloc, THREE, Open) {
-        Ok(begun) => {
-            let mut started = begun;
-            started.asks(rt, alloc, 2, "create c h", "ok");
-            drop(started.lose(rt, 2));
-            started.asks(rt, alloc, 0, "create a k", "ok");
-            started.asks(rt, alloc, 1, line, "ok");
-            closed(rt, started)
-        }
-        Err(_) => None,
-    }
-}
+/// All three nodes speak before the last is lost, and the first after it.
+pub const SURVIVING: &[Row] = &[
+    Asks(2, "create c h", "ok"),
+    Lose(2),
+    Asks(0, "create a k", "ok"),
+];
 
 #[test]
 fn a_survivor_of_another_cluster(rt: HostRuntime) {
-    let Some(told) = closed_survivors(&rt, rt.alloc(), "create b g") else {
-        return holds(&rt, false, "it is closed");
+    let Some((before, after)) = mixed(&rt, rt.alloc(), THREE, SURVIVING) else {
+        return holds(&rt, false, "both are closed");
     };
-    let mut cluster = told;
-    let Some(beside) = closed_survivors(&rt, rt.alloc(), "create b x") else {
-        drop(cluster);
-        return holds(&rt, false, "the other is closed");
-    };
-    let mut other = beside;
-    let before = cluster.end(rt.alloc());
-    let is_other = cluster.swap_node(&mut other, 1);
-    let after = cluster.end(rt.alloc());
-    drop(cluster);
-    drop(other);
-    holds(&rt, before.survivors_agree, "the survivors agree");
-    holds(&rt, before.are_same, "they have the same");
-    holds(
-        &rt,
-        is_other && !after.survivors_agree,
-        "those of two clusters do not",
-    );
+    let are_so = before.survivors_agree && before.are_same;
+    holds(&rt, are_so, "the survivors agree, and have the same");
+    holds(&rt, !after.survivors_agree, "those of two clusters do not");
     holds(&rt, !after.are_same, "nor have they the same");
 }

@@ -2,27 +2,18 @@
 //! is finished again. Each test passes whichever is refused of what it is about.
 
 use crate::rows::{Part, Row, check_again};
-use crate::setting::Setting;
+use crate::setting::{ONE, Setting, TWO};
 use pg_cluster::StartFault;
 use pg_world::WorldFault;
 
-const ONE: Setting = Setting {
-    names: &["a"],
-    ports: 1,
-    ring: 64,
-    seed: 0,
-    limit: 1_000_000_000,
-};
+const SMALL: Setting = Setting { ring: 64, ..ONE };
 
-const TWO: Setting = Setting {
-    names: &["a", "b"],
-    ..ONE
-};
+const PAIR: Setting = Setting { ring: 64, ..TWO };
 
 const CREATE: &[Part] = &[(1, &[Row::Asks(0, "create a g", "ok")])];
 
 mod growths {
-    use super::{CREATE, ONE, StartFault, TWO, WorldFault, check_again};
+    use super::{CREATE, PAIR, SMALL, StartFault, WorldFault, check_again};
 
     // What the start of a thread takes itself is no growth that it tells of.
     const REFUSED: &[StartFault] = &[
@@ -32,27 +23,27 @@ mod growths {
 
     #[test]
     fn one_node_is_whole(rt: HostRuntime) {
-        check_again(&rt, rt.alloc(), ONE, CREATE, REFUSED);
+        check_again(&rt, rt.alloc(), SMALL, CREATE, REFUSED);
     }
 
     #[test]
     fn two_nodes_are_whole(rt: HostRuntime) {
-        check_again(&rt, rt.alloc(), TWO, CREATE, REFUSED);
+        check_again(&rt, rt.alloc(), PAIR, CREATE, REFUSED);
     }
 }
 
 mod threads {
-    use super::{CREATE, ONE, StartFault, TWO, check_again};
+    use super::{CREATE, PAIR, SMALL, StartFault, check_again};
 
     const REFUSED: &[StartFault] = &[StartFault::NoThread];
 
     #[test]
     fn one_node_is_whole(rt: HostRuntime) {
-        check_again(&rt, rt.alloc(), ONE, CREATE, REFUSED);
+        check_again(&rt, rt.alloc(), SMALL, CREATE, REFUSED);
     }
 
     #[test]
     fn two_nodes_are_whole(rt: HostRuntime) {
-        check_again(&rt, rt.alloc(), TWO, CREATE, REFUSED);
+        check_again(&rt, rt.alloc(), PAIR, CREATE, REFUSED);
     }
 }

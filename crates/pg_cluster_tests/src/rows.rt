@@ -40,10 +40,7 @@ fn start_again<R: Threads>(
 }
 
 fn is_refused(lost: Result<(), NodeFault>, wanted: Refusal) -> bool {
-    match lost {
-        Err(NodeFault::Refused(refusal)) => refusal == wanted,
-        _ => false,
-    }
+    matches!(lost, Err(NodeFault::Refused(refusal)) if refusal == wanted)
 }
 
 fn holds_in(
@@ -60,8 +57,8 @@ fn holds_in(
     }
 }
 
-// Each row holds, one after another.
-fn play(
+/// Each row holds, one after another.
+pub fn play(
     rt: &(impl Threads + Wait + Abort),
     alloc: Global,
     started: &mut Started,

@@ -30,6 +30,24 @@ pub struct Setting<'a> {
     pub limit: u64,
 }
 
+pub const ONE: Setting = Setting {
+    names: &["a"],
+    ports: 1,
+    ring: 65536,
+    seed: 0,
+    limit: 1_000_000_000,
+};
+
+pub const TWO: Setting = Setting {
+    names: &["a", "b"],
+    ..ONE
+};
+
+pub const THREE: Setting = Setting {
+    names: &["a", "b", "c"],
+    ..ONE
+};
+
 // Whether a node of this name that has no group comes behind the others.
 fn is_put(alloc: Global, starts: &mut Vec<Start>, name: &str, ports: u16) -> bool {
     match Atom::new(alloc, name) {
@@ -105,6 +123,17 @@ pub fn is_reply(alloc: Global, answer: &Answer, begin: &str) -> bool {
     is_reply
 }
 
+/// Whether a command was submitted, and not handed back.
+pub fn is_taken(submitted: Result<(), Command>) -> bool {
+    match submitted {
+        Ok(()) => true,
+        Err(command) => {
+            drop(command);
+            false
+        }
+    }
+}
+
 /// A cluster that runs. A client that is not there hands back, and gives nothing.
 #[derive(Drop)]
 pub struct Started {
@@ -123,13 +152,7 @@ impl Started {
     /// Whether the client at a place takes the command of a line.
     pub fn takes(&mut self, alloc: Global, place: usize, line: &str) -> bool {
         match command_of(alloc, line) {
-            Some(command) => match self.submit(place, command) {
-                Ok(()) => true,
-                Err(command) => {
-                    drop(command);
-                    false
-                }
-            },
+            Some(command) => is_taken(self.submit(place, command)),
             None => false,
         }
     }
@@ -156,17 +179,12 @@ impl Started {
         line: &str,
         begin: &str,
     ) -> bool {
-        if !self.takes(alloc, place, line) {
-            return false;
-        }
-        match self.answer(rt, place) {
-            Some(answer) => {
-                let is_reply = is_reply(alloc, &answer, begin);
-                drop(answer);
-                is_reply
-            }
-            None => false,
-        }
+        self.takes(alloc, place, line)
+            && with!(
+                self.answer(rt, place),
+                Some answer => is_reply(alloc, &answer, begin),
+                else false
+            )
     }
 
     /// The node at a place is lost.
@@ -230,32 +248,13 @@ fn loss_count(schedule: &[FrameStep]) -> usize {
 }
 
 // The answer to a question, which is asked a second time where memory was refused.
-fn agrees(alloc: Global, closed: &Closed) -> bool {
-    match closed.agrees(alloc) {
-        Ok(agrees) => agrees,
-        Err(AllocError) => closed.agrees(alloc).unwrap_or(false),
-    }
-}
-
-fn survivors_agree(alloc: Global, closed: &Closed) -> bool {
-    match closed.survivors_agree(alloc) {
-        Ok(agree) => agree,
-        Err(AllocError) => closed.survivors_agree(alloc).unwrap_or(false),
-    }
-}
-
-fn are_same(alloc: Global, closed: &Closed) -> bool {
-    match closed.same_after_loss(alloc) {
-        Ok(same) => same,
-        Err(AllocError) => closed.same_after_loss(alloc).unwrap_or(false),
-    }
-}
-
-fn replays(alloc: Global, closed: &Closed, config: &Config) -> bool {
-    match closed.replays(alloc, config) {
-        Ok(replays) => replays,
-        Err(AllocError) => closed.replays(alloc, config).unwrap_or(false),
-    }
+macro_rules! asked {
+    ($call:expr) => {
+        match $call {
+            Ok(told) => told,
+            Err(AllocError) => $call.unwrap_or(false),
+        }
+    };
 }
 
 /// How a cluster ended that is closed.
@@ -264,10 +263,10 @@ pub fn end_of_closed(alloc: Global, closed: &Closed, config: &Config) -> End {
         nodes: closed.nodes.len(),
         events: closed.schedule.len(),
         losses: loss_count(closed.schedule.as_slice()),
-        agrees: agrees(alloc, closed),
-        survivors_agree: survivors_agree(alloc, closed),
-        replays: replays(alloc, closed, config),
-        are_same: are_same(alloc, closed),
+        agrees: asked!(closed.agrees(alloc)),
+        survivors_agree: asked!(closed.survivors_agree(alloc)),
+        replays: asked!(closed.replays(alloc, config)),
+        are_same: asked!(closed.same_after_loss(alloc)),
     }
 }
 
@@ -288,14 +287,11 @@ fn finished(closed: Result<Closed, Stopped>) -> Option<Closed> {
 /// Closes the cluster: how it ended; none where there is no schedule.
 pub fn end_of<R: Threads>(rt: &R, alloc: Global, started: Started) -> Option<End> {
     let (closed, config) = started.close(rt);
-    let end = match finished(closed) {
-        Some(closed) => {
-            let end = end_of_closed(alloc, &closed, &config);
-            drop(closed);
-            Some(end)
-        }
-        None => None,
-    };
+    let end = with!(
+        finished(closed),
+        Some closed => Some(end_of_closed(alloc, &closed, &config)),
+        else None
+    );
     drop(config);
     end
 }

@@ -1,6 +1,6 @@
 //! A node that one thread runs over rings in memory: none of its turns is short.
 
-use crate::setting::{Open, Setting, command_of, config, is_reply};
+use crate::setting::{ONE, Open, Setting, command_of, config, is_reply, is_taken};
 use crate::verdicts::holds;
 use pg_index::IndexTable;
 use pg_node::Node;
@@ -16,14 +16,6 @@ type Run = NodeRun<IndexTable, MemRing, MemRing, Pcg32>;
 // How many turns the node makes.
 const TURNS: u64 = 8;
 
-const ALONE: Setting = Setting {
-    names: &["a"],
-    ports: 1,
-    ring: 64,
-    seed: 0,
-    limit: TURNS,
-};
-
 fn last_node(alloc: Global, config: &Config) -> Option<Node<IndexTable>> {
     match starting_nodes(alloc, config) {
         Ok(nodes) => {
@@ -38,14 +30,8 @@ fn last_node(alloc: Global, config: &Config) -> Option<Node<IndexTable>> {
 
 // A node that has no peer.
 fn node_alone(alloc: Global) -> Option<Node<IndexTable>> {
-    match config(alloc, ALONE) {
-        Some(config) => {
-            let node = last_node(alloc, &config);
-            drop(config);
-            node
-        }
-        None => None,
-    }
+    let setting = Setting { ring: 64, ..ONE };
+    with!(config(alloc, setting), Some config => last_node(alloc, &config), else None)
 }
 
 // Where the stop byte and the notices come, of which none will.
@@ -121,26 +107,13 @@ fn begun(alloc: Global) -> Option<(Run, Client)> {
 // Whether the client asks for a group.
 fn asks_for_group(alloc: Global, client: &mut Client) -> bool {
     match command_of(alloc, "create a g") {
-        Some(command) => match client.submit(command) {
-            Ok(()) => true,
-            Err(command) => {
-                drop(command);
-                false
-            }
-        },
+        Some(command) => is_taken(client.submit(command)),
         None => false,
     }
 }
 
 fn is_ok(alloc: Global, answer: Option<Answer>) -> bool {
-    match answer {
-        Some(answer) => {
-            let is_ok = is_reply(alloc, &answer, "ok");
-            drop(answer);
-            is_ok
-        }
-        None => false,
-    }
+    with!(answer, Some answer => is_reply(alloc, &answer, "ok"), else false)
 }
 
 // Whether the command is answered, and each turn is whole.

@@ -1,14 +1,13 @@
 //! How many worlds and ends there are.
 
-use pg_explore::{ExploreFault, Explored, Led, Limits, Met, Visitor, explore};
+use pg_explore::{Led, Limits, Met, Visitor, explore};
 use pg_script::LineFault;
 use pg_survey::read_scenario;
 use std::alloc::{AllocError, Global};
-use std::process::Abort;
 use std::test::*;
 
 // Counts what it is lent.
-#[derive(Clone, Copy, PartialEq, Eq, Debug)]
+#[derive(Clone, Copy)]
 struct Counts {
     worlds: usize,
     ends: usize,
@@ -29,122 +28,55 @@ impl Visitor for Counts {
     }
 }
 
-// A script, how often commands are tried again, the limit of worlds, and what is counted; whether all are met.
-struct Row {
-    script: &'static str,
-    retries: u32,
-    limit: usize,
-    counts: Counts,
-    is_whole: bool,
-}
-
-const ALONE: Row = Row {
-    script: "node a\n",
-    retries: 1,
-    limit: 1_000_000,
-    counts: Counts {
-        worlds: 1,
-        ends: 1,
-        ways: 0,
-    },
-    is_whole: true,
-};
-
-const ROWS: &[Row] = &[
-    ALONE,
+// Scripts, and how many worlds, ends and ways they have.
+const ROWS: &[(&str, [usize; 3])] = &[
+    ("node a\n", [1, 1, 0]),
     // Two creators of one group.
-    Row {
-        script: "node a\nnode b\ncreate a g\ncreate b g\n",
-        counts: Counts {
-            worlds: 143,
-            ends: 9,
-            ways: 214,
-        },
-        ..ALONE
-    },
+    ("node a\nnode b\ncreate a g\ncreate b g\n", [143, 9, 214]),
     // One creator of three nodes.
-    Row {
-        script: "node a\nnode b\nnode c\ncreate a g\n",
-        counts: Counts {
-            worlds: 328,
-            ends: 3,
-            ways: 938,
-        },
-        ..ALONE
-    },
-    // A join that an end can come before.
-    Row {
-        script: "node a made 1\nnode b\ncreate a g\nend a <a.1.0>\njoin b g <a.1.0>\n",
-        counts: Counts {
-            worlds: 170,
-            ends: 12,
-            ways: 265,
-        },
-        ..ALONE
-    },
-    // The limit is reached.
-    Row {
-        script: "node a\nnode b\ncreate a g\n",
-        limit: 5,
-        counts: Counts {
-            worlds: 1,
-            ends: 0,
-            ways: 3,
-        },
-        is_whole: false,
-        ..ALONE
-    },
+    ("node a\nnode b\nnode c\ncreate a g\n", [328, 3, 938]),
+    (JOIN_AND_END, [170, 12, 265]),
 ];
 
-// What is counted of a script.
-fn counted(alloc: Global, row: &Row, counts: &mut Counts) -> Option<Result<bool, ExploreFault>> {
-    let limits = Limits {
-        worlds: row.limit,
-        retries: row.retries,
-    };
-    match read_scenario(alloc, row.script) {
-        Ok(scenario) => {
-            let explored = explore(
-                alloc,
-                &scenario.config,
-                scenario.plans.as_slice(),
-                limits,
-                counts,
-            );
-            drop(scenario);
-            Some(is_whole(explored))
-        }
-        Err(_) => None,
-    }
+// A join that an end can come before.
+const JOIN_AND_END: &str = "node a made 1\nnode b\ncreate a g\nend a <a.1.0>\njoin b g <a.1.0>\n";
+
+// What is counted of a script, at a limit of worlds; whether all are met.
+fn counted(alloc: Global, script: &str, worlds: usize, counts: &mut Counts) -> Option<bool> {
+    let limits = Limits { worlds, retries: 1 };
+    let scenario = read_scenario(alloc, script).ok()?;
+    let plans = scenario.plans.as_slice();
+    let explored = explore(alloc, &scenario.config, plans, limits, counts);
+    drop(scenario);
+    let explored = explored.ok()?;
+    let is_whole = explored.is_whole();
+    drop(explored);
+    Some(is_whole)
 }
 
-fn is_whole(explored: Result<Explored, ExploreFault>) -> Result<bool, ExploreFault> {
-    match explored {
-        Ok(explored) => {
-            let is_whole = explored.is_whole();
-            drop(explored);
-            Ok(is_whole)
-        }
-        Err(fault) => Err(fault),
-    }
-}
-
-fn check(rt: &impl Abort, alloc: Global, place: usize, row: &Row) {
+fn has_counts(alloc: Global, script: &str, limit: usize, wanted: [usize; 3], whole: bool) -> bool {
     let mut counts = Counts {
         worlds: 0,
         ends: 0,
         ways: 0,
     };
-    let is_whole = counted(alloc, row, &mut counts) == Some(Ok(row.is_whole));
-    assert!(rt; is_whole, "row {place}");
-    assert!(rt; counts == row.counts, "row {place}");
+    counted(alloc, script, limit, &mut counts) == Some(whole)
+        && [counts.worlds, counts.ends, counts.ways] == wanted
 }
 
 #[test]
 fn all_counts(rt: HostRuntime) {
-    for (place, row) in ROWS.iter().enumerate() {
-        check(&rt, rt.alloc(), place, row);
+    for (script, counts) in ROWS {
+        assert!(&rt;
+            has_counts(rt.alloc(), script, 1_000_000, *counts, true),
+            "{script}"
+        );
     }
+    let script = "node a\nnode b\ncreate a g\n";
+    assert!(&rt;
+        has_counts(rt.alloc(), script, 5, [1, 0, 3], false),
+        "the limit is reached"
+    );
 }
 
 // Lines that are refused, by their number and their fault.

@@ -27,21 +27,6 @@ const ROWS: &[(&str, usize)] = &[
 ];
 
 // Makes the steps of a script; whether all happened, or moved bytes.
-fn play(alloc: Global, script: &Script) -> Option<World<IndexTable>> {
-    match World::new(alloc, &script.config) {
-        Ok(begun) => {
-            let mut world = begun;
-            if make_all(&mut world, script) {
-                Some(world)
-            } else {
-                drop(world);
-                None
-            }
-        }
-        Err(_) => None,
-    }
-}
-
 fn make_all(world: &mut World<IndexTable>, script: &Script) -> bool {
     for line in script.lines.as_slice() {
         match &line.act {
@@ -71,22 +56,33 @@ fn are_alike(world: &World<IndexTable>, moment: &Moment) -> Result<bool, AllocEr
     Ok(true)
 }
 
+fn play(alloc: Global, script: &Script) -> Option<World<IndexTable>> {
+    let mut world = World::new(alloc, &script.config).ok()?;
+    if make_all(&mut world, script) {
+        Some(world)
+    } else {
+        drop(world);
+        None
+    }
+}
+
+// The world that a script leads to.
+fn played(alloc: Global, text: &str) -> Option<World<IndexTable>> {
+    let script = read_script(alloc, text).ok()?;
+    let played = play(alloc, &script);
+    drop(script);
+    played
+}
+
 // Whether a script leads to the nodes of a moment.
 fn leads(alloc: Global, text: &str, moment: &Moment) -> Result<bool, AllocError> {
-    match read_script(alloc, text) {
-        Ok(script) => {
-            let played = play(alloc, &script);
-            drop(script);
-            match played {
-                Some(world) => {
-                    let alike = are_alike(&world, moment);
-                    drop(world);
-                    alike
-                }
-                None => Ok(false),
-            }
+    match played(alloc, text) {
+        Some(world) => {
+            let alike = are_alike(&world, moment);
+            drop(world);
+            alike
         }
-        Err(_) => Ok(false),
+        None => Ok(false),
     }
 }
 
@@ -108,19 +104,12 @@ fn differing_plays(alloc: Global, findings: &Findings<'_, '_>) -> Result<bool, A
     let Some(text) = findings.script_of_differing()? else {
         return Ok(false);
     };
-    match read_script(alloc, text.as_str()) {
-        Ok(script) => {
-            let played = play(alloc, &script);
-            drop(script);
-            match played {
-                Some(world) => {
-                    drop(world);
-                    Ok(true)
-                }
-                None => Ok(false),
-            }
+    match played(alloc, text.as_str()) {
+        Some(world) => {
+            drop(world);
+            Ok(true)
         }
-        Err(_) => Ok(false),
+        None => Ok(false),
     }
 }
 

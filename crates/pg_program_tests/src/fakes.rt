@@ -3,7 +3,7 @@
 use pg_cluster::StartFault;
 use pg_node::Sink;
 use pg_program::System;
-use pg_talk::{Conversation, Outcome, Served, Service, ServiceFault};
+use pg_talk::{Conversation, Outcome, Served, Service, ServiceFault, Verdict};
 use std::alloc::Global;
 use std::io;
 use std::io::{ErrorKind, Read, Write};
@@ -11,10 +11,21 @@ use std::io::{ErrorKind, Read, Write};
 /// Gives so many signs `%`, and then its text, in pieces of so many bytes at most; a read behind that fails by the fault, if there is one.
 #[derive(Drop)]
 pub(crate) struct Input<'a> {
-    pub(crate) signs: usize,
+    signs: usize,
     pub(crate) text: &'a [u8],
-    pub(crate) piece: usize,
-    pub(crate) fault: Option<ErrorKind>,
+    piece: usize,
+    fault: Option<ErrorKind>,
+}
+
+impl<'a> Input<'a> {
+    pub(crate) fn new(text: &'a [u8]) -> Input<'a> {
+        Input {
+            signs: 0,
+            text,
+            piece: usize::MAX,
+            fault: None,
+        }
+    }
 }
 
 impl<'a> Read for Input<'a> {
@@ -36,35 +47,34 @@ impl<'a> Read for Input<'a> {
     }
 }
 
-/// How much an output takes, and what it is.
-#[derive(Clone, Copy)]
-pub(crate) struct Limits {
-    /// How many bytes it takes in a write.
-    pub(crate) piece: usize,
-    /// How many it holds at most.
-    pub(crate) room: usize,
-    /// A flush fails.
-    pub(crate) is_stuck: bool,
-}
-
-/// Takes all.
-pub(crate) const ANY: Limits = Limits {
-    piece: usize::MAX,
-    room: usize::MAX,
-    is_stuck: false,
-};
-
-/// Holds what is written, within limits.
+/// Holds what is written.
 #[derive(Drop)]
 pub(crate) struct Output {
     pub(crate) text: Vec<u8>,
-    pub(crate) limits: Limits,
+    /// How many bytes it takes in a write.
+    piece: usize,
+    /// How many it holds at most.
+    pub(crate) room: usize,
+    /// A flush fails.
+    is_stuck: bool,
+}
+
+impl Output {
+    /// Takes all.
+    pub(crate) fn new(alloc: Global) -> Output {
+        Output {
+            text: Vec::new(alloc),
+            piece: usize::MAX,
+            room: usize::MAX,
+            is_stuck: false,
+        }
+    }
 }
 
 impl Write for Output {
     fn write(&mut self, buf: &[u8]) -> io::Result<usize> {
-        let room = self.limits.room.saturating_sub(self.text.len());
-        let count = buf.len().min(self.limits.piece).min(room);
+        let room = self.room.saturating_sub(self.text.len());
+        let count = buf.len().min(self.piece).min(room);
         if count == 0 && !buf.is_empty() {
             return Err(io::Error::from(ErrorKind::BrokenPipe));
         }
@@ -75,7 +85,7 @@ impl Write for Output {
     }
 
     fn flush(&mut self) -> io::Result<()> {
-        if self.limits.is_stuck {
+        if self.is_stuck {
             return Err(io::Error::from(ErrorKind::BrokenPipe));
         }
         Ok(())
@@ -86,13 +96,57 @@ impl Write for Output {
 /// did, and of a service that went so.
 #[derive(Drop)]
 pub(crate) struct Desk {
-    pub(crate) name: Vec<u8>,
-    pub(crate) bytes: Vec<u8>,
-    pub(crate) is_full: bool,
-    pub(crate) alloc: Global,
-    pub(crate) outcome: Option<Outcome>,
-    pub(crate) served: Result<Served, ServiceFault>,
-    pub(crate) microseconds: u64,
+    name: Vec<u8>,
+    bytes: Vec<u8>,
+    /// The name of a picture that there should be then.
+    picture: &'static str,
+    is_full: bool,
+    alloc: Global,
+    outcome: Option<Outcome>,
+    served: Result<Served, ServiceFault>,
+    microseconds: u64,
+}
+
+/// A service that went well.
+pub(crate) const WELL: Served = Served {
+    verdict: Verdict {
+        agree: true,
+        replay: true,
+    },
+    fault: None,
+};
+
+// Texts in the picture.
+const SHOWN: &[&str] = &[
+    ">&#39;a&lt;b&#39;</text>",
+    ">1: create g</text>",
+    ">1: ok</text>",
+    ">lost</text>",
+];
+
+impl Desk {
+    pub(crate) fn new(alloc: Global) -> Desk {
+        Desk {
+            name: Vec::new(alloc),
+            bytes: Vec::new(alloc),
+            picture: "",
+            is_full: false,
+            alloc,
+            outcome: None,
+            served: Ok(WELL),
+            microseconds: 0,
+        }
+    }
+
+    /// Whether there is a file if there should be one, and it shows what it should.
+    pub(crate) fn is_drawn(&self) -> bool {
+        let is_shown = match str::from_utf8(self.bytes.as_slice()) {
+            Ok(drawn) => self.picture.is_empty()
+                || SHOWN.iter().all(|shown| drawn.contains(*shown)),
+            Err(_) => false,
+        };
+        is_shown && self.name.as_slice() == self.picture.as_bytes()
+    }
 }
 
 impl System for Desk {
@@ -138,5 +192,47 @@ impl System for Desk {
     fn microseconds(&mut self) -> u64 {
         self.microseconds = self.microseconds.saturating_add(41);
         self.microseconds
+    }
+}
+
+/// What else is so in a run.
+#[derive(Clone, Copy)]
+pub(crate) enum With {
+    /// So many signs come in before the text.
+    Signs(usize),
+    /// A read gives so many bytes at most.
+    Pieces(usize),
+    /// A read behind the text fails.
+    Fails(ErrorKind),
+    /// A write takes five bytes at most, and all of them so many.
+    Room(usize),
+    /// A flush fails.
+    Stuck,
+    /// No file can be made.
+    Full,
+    /// A file of this name is made, which has a picture.
+    Draws(&'static str),
+    /// A conversation goes so.
+    Talks(Outcome),
+    /// A service goes so.
+    Serves(Result<Served, ServiceFault>),
+}
+
+impl With {
+    pub(crate) fn set(self, input: &mut Input<'_>, output: &mut Output, desk: &mut Desk) {
+        match self {
+            With::Signs(count) => input.signs = count,
+            With::Pieces(piece) => input.piece = piece,
+            With::Fails(fault) => input.fault = Some(fault),
+            With::Room(room) => {
+                output.piece = 5;
+                output.room = room;
+            }
+            With::Stuck => output.is_stuck = true,
+            With::Full => desk.is_full = true,
+            With::Draws(name) => desk.picture = name,
+            With::Talks(outcome) => desk.outcome = Some(outcome),
+            With::Serves(served) => desk.served = served,
+        }
     }
 }

@@ -6,7 +6,7 @@ mod steps;
 
 use crate::commands::scripts::{ASKED, Both, DENIED, GATHERED, LOST, READY, Row, SAME, TAKEN_BACK};
 use crate::commands::sights::see;
-use crate::commands::steps::{go, opens_of_a};
+use crate::commands::steps::{go_all, opens_of_a};
 use crate::samples::row_holds;
 use std::alloc::Global;
 use std::process::Abort;
@@ -21,8 +21,8 @@ fn turns_of_commands(rt: HostRuntime) {
 
 fn run(rt: &impl Abort, alloc: Global, rows: &[Row]) {
     let mut opens = opens_of_a(rt, alloc);
-    for ((step, sights), row) in rows.iter().zip(0..rows.len()) {
-        go(rt, alloc, &mut opens, *step);
+    for (row, (steps, sights)) in rows.iter().enumerate() {
+        go_all(rt, alloc, &mut opens, steps);
         for sight in *sights {
             row_holds(rt, see(rt, alloc, &opens, *sight), row);
         }
@@ -40,9 +40,9 @@ fn run_both(rt: &impl Abort, alloc: Global, rows: &[Both]) {
     let mut one = opens_of_a(rt, alloc);
     let mut other = opens_of_a(rt, alloc);
     row_holds(rt, (one.same(&other), other.same(&one)) == (true, true), 0);
-    for ((is_first, step, sights, same), row) in rows.iter().zip(0..rows.len()) {
+    for (row, (is_first, steps, sights, same)) in rows.iter().enumerate() {
         let opens = if *is_first { &mut one } else { &mut other };
-        go(rt, alloc, opens, *step);
+        go_all(rt, alloc, opens, steps);
         for sight in *sights {
             row_holds(rt, see(rt, alloc, opens, *sight), row);
         }

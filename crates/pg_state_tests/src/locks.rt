@@ -66,13 +66,13 @@ fn check_rows(
     other: &mut LockTable,
 ) {
     check!(rt; (one.same(other), other.same(one)) == (true, true));
-    for (row, at) in rows.iter().zip(0..6) {
-        let holders = if row.0 {
+    for (at, row) in rows.iter().enumerate() {
+        let is_so = if row.0 {
             check_row(rt, row, references, one)
         } else {
             check_row(rt, row, references, other)
         };
-        row_holds(rt, holders, at);
+        row_holds(rt, is_so, at);
         row_holds(rt, (one.same(other), other.same(one)) == (row.5, row.5), at);
     }
 }
@@ -89,15 +89,8 @@ fn check_row(rt: &impl Abort, row: &Row, references: &[Reference], locks: &mut L
         }
     };
     is_answered
-        & is_held(locks, 1, holder(references, holders.0))
-        & is_held(locks, 2, holder(references, holders.1))
-}
-
-fn holder(references: &[Reference], place: Option<usize>) -> Option<&Reference> {
-    match place {
-        Some(place) => references.get(place),
-        None => None,
-    }
+        & is_held(locks, 1, holders.0.and_then(|place| references.get(place)))
+        & is_held(locks, 2, holders.1.and_then(|place| references.get(place)))
 }
 
 /// Whether a node grants the lock of the name of this number.

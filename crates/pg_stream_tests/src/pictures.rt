@@ -1,27 +1,18 @@
 //! What no clause says of pictures: that they are XML, and what they show.
 
 use crate::rows::{holds, row_holds};
-use pg_diagram::{Diagram, Event, Topic, svg_of, write_svg};
+use pg_diagram::Topic::{self, *};
+use pg_diagram::{Diagram, Event, svg_of, write_svg};
 use std::alloc::{AllocError, Global};
 use std::io;
 use std::io::Write;
 use std::test::*;
 
-const NODES: &[&str] = &[
-    "a",
-    "'<&\">'",
-    "a name that is too long to be shown whole",
-    "'\u{1}\u{ffff}'",
-];
+const NODES: &[&str] = &["a", "'<&\">'", LONG, "'\u{1}\u{ffff}'"];
 
-const TOPICS: [Topic; 6] = [
-    Topic::Lock,
-    Topic::Update,
-    Topic::Reply,
-    Topic::Free,
-    Topic::End,
-    Topic::Exchange,
-];
+const LONG: &str = "a name that is too long to be shown whole";
+
+const TOPICS: [Topic; 6] = [Lock, Update, Reply, Free, End, Exchange];
 
 fn label(alloc: Global, number: usize) -> Result<String, AllocError> {
     format!(in alloc; "{{call,#<'a&\"b'/1.{number}.0.0>,{{join,'it\\'s',<b.{number}.0>}}}}")
@@ -128,16 +119,9 @@ fn is_well_formed(alloc: Global, svg: &str) -> Result<bool, AllocError> {
 
 // Each `&` begins the name of a character.
 fn has_names_alone(svg: &str) -> bool {
-    for part in svg.split('&').skip(1) {
-        let mut is_name = false;
-        for name in &["amp;", "lt;", "gt;", "quot;", "#39;"] {
-            is_name = is_name || part.starts_with(name);
-        }
-        if !is_name {
-            return false;
-        }
-    }
-    true
+    let names = ["amp;", "lt;", "gt;", "quot;", "#39;"];
+    let mut parts = svg.split('&').skip(1);
+    parts.all(|part| names.iter().any(|name| part.starts_with(*name)))
 }
 
 /// The nodes and packets of a picture, how many arrows it has and one more, what stands in it, and what does not.
@@ -173,14 +157,11 @@ const TEXTS: &[&str] = &[
 // Whether a text is XML, and shows what it should.
 fn is_picture(alloc: Global, svg: &str, row: Shown) -> Result<bool, AllocError> {
     let Shown(_, _, parts, shown, hidden) = row;
-    let mut told = has_names_alone(svg) && svg.split("marker-end").count() == parts;
-    for text in shown {
-        told = told && svg.contains(text);
-    }
-    for text in hidden {
-        told = told && !svg.contains(text);
-    }
-    Ok(told && is_well_formed(alloc, svg)?)
+    let is_shown = has_names_alone(svg)
+        && svg.split("marker-end").count() == parts
+        && shown.iter().all(|text| svg.contains(*text))
+        && !hidden.iter().any(|text| svg.contains(*text));
+    Ok(is_shown && is_well_formed(alloc, svg)?)
 }
 
 fn is_drawn(alloc: Global, row: Shown) -> Result<bool, AllocError> {

@@ -13,8 +13,6 @@ use std::process::Abort;
 /// reference, a node by its place.
 #[derive(Clone, Copy)]
 pub enum Step {
-    /// Nothing.
-    Stays,
     /// A command is opened, which creates a group.
     Opens(u32),
     /// An attempt begins, which asks a node first.
@@ -41,10 +39,15 @@ pub const fn op(number: u32) -> OpId {
     OpId { port: 0, number }
 }
 
-/// Makes a step.
-pub fn go(rt: &impl Abort, alloc: Global, opens: &mut Opens, step: Step) {
+/// Makes steps, one after another.
+pub fn go_all(rt: &impl Abort, alloc: Global, opens: &mut Opens, steps: &[Step]) {
+    for step in steps {
+        go(rt, alloc, opens, *step);
+    }
+}
+
+fn go(rt: &impl Abort, alloc: Global, opens: &mut Opens, step: Step) {
     match step {
-        Step::Stays => (),
         Step::Opens(number) => open(rt, alloc, opens, op(number)),
         Step::Starts(number, first) => start(rt, opens, op(number), first),
         Step::Asks(number, asked, granted) => ask(rt, opens, number, asked, granted),
@@ -145,11 +148,9 @@ pub fn opens_of_a(rt: &impl Abort, alloc: Global) -> Opens {
 }
 
 fn opens_of_a_once(rt: &impl Abort, alloc: Global) -> Result<Opens, AllocError> {
-    let (a, b, c) = (
-        atom(rt, alloc, "a"),
-        atom(rt, alloc, "b"),
-        atom(rt, alloc, "c"),
-    );
+    let a = atom(rt, alloc, "a");
+    let b = atom(rt, alloc, "b");
+    let c = atom(rt, alloc, "c");
     assert!(rt; a != b);
     assert!(rt; a != c);
     assert!(rt; b != c);

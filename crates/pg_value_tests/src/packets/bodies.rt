@@ -31,3 +31,6 @@ pub const EXCHANGE: &[u8] = b"\x83h\x02a\0h\x02w\x04casth\x03w\x08exchangew\x01a
 
 /// {3, {down, <a.1.0>}}
 pub const DOWN: &[u8] = b"\x83h\x02a\x03h\x02w\x04downXw\x01a\0\0\0\x01\0\0\0\0\0\0\0\x01";
+
+/// {0, {down, <a.1.0>}}
+pub const DOWN_AT_0: &[u8] = b"\x83h\x02a\0h\x02w\x04downXw\x01a\0\0\0\x01\0\0\0\0\0\0\0\x01";

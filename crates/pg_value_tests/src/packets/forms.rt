@@ -1,7 +1,7 @@
 //! Bodies in other forms than they are written in, and such as are no packets, each with its outer tuple as a
 //! SMALL_TUPLE_EXT and as a LARGE_TUPLE_EXT.
 
-use super::bodies::{APPLIED, CREATE, DOWN, EXCHANGE, JOIN, JOIN_OF_LIST};
+use super::bodies::{APPLIED, CREATE, DOWN, DOWN_AT_0, EXCHANGE, JOIN, JOIN_OF_LIST};
 use crate::rows::Edit::{self, At};
 use crate::rows::{OUT_OF_MEMORY, Row, check, edited, holds};
 use pg_message::MessageFault::{self, *};
@@ -91,39 +91,52 @@ impl Row for Changed {
     }
 }
 
+/// At a place of a body so many bytes are replaced by each of these in turn: each is read as the packet that the body is.
+#[derive(Clone, Copy)]
+pub struct Forms(
+    pub &'static [u8],
+    pub usize,
+    pub usize,
+    pub &'static [&'static [u8]],
+);
+
+impl Row for Forms {
+    fn told(&self, alloc: Global) -> Result<bool, MessageFault> {
+        for form in self.3 {
+            let edit = At(self.1, self.2, *form);
+            match is_read_in_both_forms(alloc, self.0, &[edit], Same) {
+                Ok(true) => (),
+                other => return other,
+            }
+        }
+        Ok(true)
+    }
+}
+
+/// An atom of one character in other forms, less the character: as an ATOM_UTF8_EXT, a SMALL_ATOM_EXT and an ATOM_EXT.
+pub const LETTER: &[&[u8]] = &[b"v\0\x01", b"s\x01", b"d\0\x01"];
+
 #[test]
 fn each_part_in_other_forms(rt: HostRuntime) {
-    const ROWS: &[Changed] = &[
-        Changed(JOIN, &[], Same),
-        Changed(JOIN, &[At(3, 2, b"b\0\0\0\0")], Same),
-        Changed(JOIN, &[At(3, 2, b"n\0\0")], Same),
-        Changed(JOIN, &[At(3, 2, b"n\x02\x01\0\0")], Same),
-        Changed(JOIN, &[At(5, 2, b"i\0\0\0\x03")], Same),
-        Changed(JOIN, &[At(7, 2, b"v\0\x04")], Same),
-        Changed(JOIN, &[At(7, 2, b"s\x04")], Same),
-        Changed(JOIN, &[At(7, 2, b"d\0\x04")], Same),
-        Changed(JOIN, &[At(13, 14, b"ew\x01a\0\0\0\x07\0")], Same),
-        Changed(JOIN, &[At(13, 14, b"r\0\x01w\x01a\0\0\0\0\x07")], Same),
-        Changed(JOIN, &[At(16, 2, b"v\0\x01")], Same),
-        Changed(JOIN, &[At(16, 2, b"s\x01")], Same),
-        Changed(JOIN, &[At(16, 2, b"d\0\x01")], Same),
-        Changed(JOIN, &[At(27, 2, b"i\0\0\0\x03")], Same),
-        Changed(JOIN, &[At(29, 2, b"v\0\x04")], Same),
-        Changed(JOIN, &[At(29, 2, b"s\x04")], Same),
-        Changed(JOIN, &[At(29, 2, b"d\0\x04")], Same),
-        Changed(JOIN, &[At(35, 2, b"v\0\x01")], Same),
-        Changed(JOIN, &[At(35, 2, b"s\x01")], Same),
-        Changed(JOIN, &[At(35, 2, b"d\0\x01")], Same),
-        Changed(JOIN, &[At(38, 16, b"gw\x01a\0\0\0\x01\0\0\0\0\x01")], Same),
-        Changed(JOIN, &[At(39, 2, b"v\0\x01")], Same),
-        Changed(JOIN, &[At(39, 2, b"s\x01")], Same),
-        Changed(JOIN, &[At(39, 2, b"d\0\x01")], Same),
+    const ROWS: &[Forms] = &[
+        Forms(JOIN, 3, 2, ZERO),
+        Forms(JOIN, 5, 2, &[b"i\0\0\0\x03"]),
+        Forms(JOIN, 7, 2, &[b"v\0\x04", b"s\x04", b"d\0\x04"]),
+        Forms(JOIN, 13, 14, REFERENCES),
+        Forms(JOIN, 16, 2, LETTER),
+        Forms(JOIN, 27, 2, &[b"i\0\0\0\x03"]),
+        Forms(JOIN, 29, 2, &[b"v\0\x04", b"s\x04", b"d\0\x04"]),
+        Forms(JOIN, 35, 2, LETTER),
+        Forms(JOIN, 38, 16, OLD_PID),
+        Forms(JOIN, 39, 2, LETTER),
         // The name as a string of bytes, and as a list in two parts.
-        Changed(JOIN_OF_LIST, &[At(35, 10, b"k\0\x02\x01\x02")], Same),
-        Changed(JOIN_OF_LIST, &[At(35, 10, TWO_PARTS)], Same),
-        // The pid in its old form.
-        Changed(DOWN, &[At(13, 16, b"gw\x01a\0\0\0\x01\0\0\0\0\x01")], Same),
+        Forms(JOIN_OF_LIST, 35, 10, &[b"k\0\x02\x01\x02", TWO_PARTS]),
+        Forms(DOWN, 13, 16, OLD_PID),
+        Forms(DOWN_AT_0, 13, 16, OLD_PID),
     ];
+    const ZERO: &[&[u8]] = &[b"a\0", b"b\0\0\0\0", b"n\0\0", b"n\x02\x01\0\0"];
+    const REFERENCES: &[&[u8]] = &[b"ew\x01a\0\0\0\x07\0", b"r\0\x01w\x01a\0\0\0\0\x07"];
+    const OLD_PID: &[&[u8]] = &[b"gw\x01a\0\0\0\x01\0\0\0\0\x01"];
     const TWO_PARTS: &[u8] = b"l\0\0\0\x01a\x01l\0\0\0\x01a\x02j";
     check(&rt, rt.alloc(), ROWS);
 }
@@ -138,13 +151,10 @@ fn stamp_edges(rt: HostRuntime) {
         Changed(DOWN, &[At(3, 2, b"b\xff\xff\xff\xff")], NO_PACKET),
         Changed(DOWN, &[At(3, 2, b"j")], NO_PACKET),
         // What is no message is told before a stamp that is too large: {Stamp, {downs, <a.1.0>}}
-        Changed(DOWN, &[At(3, 2, b"a\0"), At(8, 5, b"\x05downs")], NO_PACKET),
-        Changed(
-            DOWN,
-            &[At(3, 2, TOO_LARGE), At(8, 5, b"\x05downs")],
-            NO_PACKET,
-        ),
+        Changed(DOWN, &[At(3, 2, b"a\0"), DOWNS], NO_PACKET),
+        Changed(DOWN, &[At(3, 2, TOO_LARGE), DOWNS], NO_PACKET),
     ];
+    const DOWNS: Edit = At(8, 5, b"\x05downs");
     const TOO_LARGE: &[u8] = b"b@\0\0\x01";
     check(&rt, rt.alloc(), ROWS);
     let are_right = NotAMessage.number() == 12 && StampTooLarge.number() == 13;

@@ -108,27 +108,14 @@ fn is_read_as_its_term(alloc: Global, body: &[u8]) -> Result<bool, MessageFault>
     }
 }
 
-fn is_read_with(
-    alloc: Global,
-    body: &[u8],
-    at: usize,
-    tag: &'static [u8],
-) -> Result<bool, MessageFault> {
-    let front = body.get(..at).unwrap_or(&[]);
-    let changed = edited(
-        alloc,
-        front,
-        at.saturating_add(1),
-        body,
-        &[Edit::Times(1, tag)],
-    );
-    with!(changed, changed => is_read_as_its_term(alloc, &changed))
+fn is_read_with(alloc: Global, body: &[u8], edit: Edit) -> Result<bool, MessageFault> {
+    with!(edited(alloc, b"", 0, body, &[edit]), changed => is_read_as_its_term(alloc, &changed))
 }
 
 // Whether a body is read as its term is, cut at this place, and with each of the tags there.
 fn is_read_changed(alloc: Global, body: &[u8], at: usize) -> Result<bool, MessageFault> {
     for tag in TAGS {
-        match is_read_with(alloc, body, at, tag) {
+        match is_read_with(alloc, body, Edit::At(at, 1, tag)) {
             Ok(true) => (),
             other => return other,
         }

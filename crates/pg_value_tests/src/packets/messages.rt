@@ -16,66 +16,6 @@ use std::test::*;
 #[derive(Clone, Copy)]
 struct Both(&'static [&'static [u8]], &'static str);
 
-// The beginning of a packet at 0, and a call and replies of #<a/0.7>.
-const NOW: &[u8] = b"\x83h\x02a\0";
-
-const CALL: &[u8] = b"h\x03w\x04callZ\0\x01w\x01a\0\0\0\0\0\0\0\x07";
-
-// A call, a freed lock and a reference of #<b/257.131075.67108869> with creation 2.
-const CALL_OF_THREE: &[u8] =
-    b"h\x03w\x04callZ\0\x03w\x01b\0\0\0\x02\0\0\x01\x01\0\x02\0\x03\x04\0\0\x05";
-
-const FREE: &[u8] = b"h\x02w\x04casth\x03w\x08del_lockw\x01g";
-
-const REFERENCE_OF_THREE: &[u8] = b"Z\0\x03w\x01b\0\0\0\x02\0\0\x01\x01\0\x02\0\x03\x04\0\0\x05";
-
-const GRANTED: &[u8] = b"h\x03w\x05replyZ\0\x01w\x01a\0\0\0\0\0\0\0\x07w\x04true";
-
-const DENIED: &[u8] = b"h\x03w\x05replyZ\0\x01w\x01a\0\0\0\0\0\0\0\x07w\x05false";
-
-const PID: &[u8] = b"Xw\x01a\0\0\0\x01\0\0\0\0\0\0\0\x01";
-
-const PID_2: &[u8] = b"Xw\x01a\0\0\0\x02\0\0\0\0\0\0\0\x01";
-
-const TELL: &[u8] = b"h\x02w\x04casth\x03w\x08exchangew\x01al\0\0\0\x02";
-
-const MESSAGES: &[Both] = &[
-    Both(&[CREATE], "create"),
-    Both(&[NOW, CALL, b"h\x02w\x06deletej"], "delete"),
-    Both(&[NOW, CALL, b"h\x02w\x06deletew\x01g"], "delete"),
-    Both(&[LATEST, CALL, SET_LOCK], "set_lock"),
-    Both(&[NOW, CALL, b"h\x02w\x08set_lockw\x01g"], "set_lock"),
-    Both(&[NOW, CALL_OF_THREE, SET_LOCK], "set_lock"),
-    Both(&[NOW, CALL_OF_THREE, b"h\x02w\x06deletew\x01g"], "delete"),
-    Both(&[JOIN], "join"),
-    Both(&[NOW, CALL, b"h\x03w\x05leavew\x01g", PID], "leave"),
-    Both(&[b"\x83h\x02a\xff", GRANTED], "true"),
-    Both(&[NOW, GRANTED], "true"),
-    Both(&[b"\x83h\x02b\0\0\x01\0", DENIED], "false"),
-    Both(&[NOW, DENIED], "false"),
-    Both(&[APPLIED], "ok"),
-    Both(&[DEL_LOCK], "del_lock"),
-    Both(&[NOW, FREE, REFERENCE_OF_THREE], "del_lock"),
-    // Members in no order, and one that joined twice; no groups; members in order.
-    Both(&[EXCHANGE], "exchange"),
-    Both(&[EMPTY], "exchange"),
-    Both(
-        &[NOW, TELL, NONE_OF_G, TWO_OF_H, PID, PID_2, END],
-        "exchange",
-    ),
-    Both(&[DOWN], "down"),
-];
-
-const SET_LOCK: &[u8] = b"h\x02w\x08set_locka\x05";
-
-const END: &[u8] = b"jjj";
-
-const LATEST: &[u8] = b"\x83h\x02b@\0\0\0";
-
-const NONE_OF_G: &[u8] = b"l\0\0\0\x02w\x01gjj";
-
-const TWO_OF_H: &[u8] = b"l\0\0\0\x02w\x01hl\0\0\0\x02";
-
 fn update_kind(update: &Update) -> &'static str {
     match update {
         Update::Create(_) => "create",
@@ -98,25 +38,22 @@ fn kind_of(packet: &Packet) -> &'static str {
     }
 }
 
-// Appends the packet, again where memory was refused and the buffer is as it was.
-fn put(packet: &Packet, out: &mut BytesMut) -> Result<(), MessageFault> {
-    let told = write_packet_into(packet, out);
-    if told == Err(OUT_OF_MEMORY) && out.as_slice().is_empty() {
-        write_packet_into(packet, out)
+fn write_once(packet: &Packet, is_lent: bool, out: &mut BytesMut) -> Result<(), MessageFault> {
+    if is_lent {
+        write_lent(packet, out)
     } else {
-        told
+        write_packet_into(packet, out)
     }
 }
 
-// The same of its parts, which are lent.
-fn put_lent(packet: &Packet, out: &mut BytesMut) -> Result<(), MessageFault> {
+// Whether the packet is appended, or its parts, which are lent; again where memory was refused and the buffer is as it was.
+fn is_put(packet: &Packet, is_lent: bool, out: &mut BytesMut) -> bool {
     let before = out.len();
-    let told = write_lent(packet, out);
+    let mut told = write_once(packet, is_lent, out);
     if told == Err(OUT_OF_MEMORY) && out.len() == before {
-        write_lent(packet, out)
-    } else {
-        told
+        told = write_once(packet, is_lent, out);
     }
+    told.is_ok()
 }
 
 // Whether these are the bytes behind their length in four bytes.
@@ -130,15 +67,15 @@ fn is_frame(frame: &[u8], bytes: &[u8]) -> bool {
 // Whether the packet is written as the bytes in a frame, and once more behind it of its parts.
 fn is_framed(alloc: Global, packet: &Packet, bytes: &[u8]) -> bool {
     let mut out = BytesMut::new(alloc);
-    let is_put = put(packet, &mut out).is_ok();
+    let is_whole = is_put(packet, false, &mut out);
     let one = out.len();
-    let is_lent = put_lent(packet, &mut out).is_ok();
+    let is_lent = is_put(packet, true, &mut out);
     let is_framed = match out.as_slice().split_at_checked(one) {
         Some((first, second)) => is_frame(first, bytes) && is_frame(second, bytes),
         None => false,
     };
     drop(out);
-    is_put && is_lent && is_framed
+    is_whole && is_lent && is_framed
 }
 
 // Whether the packet is written as the bytes, and in frames.
@@ -184,24 +121,47 @@ impl Row for Both {
 
 #[test]
 fn each_message_both_ways(rt: HostRuntime) {
-    check(&rt, rt.alloc(), MESSAGES);
-}
-
-/// An end in another form than it is written in.
-struct OtherForm(&'static [u8]);
-
-impl Row for OtherForm {
-    fn told(&self, alloc: Global) -> Result<bool, MessageFault> {
-        with!(read_packet(alloc, self.0), packet => Ok(kind_of(&packet) == "down"))
-    }
-}
-
-// {0, {down, <a.1.0>}} with a LARGE_TUPLE_EXT, and with a PID_EXT
-#[test]
-fn another_form_is_read(rt: HostRuntime) {
-    const ROWS: &[OtherForm] = &[
-        OtherForm(b"\x83i\0\0\0\x02a\0h\x02w\x04downXw\x01a\0\0\0\x01\0\0\0\0\0\0\0\x01"),
-        OtherForm(b"\x83h\x02a\0h\x02w\x04downgw\x01a\0\0\0\x01\0\0\0\0\x01"),
+    const ROWS: &[Both] = &[
+        Both(&[CREATE], "create"),
+        Both(&[NOW, CALL, b"h\x02w\x06deletej"], "delete"),
+        Both(&[NOW, CALL, b"h\x02w\x06deletew\x01g"], "delete"),
+        Both(&[LATEST, CALL, SET_LOCK], "set_lock"),
+        Both(&[NOW, CALL, b"h\x02w\x08set_lockw\x01g"], "set_lock"),
+        Both(&[NOW, CALL_OF_THREE, SET_LOCK], "set_lock"),
+        Both(&[NOW, CALL_OF_THREE, b"h\x02w\x06deletew\x01g"], "delete"),
+        Both(&[JOIN], "join"),
+        Both(&[NOW, CALL, b"h\x03w\x05leavew\x01g", PID], "leave"),
+        Both(&[b"\x83h\x02a\xff", GRANTED], "true"),
+        Both(&[NOW, GRANTED], "true"),
+        Both(&[b"\x83h\x02b\0\0\x01\0", DENIED], "false"),
+        Both(&[NOW, DENIED], "false"),
+        Both(&[APPLIED], "ok"),
+        Both(&[DEL_LOCK], "del_lock"),
+        Both(&[NOW, FREE, REFERENCE_OF_THREE], "del_lock"),
+        // Members in no order, and one that joined twice; no groups; members in order.
+        Both(&[EXCHANGE], "exchange"),
+        Both(&[EMPTY], "exchange"),
+        Both(&[NOW, TELL, TWO_OF_H, PID, PID_2, END], "exchange"),
+        Both(&[DOWN], "down"),
     ];
+    // The beginning of a packet at 0, and a call and replies of #<a/0.7>.
+    const NOW: &[u8] = b"\x83h\x02a\0";
+    const CALL: &[u8] = b"h\x03w\x04callZ\0\x01w\x01a\0\0\0\0\0\0\0\x07";
+    // A call, a freed lock and a reference of #<b/257.131075.67108869> with creation 2.
+    const CALL_OF_THREE: &[u8] =
+        b"h\x03w\x04callZ\0\x03w\x01b\0\0\0\x02\0\0\x01\x01\0\x02\0\x03\x04\0\0\x05";
+    const FREE: &[u8] = b"h\x02w\x04casth\x03w\x08del_lockw\x01g";
+    const REFERENCE_OF_THREE: &[u8] =
+        b"Z\0\x03w\x01b\0\0\0\x02\0\0\x01\x01\0\x02\0\x03\x04\0\0\x05";
+    const GRANTED: &[u8] = b"h\x03w\x05replyZ\0\x01w\x01a\0\0\0\0\0\0\0\x07w\x04true";
+    const DENIED: &[u8] = b"h\x03w\x05replyZ\0\x01w\x01a\0\0\0\0\0\0\0\x07w\x05false";
+    const PID: &[u8] = b"Xw\x01a\0\0\0\x01\0\0\0\0\0\0\0\x01";
+    const PID_2: &[u8] = b"Xw\x01a\0\0\0\x02\0\0\0\0\0\0\0\x01";
+    // The beginning of an exchange: g, which has no members, and another group.
+    const TELL: &[u8] = b"h\x02w\x04casth\x03w\x08exchangew\x01al\0\0\0\x02l\0\0\0\x02w\x01gjj";
+    const SET_LOCK: &[u8] = b"h\x02w\x08set_locka\x05";
+    const END: &[u8] = b"jjj";
+    const LATEST: &[u8] = b"\x83h\x02b@\0\0\0";
+    const TWO_OF_H: &[u8] = b"l\0\0\0\x02w\x01hl\0\0\0\x02";
     check(&rt, rt.alloc(), ROWS);
 }

@@ -37,25 +37,10 @@ fn tuples_bigs_and_lists(rt: HostRuntime) {
         Made(Text("4294967296"), 9, b"\x83n\x05\0\0\0\0\0\x01", &[]),
         Made(Text("9223372036854775807"), 12, MAX, &[]),
         Made(Text("-9223372036854775808"), 12, MIN, &[]),
-        Made(
-            Text("-513"),
-            6,
-            b"\x83b\xff\xff\xfd\xff",
-            &[b"\x83n\x02\x07\x01\x02"],
-        ),
-        Made(
-            Text("1"),
-            3,
-            b"\x83a\x01",
-            &[b"\x83n\x09\0\x01\0\0\0\0\0\0\0\0"],
-        ),
+        Made(Text("-513"), 6, b"\x83b\xff\xff\xfd\xff", BIG),
+        Made(Text("1"), 3, b"\x83a\x01", LONG),
         Made(Text("{}"), 3, b"\x83h\0", &[]),
-        Made(
-            Text("{7}"),
-            5,
-            b"\x83h\x01a\x07",
-            &[b"\x83i\0\0\0\x01a\x07"],
-        ),
+        Made(Text("{7}"), 5, b"\x83h\x01a\x07", LARGE),
         Made(Tuple(255, 7), 513, b"\x83h\xffa\x07", &[]),
         Made(Tuple(256, 7), 518, b"\x83i\0\0\x01\0a\x07", &[]),
         Made(Text("[]"), 2, b"\x83j", &[b"\x83l\0\0\0\0j"]),
@@ -63,6 +48,10 @@ fn tuples_bigs_and_lists(rt: HostRuntime) {
         Made(Text("[7,7]"), 11, b"\x83l\0\0\0\x02a\x07a\x07j", &[]),
     ];
     const MAX: &[u8] = b"\x83n\x08\0\xff\xff\xff\xff\xff\xff\xff\x7f";
+    // A sign other than 0 and 1, and zeros behind the number.
+    const BIG: &[&[u8]] = &[b"\x83n\x02\x07\x01\x02"];
+    const LONG: &[&[u8]] = &[b"\x83n\x09\0\x01\0\0\0\0\0\0\0\0"];
+    const LARGE: &[&[u8]] = &[b"\x83i\0\0\0\x01a\x07"];
     const MIN: &[u8] = b"\x83n\x08\x01\0\0\0\0\0\0\0\x80";
     check(&rt, rt.alloc(), ROWS);
 }
@@ -99,12 +88,7 @@ fn wide_creations_and_binaries(rt: HostRuntime) {
         Made(Text("<a.1.258/256>"), 17, FRONT, &[]),
         Made(Text("<a.1.258/4294967295>"), 17, FRONT, &[]),
         Made(Text("<a.1.0/4294967295>"), 17, WIDE, &[]),
-        Made(
-            Text("<a.1.0>"),
-            17,
-            ONE,
-            &[b"\x83gw\x01a\0\0\0\x01\0\0\0\0\x01"],
-        ),
+        Made(Text("<a.1.0>"), 17, ONE, OLD),
         Made(Text("<<>>"), 6, b"\x83m\0\0\0\0", &[]),
         Made(Text("<<1,2>>"), 8, b"\x83m\0\0\0\x02\x01\x02", &[]),
         Made(Text("<<131,0,255>>"), 9, b"\x83m\0\0\0\x03\x83\0\xff", &[]),
@@ -112,6 +96,7 @@ fn wide_creations_and_binaries(rt: HostRuntime) {
     const FRONT: &[u8] = b"\x83Xw\x01a\0\0\0\x01\0\0\x01\x02";
     const THREE: &[u8] = b"\x83Xw\x01a\0\0\0\x01\0\0\x01\x02\0\0\0\x03";
     const WIDE: &[u8] = b"\x83Xw\x01a\0\0\0\x01\0\0\0\0\xff\xff\xff\xff";
+    const OLD: &[&[u8]] = &[b"\x83gw\x01a\0\0\0\x01\0\0\0\0\x01"];
     const ONE: &[u8] = b"\x83Xw\x01a\0\0\0\x01\0\0\0\0\0\0\0\x01";
     check(&rt, rt.alloc(), ROWS);
 }
