@@ -16,7 +16,7 @@ use Rattle.pg_history.specs.Counted.{is_open}
 use Rattle.pg_history.specs.History.{IsAnsweredOk, answers_by}
 use Rattle.pg_history.specs.Quiet.{OnlyTakes, peer_count, total}
 use Rattle.pg_loss.specs.Quiet.{IsQuietLeft, left_open, most_takes_left}
-use Rattle.pg_ready.specs.Ready.{NoLockLeft, NoneReadyLeft, OnlyRetries}
+use Rattle.pg_ready.specs.Ready.{EachIsRetried, NoLockLeft, NoneReadyLeft, OnlyReady, OnlyRetries}
 
 -- how many nodes are left
 abbrev pub left_count : Config → LosingFrameWorld → ℕ
@@ -60,7 +60,7 @@ pub record RetryGoesPastLosses (config : Config) (w : LosingFrameWorld) (i : ℕ
 abbrev pub most_events_to_free : Config → LosingFrameWorld → ℕ
 most_events_to_free config w = most_takes_left config w + left_open config w + 6 * peer_count config * left_open config w
 
--- Takes that bring a world to rest, retries after which no command is ready, and takes that bring it to rest again.
+-- Takes that bring a world to rest, retries of the commands that are ready there, and takes that bring it to rest again.
 pub record FreesLocks (config : Config) (w : LosingFrameWorld) : Type 0 where
   pub first : List (Event Action)
   pub rested : LosingFrameWorld
@@ -69,7 +69,10 @@ pub record FreesLocks (config : Config) (w : LosingFrameWorld) : Type 0 where
   pub rests : IsQuietLeft config rested
   pub retries : List (Event Action)
   pub tried : LosingFrameWorld
+  -- of each command that is ready there, and of no other
   pub only_retries : OnlyRetries retries
+  pub each : EachIsRetried config rested retries
+  pub ready : OnlyReady config rested retries
   pub leads_tried : LosingLeads (losing_frame_machine config) last_notice rested (all_steps retries) tried
   pub last : List (Event Action)
   pub world : LosingFrameWorld

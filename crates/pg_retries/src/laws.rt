@@ -70,9 +70,9 @@ pub fn retries_are_answered_where_none_is_ready()
         → length takes ≡ 5 * left_peer_count config w → NoLockLeft config v }
 {}
 
-/// From each world, whoever was lost, takes lead to where nothing is on the way to a node that is left; then retries to where no
-/// command of one is ready; then takes to where nothing is on the way again, and none holds a lock, where no clock comes
-/// near its limit.
+/// From each world, whoever was lost, takes lead to where nothing is on the way to a node that is left; then a retry of each command
+/// that is ready there, and of no other; then takes to where nothing is on the way again, no command of such a node is ready,
+/// and none holds a lock, where no clock comes near its limit.
 pub fn every_lock_can_be_freed_past_losses()
     ensures { (config : Config) (w : LosingFrameWorld) (events : List (LosingEvent Action))
         → IsDistinct same_atom (names_of config) → LosingReaches config events w
