@@ -10,7 +10,7 @@ use Rattle.pg_machine.specs.Places.{is_pair, is_place}
 use Rattle.pg_step.specs.Config.{Config}
 use Rattle.pg_step.specs.FrameMachine.{last_notice, losing_frame_machine}
 use Rattle.pg_step.specs.LossLaws.{LosingFrameWorld}
-use Rattle.pg_step.specs.Step.{Action}
+use Rattle.pg_step.specs.Step.{Action, CLOCK_LIMIT}
 use Rattle.pg_step.specs.declared.command.OpId.{OpId}
 use Rattle.pg_history.specs.Counted.{is_open}
 use Rattle.pg_history.specs.History.{IsAnsweredOk, answers_by}
@@ -30,6 +30,11 @@ left_peer_count config w = left_count config w - 1
 abbrev pub IsFreeLeft : Config → LosingFrameWorld → Term → Type 0
 IsFreeLeft config w name = (i : ℕ) → is_place (length config) i ≡ true → w.gone i ≡ false
     → (w.world.node i).state.locks name ≡ None
+
+-- no clock of a node that is left is nearer to its limit than so many events
+abbrev pub HasRoomAmongLeft : Config → LosingFrameWorld → ℕ → Type 0
+HasRoomAmongLeft config w events = (i : ℕ) → is_place (length config) i ≡ true → w.gone i ≡ false
+    → (w.world.node i).clock + events ≤ CLOCK_LIMIT
 
 -- What a retry of a command of node i in the world w, where nothing was on the way to a node that is left, has come to once so
 -- many packets were taken behind it.
