@@ -184,9 +184,10 @@ some_turn None some = absurd (some refl)
 some_turn (Some turn) some = (turn, refl)
 
 module _ (config : Config) (apart : IsDistinct same_atom (names_of config)) where
+  -- where the clocks of the two have room
   module _ (es : List (LosingEvent Action)) (w : LosingFrameWorld) (l : LosingReaches config es w)
-      (room : HasRoomLeft config w 1) (x y : ℕ) (packet : Notice) (rest : List Notice)
-      (pair : is_pair (length config) x y ≡ true) (lives : w.gone y ≡ false)
+      (x y : ℕ) (own : (w.world.node y).clock + 1 ≤ CLOCK_LIMIT) (peer : (w.world.node x).clock + 1 ≤ CLOCK_LIMIT)
+      (packet : Notice) (rest : List Notice) (pair : is_pair (length config) x y ≡ true) (lives : w.gone y ≡ false)
       (is : w.world.wire x y ≡ packet ∷ rest) where
     swapped : is_pair (length config) y x ≡ true
     swapped = pair_swapped (length config) x y pair
@@ -211,13 +212,11 @@ module _ (config : Config) (apart : IsDistinct same_atom (names_of config)) wher
         (packets_heard config apart es w l y x packet.packet (packets_of rest) swapped lives
         (unseen ((w.world.node y).state.lost (name_at config x)) refl) (ap packets_of is))
 
-    pub next_is_taken : (v : LosingFrameWorld) × Leaves config w (Step (Take y x)) v
-    next_is_taken =
+    pub next_with_room : (v : LosingFrameWorld) × Leaves config w (Step (Take y x)) v
+    next_with_room =
         let stamp : packet.stamp ≤ (w.world.node x).clock =
         (subst (AllByRecursion (λ (z : Notice). z.stamp ≤ (w.world.node x).clock)) is
         ((on_time config es w l).stamps x y)).0 in
-        let own : (w.world.node y).clock + 1 ≤ CLOCK_LIMIT = room y here in
-        let peer : (w.world.node x).clock + 1 ≤ CLOCK_LIMIT = room x there in
         let within : max (w.world.node y).clock packet.stamp + 1 ≤ CLOCK_LIMIT = omega (arith, stamp, own, peer) in
         let allows : clock_allows CLOCK_LIMIT w.world (Take y x) ≡ true =
         ap (λ xs. option_map_or
@@ -240,6 +239,15 @@ module _ (config : Config) (apart : IsDistinct same_atom (names_of config)) wher
         ∙ (ap (λ b. cond b (happens (losing_machine_of config) (plain w.world) (Take y x)) None) allows
         ∙ bare_so)) in
         (record { world = all.0; gone = w.gone }, happens_lossy config w (Take y x) all.0 lives all.1)
+
+  -- where all clocks have
+  pub next_is_taken : (es : List (LosingEvent Action)) (w : LosingFrameWorld) (l : LosingReaches config es w)
+      → HasRoomLeft config w 1 → (x y : ℕ) (packet : Notice) (rest : List Notice)
+      → is_pair (length config) x y ≡ true → w.gone y ≡ false → w.world.wire x y ≡ packet ∷ rest
+      → (v : LosingFrameWorld) × Leaves config w (Step (Take y x)) v
+  next_is_taken es w l room x y packet rest pair lives is =
+      next_with_room es w l x y (room y (pair_second (length config) x y pair)) (room x (pair_first (length config) x y pair))
+      packet rest pair lives is
 
   -- ---- until nothing is on the way
 

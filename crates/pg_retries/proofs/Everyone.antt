@@ -71,7 +71,8 @@ module _ (config : Config) (apart : IsDistinct same_atom (names_of config)) wher
     goes count d =
         let waiting = open_waits config apart es w l quiet i found.here found.lives op none found.is in
         retry_goes config apart es w l quiet i found.here found.lives op waiting.0 waiting.1
-        (free_for config apart es w l quiet i found.here found.lives op none waiting.0) d.takes d.only d.world d.leads room
+        (free_for config apart es w l quiet i found.here found.lives op none waiting.0) d.takes d.only d.world d.leads
+        (λ j here lives. room j here)
 
     one_more : (count : ℕ) → count < 5 * left_peer_count config w → Driven count → Driven (suc count)
     one_more count few d =

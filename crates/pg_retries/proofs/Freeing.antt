@@ -180,6 +180,8 @@ module _ (config : Config) (apart : IsDistinct same_atom (names_of config)) wher
       retries = tried.retries;
       tried = tried.world;
       only_retries = tried.only;
+      each = tried.each;
+      ready = tried.were;
       leads_tried = tried.leads;
       last = last.takes;
       world = last.world;

@@ -3,19 +3,21 @@ use Rattle.std.proofs.Common.{◌≡◌, ◌⊎◌, inl, inr, ℕ, suc, ◌+◌,
 use Rattle.std.proofs.Common.{nat_lt, length, List, [], ◌∷◌, ◌++◌, Some, None, Ok, Err, refl, ap, sym, ◌∙◌, subst, arith}
 use Rattle.std.specs.Prelude.{option_map}
 use Rattle.std.specs.List.{IsDistinct}
-use Rattle.std.proofs.lemmas.Bool.{cases_lt, le-leb, le-ltb, lt-ltb}
+use Rattle.std.proofs.lemmas.Bool.{cases_eq, cases_lt, le-leb, le-ltb, lt-ltb}
 use Rattle.pg_term.specs.Same.{same_atom}
 use Rattle.pg_group.specs.declared.update.Update.{Update}
 use Rattle.pg_group.specs.Value.{name_of}
 use Rattle.pg_message.specs.declared.message.Message.{Message}
-use Rattle.pg_machine.specs.Clocked.{Stamped, packets_of, plain}
+use Rattle.pg_machine.specs.Clocked.{Stamped, next_clock, packets_of, plain}
 use Rattle.pg_machine.specs.Happened.{Happened}
 use Rattle.pg_machine.specs.Losing.{LosingEvent, Noticed, Sent, Step, all_steps, losing_happens, mapped_turn, nobody_gone}
-use Rattle.pg_machine.specs.Machine.{Do, Event, Own, Take, Turn, happens, perform, start_of}
+use Rattle.pg_machine.specs.Machine.{Do, Event, Input, Own, Take, Taken, Turn, happens, node_of, perform, start_of}
 use Rattle.pg_machine.specs.Places.{is_pair}
 use Rattle.pg_machine.proofs.Options.{map_is_some}
 use Rattle.pg_machine.proofs.Plain.{plain_happens}
-use Rattle.pg_machine.proofs.Steps.{happened, happens_so}
+use Rattle.pg_machine.proofs.Timing.{ticks}
+use Rattle.std.specs.List.{AllByRecursion}
+use Rattle.pg_machine.proofs.Steps.{pair_apart, happened, happens_so}
 use Rattle.pg_step.specs.declared.command.OpId.{OpId}
 use Rattle.pg_step.specs.declared.refusal.Refusal.TheVariants.{NoSuchPlace, NotWaiting}
 use Rattle.pg_step.specs.Attempts.{tried_again, waits}
@@ -30,6 +32,8 @@ use Rattle.pg_step.specs.Step.{Action, CLOCK_LIMIT, Retry}
 use Rattle.pg_step.specs.Turns.{Report}
 use Rattle.pg_history.specs.Counted.{is_open}
 use Rattle.pg_history.specs.Quiet.{OnlyTakes}
+use Rattle.pg_history.proofs.ends.Apart.{pair_first, pair_second}
+use Rattle.pg_history.proofs.steps.Ways.{packet_there, pair_there}
 use Rattle.pg_history.proofs.places.Shown.{IsHere}
 use Rattle.pg_history.proofs.quiet.Sums.{total}
 use Rattle.pg_loss.specs.Quiet.{IsQuietLeft}
@@ -43,10 +47,10 @@ use Rattle.pg_loss.proofs.Retries.{waits_for_retries}
 use Rattle.pg_left.proofs.Passing.{Leads, Leaves, leads_more}
 use Rattle.pg_ready.specs.Ready.{HasRoomLeft, LossesSeen, NoLockLeft, NoneReadyLeft, is_ready, is_ready_at}
 use Rattle.pg_ready.proofs.Going.{no_loss, retry_is}
-use Rattle.pg_ready.proofs.Resting.{next_is_taken, on_time, room_left, went}
-use Rattle.pg_ready.proofs.Retried.{fewer_ready, gone_later, no_lock}
-use Rattle.pg_ready.proofs.Silence.{among_left}
-use Rattle.pg_retries.specs.Retried.{IsFreeLeft, RetryGoesPastLosses, left_peer_count}
+use Rattle.pg_ready.proofs.Resting.{next_with_room, on_time, room_left, went}
+use Rattle.pg_ready.proofs.Retried.{fewer_ready, gone_later, no_lock, seen_later}
+use Rattle.pg_ready.proofs.Silence.{all_silent, among_left}
+use Rattle.pg_retries.specs.Retried.{HasRoomAmongLeft, IsFreeLeft, RetryGoesPastLosses, left_peer_count}
 use Rattle.pg_retries.proofs.Alone.{Alone, weight}
 use Rattle.pg_retries.proofs.Answered.{IsStill, begun, begun_many, ends_answered, opens, some_packet, still_again, taken_all}
 use Rattle.pg_history.proofs.quiet.Phases.Phase.{Ahead}
@@ -70,6 +74,78 @@ room_run config (d ∷ ts) es w v k l more room =
     (room_left config w u d (happened (losing_frame_machine config) w.world u.world d (went config w u d more.1).0) (length ts + k)
     (on_time config es w l)
     (λ i here. let all : (w.world.node i).clock + (suc (length ts) + k) ≤ CLOCK_LIMIT = room i here in omega (arith, all)))
+
+-- ---- runs where each loss was seen
+
+pub seen_run : (config : Config) (apart : IsDistinct same_atom (names_of config)) (ts : List (Event Action))
+    (es : List (LosingEvent Action)) (w v : LosingFrameWorld) → LosingReaches config es w → LossesSeen config w
+    → Leads config w (all_steps ts) v → LossesSeen config v
+seen_run config apart [] es w v l seen more = subst (LossesSeen config) more seen
+seen_run config apart (d ∷ ts) es w v l seen more = seen_run config apart ts (es ++ Step d ∷ []) more.0 v
+    (leads_more config es (nobody_gone (start_of (losing_frame_machine config))) w more.0 (Step d) l more.1)
+    (seen_later config apart es w more.0 l seen d more.1) more.2
+
+-- an event takes one from the room of the nodes that are left, since what they take comes from one of them
+module _ (config : Config) (apart : IsDistinct same_atom (names_of config)) (es : List (LosingEvent Action)) (w v : LosingFrameWorld)
+    (l : LosingReaches config es w) (seen : LossesSeen config w) (d : Event Action) (leaves : Leaves config w (Step d) v) (k : ℕ)
+    (room : HasRoomAmongLeft config w (suc k)) where
+  went_so : Happened (losing_frame_machine config) w.world d v.world
+  went_so = happened (losing_frame_machine config) w.world v.world d (went config w v d leaves).0
+
+  same_lost_ones : v.gone ≡ w.gone
+  same_lost_ones = (went config w v d leaves).1
+
+  -- what is on the way to one of them is from one of them
+  sender_lives : (p : ℕ) (packet : Stamped (Noticed Message)) (rest : List (Stamped (Noticed Message))) → is_pair (length config) (node_of d) p ≡ true
+      → w.gone (node_of d) ≡ false → w.world.wire p (node_of d) ≡ packet ∷ rest → w.gone p ≡ false
+  sender_lives p packet rest pair alive is = not_true (w.gone p) (λ away.
+      let here = pair_first (length config) (node_of d) p pair in
+      let there = pair_second (length config) (node_of d) p pair in
+      absurd (cc (sym (all_silent config apart es w l p (node_of d) there here (λ e. pair_apart (length config) (node_of d) p pair (sym e))
+      (seen (node_of d) here alive p there away)) ∙ ap packets_of is)))
+
+  within : IsHere config (node_of d) → w.gone (node_of d) ≡ false → (input : Input (Stamped (Noticed Message)) Action) → went_so.input ≡ input
+      → next_clock (w.world.node (node_of d)).clock input + k ≤ CLOCK_LIMIT
+  within here alive (Own action) is =
+      let own : (w.world.node (node_of d)).clock + suc k ≤ CLOCK_LIMIT = room (node_of d) here alive in omega (arith, own)
+  within here alive (Taken p x) is =
+      let first = packet_there (losing_frame_machine config) w.world v.world d went_so p x is in
+      let pair = pair_there (losing_frame_machine config) w.world v.world d went_so p x is in
+      let stamp : x.stamp ≤ (w.world.node p).clock = (subst (AllByRecursion (λ (packet : Stamped (Noticed Message)). packet.stamp ≤ (w.world.node p).clock)) first.1
+      ((on_time config es w l).stamps p (node_of d))).0 in
+      let own : (w.world.node (node_of d)).clock + suc k ≤ CLOCK_LIMIT = room (node_of d) here alive in
+      let peer : (w.world.node p).clock + suc k ≤ CLOCK_LIMIT = room p (pair_second (length config) (node_of d) p pair) (sender_lives p x first.0 pair alive first.1) in
+      omega (arith, stamp, own, peer)
+
+  pub room_among : HasRoomAmongLeft config v k
+  room_among i here lives = go (cases_eq i (node_of d))
+    where
+      alive : w.gone i ≡ false
+      alive = ap (λ (f : ℕ → Bool). f i) (sym same_lost_ones) ∙ lives
+
+      go : (i ≡ node_of d) ⊎ (i ≡ node_of d → ⊥) → (v.world.node i).clock + k ≤ CLOCK_LIMIT
+      go (inl own) =
+          let clock : (v.world.node (node_of d)).clock ≡ next_clock (w.world.node (node_of d)).clock went_so.input =
+          (ticks (losing_machine_of config) CLOCK_LIMIT w.world v.world d went_so).clock in
+          let few : next_clock (w.world.node (node_of d)).clock went_so.input + k ≤ CLOCK_LIMIT =
+          within (subst (IsHere config) own here) (subst (λ z. w.gone z ≡ false) own alive) went_so.input refl in
+          subst (λ j. (v.world.node j).clock + k ≤ CLOCK_LIMIT) (sym own) (subst (λ n. n + k ≤ CLOCK_LIMIT) (sym clock) few)
+      go (inr other) =
+          let same : (v.world.node i).clock ≡ (w.world.node i).clock = (ticks (losing_machine_of config) CLOCK_LIMIT w.world v.world d went_so).others i other in
+          let before : (w.world.node i).clock + suc k ≤ CLOCK_LIMIT = room i here alive in
+          omega (arith, same, before)
+
+room_among_run : (config : Config) (apart : IsDistinct same_atom (names_of config)) (ts : List (Event Action)) (es : List (LosingEvent Action))
+    (w v : LosingFrameWorld) (k : ℕ) → LosingReaches config es w → LossesSeen config w → Leads config w (all_steps ts) v
+    → HasRoomAmongLeft config w (length ts + k) → HasRoomAmongLeft config v k
+room_among_run config apart [] es w v k l seen more room = subst (λ z. HasRoomAmongLeft config z k) more
+    (λ i here lives. let all : (w.world.node i).clock + (0 + k) ≤ CLOCK_LIMIT = room i here lives in omega (arith, all))
+room_among_run config apart (d ∷ ts) es w v k l seen more room =
+    room_among_run config apart ts (es ++ Step d ∷ []) more.0 v k
+    (leads_more config es (nobody_gone (start_of (losing_frame_machine config))) w more.0 (Step d) l more.1)
+    (seen_later config apart es w more.0 l seen d more.1) more.2
+    (room_among config apart es w more.0 l seen d more.1 (length ts + k)
+    (λ i here lives. let all : (w.world.node i).clock + (suc (length ts) + k) ≤ CLOCK_LIMIT = room i here lives in omega (arith, all)))
 
 -- where none is ready none becomes ready
 pub none_on : (config : Config) (apart : IsDistinct same_atom (names_of config)) (events : List (LosingEvent Action)) (w : LosingFrameWorld)
@@ -239,20 +315,32 @@ module _ (config : Config) (apart : IsDistinct same_atom (names_of config)) (eve
         go (inl more_) = lt-ltb peers now more_ ∙ sym (lt-ltb (length ts) (4 * peers) (omega (arith, sum, more_)))
         go (inr few) = le-ltb peers now few ∙ sym (le-ltb (length ts) (4 * peers) (omega (arith, sum, few)))
 
-    module _ (room : HasRoomLeft config w (1 + 5 * left_peer_count config w)) where
-      room_later : HasRoomLeft config v now
-      room_later = room_run config (Do h (Retry op) ∷ ts) events w v now l more
-          (λ i there. let before : (w.world.node i).clock + (1 + 5 * peers) ≤ CLOCK_LIMIT = room i there in omega (arith, before, sum))
+    module _ (room : HasRoomAmongLeft config w (1 + 5 * left_peer_count config w)) where
+      room_later : HasRoomAmongLeft config v now
+      room_later = room_among_run config apart (Do h (Retry op) ∷ ts) events w v now l seen more
+          (λ i there alive. let before : (w.world.node i).clock + (1 + 5 * peers) ≤ CLOCK_LIMIT = room i there alive in omega (arith, before, sum))
+
+      seen_there : LossesSeen config v
+      seen_there = seen_run config apart (Do h (Retry op) ∷ ts) events w v l seen more
 
       next_taken : (a y : ℕ) (packet : Stamped (Noticed Message)) (rest : List (Stamped (Noticed Message))) → is_pair (length config) a y ≡ true
           → v.gone y ≡ false → v.world.wire a y ≡ packet ∷ rest
           → (z : LosingFrameWorld) × (losing_happens (losing_frame_machine config) last_notice v (Step (Take y a)) ≡ Some z)
       next_taken a y packet rest pair alive is = go (cases_lt 0 now)
         where
+          there : IsHere config a
+          there = pair_first (length config) a y pair
+
+          by_peer : v.gone a ≡ false
+          by_peer = not_true (v.gone a) (λ away.
+              absurd (cc (sym (all_silent config apart all_events v reached a y there (pair_second (length config) a y pair)
+              (pair_apart (length config) a y pair) (seen_there y (pair_second (length config) a y pair) alive a there away)) ∙ ap packets_of is)))
+
           go : (0 < now) ⊎ (now ≤ 0) → (z : LosingFrameWorld) × (losing_happens (losing_frame_machine config) last_notice v (Step (Take y a)) ≡ Some z)
-          go (inl some) = next_is_taken config apart all_events v reached
-              (λ i there. let before : (v.world.node i).clock + now ≤ CLOCK_LIMIT = room_later i there in omega (arith, before, some))
-              a y packet rest pair alive is
+          go (inl some) =
+              let own : (v.world.node y).clock + now ≤ CLOCK_LIMIT = room_later y (pair_second (length config) a y pair) alive in
+              let peer : (v.world.node a).clock + now ≤ CLOCK_LIMIT = room_later a there by_peer in
+              next_with_room config apart all_events v reached a y (omega (arith, own, some)) (omega (arith, peer, some)) packet rest pair alive is
           go (inr none) =
               let nothing : v.world.wire a y ≡ [] = quiet_if (still_again config apart h here w.gone lost known lives op u c (plain v.world) now last.2 unready waits_so (omega (arith, none))) a y pair alive in
               absurd (cc (sym nothing ∙ is))
@@ -303,7 +391,7 @@ module _ (config : Config) (apart : IsDistinct same_atom (names_of config)) (eve
     open_waits opened = waiting_is opened
 
     -- so it is answered
-    module _ (opened : is_open ((w.world.node h).state.stages op) ≡ true) (room : HasRoomLeft config w (1 + 5 * left_peer_count config w))
+    module _ (opened : is_open ((w.world.node h).state.stages op) ≡ true) (room : HasRoomAmongLeft config w (1 + 5 * left_peer_count config w))
         (ts : List (Event Action)) (only : OnlyTakes ts) (v : LosingFrameWorld) (more : Leads config w (all_steps (Do h (Retry op) ∷ ts)) v) where
       pub retry_answered : RetryGoesPastLosses config w h op (length ts) v
       retry_answered =

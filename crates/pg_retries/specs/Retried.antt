@@ -19,7 +19,7 @@ use Rattle.pg_history.specs.Counted.{is_open}
 use Rattle.pg_history.specs.History.{IsAnsweredOk, answers_by}
 use Rattle.pg_history.specs.Quiet.{OnlyTakes, OnlyTakesAndRetries, peer_count, total}
 use Rattle.pg_loss.specs.Quiet.{IsQuietLeft, left_open, most_takes_left}
-use Rattle.pg_ready.specs.Ready.{HasRoomLeft, NoLockLeft, NoneReadyLeft, OnlyRetries}
+use Rattle.pg_ready.specs.Ready.{EachIsRetried, HasRoomLeft, NoLockLeft, NoneReadyLeft, OnlyReady, OnlyRetries}
 
 -- how many nodes are left
 abbrev pub left_count : Config → LosingFrameWorld → ℕ
@@ -33,6 +33,11 @@ left_peer_count config w = left_count config w - 1
 abbrev pub IsFreeLeft : Config → LosingFrameWorld → Term → Type 0
 IsFreeLeft config w name = (i : ℕ) → is_place (length config) i ≡ true → w.gone i ≡ false
     → (w.world.node i).state.locks name ≡ None
+
+-- no clock of a node that is left is nearer to its limit than so many events
+abbrev pub HasRoomAmongLeft : Config → LosingFrameWorld → ℕ → Type 0
+HasRoomAmongLeft config w events = (i : ℕ) → is_place (length config) i ≡ true → w.gone i ≡ false
+    → (w.world.node i).clock + events ≤ CLOCK_LIMIT
 
 -- What a retry of a command of node i in the world w, where nothing was on the way to a node that is left, has come to once so
 -- many packets were taken behind it.
@@ -63,7 +68,7 @@ pub record RetryGoesPastLosses (config : Config) (w : LosingFrameWorld) (i : ℕ
 abbrev pub most_events_to_free : Config → LosingFrameWorld → ℕ
 most_events_to_free config w = most_takes_left config w + left_open config w + 6 * peer_count config * left_open config w
 
--- Takes that bring a world to rest, retries after which no command is ready, and takes that bring it to rest again.
+-- Takes that bring a world to rest, retries of the commands that are ready there, and takes that bring it to rest again.
 pub record FreesLocks (config : Config) (w : LosingFrameWorld) : Type 0 where
   pub first : List (Event Action)
   pub rested : LosingFrameWorld
@@ -72,7 +77,10 @@ pub record FreesLocks (config : Config) (w : LosingFrameWorld) : Type 0 where
   pub rests : IsQuietLeft config rested
   pub retries : List (Event Action)
   pub tried : LosingFrameWorld
+  -- of each command that is ready there, and of no other
   pub only_retries : OnlyRetries retries
+  pub each : EachIsRetried config rested retries
+  pub ready : OnlyReady config rested retries
   pub leads_tried : LosingLeads (losing_frame_machine config) last_notice rested (all_steps retries) tried
   pub last : List (Event Action)
   pub world : LosingFrameWorld
@@ -103,14 +111,14 @@ pub record RetriesGoOn (config : Config) (w : LosingFrameWorld) : Type 0 where
   pub goes : (v : LosingFrameWorld) (takes : List (Event Action)) (i : ℕ) (op : OpId) (update : Update)
       → IsQuietLeft config w → is_place (length config) i ≡ true → w.gone i ≡ false
       → (w.world.node i).state.stages op ≡ Waiting update → IsFreeLeft config w (name_of update)
-      → HasRoomLeft config w (1 + 5 * left_peer_count config w) → OnlyTakes takes
+      → HasRoomAmongLeft config w (1 + 5 * left_peer_count config w) → OnlyTakes takes
       → LosingLeads (losing_frame_machine config) last_notice w (all_steps (Do i (Retry op) ∷ takes)) v
       → RetryGoesPastLosses config w i op (length takes) v
   -- or where no command of a node that is left is ready
   pub answered : (v : LosingFrameWorld) (takes : List (Event Action)) (i : ℕ) (op : OpId)
       → IsQuietLeft config w → NoneReadyLeft config w → is_place (length config) i ≡ true → w.gone i ≡ false
       → is_open ((w.world.node i).state.stages op) ≡ true
-      → HasRoomLeft config w (1 + 5 * left_peer_count config w) → OnlyTakes takes
+      → HasRoomAmongLeft config w (1 + 5 * left_peer_count config w) → OnlyTakes takes
       → LosingLeads (losing_frame_machine config) last_notice w (all_steps (Do i (Retry op) ∷ takes)) v
       → RetryGoesPastLosses config w i op (length takes) v
   -- none is ready meanwhile, and where all is taken no lock is held
@@ -119,7 +127,7 @@ pub record RetriesGoOn (config : Config) (w : LosingFrameWorld) : Type 0 where
   pub unlocked : (v : LosingFrameWorld) (takes : List (Event Action)) (i : ℕ) (op : OpId)
       → IsQuietLeft config w → NoneReadyLeft config w → is_place (length config) i ≡ true → w.gone i ≡ false
       → is_open ((w.world.node i).state.stages op) ≡ true
-      → HasRoomLeft config w (1 + 5 * left_peer_count config w) → OnlyTakes takes
+      → HasRoomAmongLeft config w (1 + 5 * left_peer_count config w) → OnlyTakes takes
       → LosingLeads (losing_frame_machine config) last_notice w (all_steps (Do i (Retry op) ∷ takes)) v
       → length takes ≡ 5 * left_peer_count config w → NoLockLeft config v
   -- with room in the clocks takes and retries free every lock

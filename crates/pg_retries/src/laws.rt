@@ -17,8 +17,8 @@ ghost use Rattle.pg_history.specs.Quiet.{OnlyTakes, OnlyTakesAndRetries};
 ghost use Rattle.pg_loss.specs.Quiet.{IsQuietLeft};
 ghost use Rattle.pg_loss.specs.Reached.{LosingReaches};
 ghost use Rattle.pg_ready.specs.Ready.{HasRoomLeft, NoLockLeft, NoneReadyLeft};
-ghost use Rattle.pg_retries.specs.Retried.{FreesLocks, IsFreeLeft, NoneOpenLeft, RetryGoesPastLosses};
-ghost use Rattle.pg_retries.specs.Retried.{left_peer_count, most_events_left, most_events_to_free};
+ghost use Rattle.pg_retries.specs.Retried.{FreesLocks, HasRoomAmongLeft, IsFreeLeft, NoneOpenLeft};
+ghost use Rattle.pg_retries.specs.Retried.{RetryGoesPastLosses, left_peer_count, most_events_left, most_events_to_free};
 
 /// A retry is answered, whoever was lost. Where nothing is on the way to a node that is left, each open command of such a node can
 /// be tried again. Let it wait for its next attempt, and no node that is left hold the lock of its group. From then on, in
@@ -38,7 +38,7 @@ pub fn a_retry_is_answered_past_losses()
         → IsDistinct same_atom (names_of config) → LosingReaches config events w → IsQuietLeft config w
         → is_place (length config) i ≡ true → w.gone i ≡ false
         → (w.world.node i).state.stages op ≡ Waiting update → IsFreeLeft config w (name_of update)
-        → HasRoomLeft config w (1 + 5 * left_peer_count config w) → OnlyTakes takes
+        → HasRoomAmongLeft config w (1 + 5 * left_peer_count config w) → OnlyTakes takes
         → LosingLeads (losing_frame_machine config) last_notice w (all_steps (Do i (Retry op) ∷ takes)) v
         → RetryGoesPastLosses config w i op (length takes) v }
 {}
@@ -51,7 +51,7 @@ pub fn retries_are_answered_where_none_is_ready()
         → IsDistinct same_atom (names_of config) → LosingReaches config events w → IsQuietLeft config w
         → NoneReadyLeft config w → is_place (length config) i ≡ true → w.gone i ≡ false
         → is_open ((w.world.node i).state.stages op) ≡ true
-        → HasRoomLeft config w (1 + 5 * left_peer_count config w) → OnlyTakes takes
+        → HasRoomAmongLeft config w (1 + 5 * left_peer_count config w) → OnlyTakes takes
         → LosingLeads (losing_frame_machine config) last_notice w (all_steps (Do i (Retry op) ∷ takes)) v
         → RetryGoesPastLosses config w i op (length takes) v }
     ensures unready { (config : Config) (w v : LosingFrameWorld) (events : List (LosingEvent Action))
@@ -65,14 +65,14 @@ pub fn retries_are_answered_where_none_is_ready()
         → IsDistinct same_atom (names_of config) → LosingReaches config events w → IsQuietLeft config w
         → NoneReadyLeft config w → is_place (length config) i ≡ true → w.gone i ≡ false
         → is_open ((w.world.node i).state.stages op) ≡ true
-        → HasRoomLeft config w (1 + 5 * left_peer_count config w) → OnlyTakes takes
+        → HasRoomAmongLeft config w (1 + 5 * left_peer_count config w) → OnlyTakes takes
         → LosingLeads (losing_frame_machine config) last_notice w (all_steps (Do i (Retry op) ∷ takes)) v
         → length takes ≡ 5 * left_peer_count config w → NoLockLeft config v }
 {}
 
-/// From each world, whoever was lost, takes lead to where nothing is on the way to a node that is left; then retries to where no
-/// command of one is ready; then takes to where nothing is on the way again, and none holds a lock, where no clock comes
-/// near its limit.
+/// From each world, whoever was lost, takes lead to where nothing is on the way to a node that is left; then a retry of each command
+/// that is ready there, and of no other; then takes to where nothing is on the way again, no command of such a node is ready,
+/// and none holds a lock, where no clock comes near its limit.
 pub fn every_lock_can_be_freed_past_losses()
     ensures { (config : Config) (w : LosingFrameWorld) (events : List (LosingEvent Action))
         → IsDistinct same_atom (names_of config) → LosingReaches config events w
