@@ -19,8 +19,9 @@ use Rattle.pg_step.specs.Config.{Config}
 use Rattle.pg_frame_world.specs.declared.step.FrameStep.{FrameStep}
 use Rattle.pg_cluster.specs.declared.closed.Closed.{Closed}
 use Rattle.pg_cluster.specs.declared.closed.Stopped.{Stopped}
+use Rattle.pg_cluster.specs.declared.closed.TurnCount.{TurnCount}
 use Rattle.pg_cluster.specs.Clients.{AllPairs, AllHeard, ClientsRest, ports_ended}
-use Rattle.pg_cluster.specs.Closed.{JoinsToOneLosingRun, JoinsToOneRun, nodes_of, logs_of, losses_of, clients_of}
+use Rattle.pg_cluster.specs.Closed.{JoinsToOneLosingRun, JoinsToOneRun, nodes_of, logs_of, turns_of, losses_of, clients_of}
 use Rattle.pg_cluster.specs.Judges.{Agree}
 use Rattle.pg_cluster.specs.Ended.{AreWired, AllArrived}
 use Rattle.pg_cluster.specs.Notices.{IsOfLost, NobodyLost}
@@ -28,7 +29,7 @@ use Rattle.pg_cluster.specs.Schedule.{IsLosingSchedule, IsSchedule}
 use mathlib.Core.Logic.{∥∥₁_map}
 use Rattle.pg_cluster.specs.Survivors.{SurvivorsAgree}
 use Rattle.pg_cluster.specs.Threads.{NodeOf, RunOf, RanOf, Thread, AreMade, EndedWith, Joined, begun_by}
-use Rattle.pg_cluster.specs.Threads.{lasts_ended, node_in, log_in, rows_begun, rows_ended, notices_ended}
+use Rattle.pg_cluster.specs.Threads.{lasts_ended, node_in, log_in, turns_in, rows_begun, rows_ended, notices_ended}
 use Rattle.pg_cluster.specs.Together.{AreOneLosingRun, AreOneRun}
 use Rattle.pg_cluster.proofs.Closing.{crossed_after}
 use Rattle.pg_cluster.proofs.Hearing.{heard_all}
@@ -53,16 +54,17 @@ one_more_stands P hs rs x r at here all i h d low = elim (eqb_tells i (length rs
 pub stopped_ended : {K : Type 0} (lost : List Bool) (threads : List (Thread K)) (rans : List (RanOf K)) (stopped : Stopped)
     → AreWired (length threads) (rows_begun threads) → Joined threads rans → AllArrived (length threads) (rows_ended rans)
     → nodes_of stopped ≡ map (λ ran. node_in ran.run) rans → logs_of stopped ≡ map (λ ran. log_in ran.run) rans
-    → length lost ≡ length threads
+    → turns_of stopped ≡ map turns_in rans → length lost ≡ length threads
     → ((place : ℕ) (none : SlotIn Notice) → place < length lost
     → AllByRecursion (IsOfLost (length lost) (λ node. get_or lost node false) (λ node. get_or (lasts_ended rans) node 0) place) (taken (get_or (notices_ended rans) place none)))
     → (NobodyLost lost → All (λ inlet. taken inlet ≡ []) (notices_ended rans))
-    → EndedWith lost threads (nodes_of stopped) (logs_of stopped)
-stopped_ended lost threads rans stopped wired joined arrived nodes logs marked told untold = record {
+    → EndedWith lost threads (nodes_of stopped) (logs_of stopped) (turns_of stopped)
+stopped_ended lost threads rans stopped wired joined arrived nodes logs turns marked told untold = record {
   rans = rans;
   joined = joined;
   ended = nodes;
   logged = logs;
+  counted = turns;
   crossed = crossed_after (length threads) threads rans refl wired joined arrived;
   marked = marked;
   told = told;
@@ -70,12 +72,14 @@ stopped_ended lost threads rans stopped wired joined arrived nodes logs marked t
 }
 
 -- and so it is of what is finished
-pub finished_ended : {K : Type 0} (lost : List Bool) (threads : List (Thread K)) (stopped : Stopped) (result : Result Closed Stopped) → EndedWith lost threads (nodes_of stopped) (logs_of stopped)
-    → IfOk result (λ closed. closed.nodes.items ≡ nodes_of stopped) → IfOk result (λ closed. map (λ v. v.items) closed.logs.items ≡ logs_of stopped) → IfErr result (λ other. other ≡ stopped)
-    → MatchResult result (λ closed. EndedWith lost threads closed.nodes.items (map (λ v. v.items) closed.logs.items)) (λ other. EndedWith lost threads (nodes_of other) (logs_of other))
-finished_ended lost threads stopped (Ok closed) ended nodes logs same =
-    subst (λ ns. EndedWith lost threads ns (map (λ v. v.items) closed.logs.items)) (sym nodes) (subst (EndedWith lost threads (nodes_of stopped)) (sym logs) ended)
-finished_ended lost threads stopped (Err other) ended nodes logs same = subst (λ (s : Stopped). EndedWith lost threads (nodes_of s) (logs_of s)) (sym same) ended
+pub finished_ended : {K : Type 0} (lost : List Bool) (threads : List (Thread K)) (stopped : Stopped) (result : Result Closed Stopped) → EndedWith lost threads (nodes_of stopped) (logs_of stopped) (turns_of stopped)
+    → IfOk result (λ closed. closed.nodes.items ≡ nodes_of stopped) → IfOk result (λ closed. map (λ v. v.items) closed.logs.items ≡ logs_of stopped)
+    → IfOk result (λ closed. closed.turns.items ≡ turns_of stopped) → IfErr result (λ other. other ≡ stopped)
+    → MatchResult result (λ closed. EndedWith lost threads closed.nodes.items (map (λ v. v.items) closed.logs.items) closed.turns.items) (λ other. EndedWith lost threads (nodes_of other) (logs_of other) (turns_of other))
+finished_ended lost threads stopped (Ok closed) ended nodes logs turns same =
+    subst (λ ns. EndedWith lost threads ns (map (λ v. v.items) closed.logs.items) closed.turns.items) (sym nodes)
+    (subst (λ ls. EndedWith lost threads (nodes_of stopped) ls closed.turns.items) (sym logs) (subst (EndedWith lost threads (nodes_of stopped) (logs_of stopped)) (sym turns) ended))
+finished_ended lost threads stopped (Err other) ended nodes logs turns same = subst (λ (s : Stopped). EndedWith lost threads (nodes_of s) (logs_of s) (turns_of s)) (sym same) ended
 
 -- the clients are the same
 pub finished_clients : (clients : List Client) (stopped : Stopped) (result : Result Closed Stopped) → ClientsRest clients (clients_of stopped)
@@ -85,12 +89,14 @@ finished_clients clients stopped (Ok closed) rest same err = subst (ClientsRest 
 finished_clients clients stopped (Err other) rest same err = subst (λ (s : Stopped). ClientsRest clients (clients_of s)) (sym err) rest
 
 -- merely so, where nodes may be lost
-pub ended_merely : {K : Type 0} (lost : List Bool) (threads : List (Thread K)) (stopped : Stopped) (result : Result Closed Stopped) → ∥ EndedWith lost threads (nodes_of stopped) (logs_of stopped) ∥₁
-    → IfOk result (λ closed. closed.nodes.items ≡ nodes_of stopped) → IfOk result (λ closed. map (λ v. v.items) closed.logs.items ≡ logs_of stopped) → IfErr result (λ other. other ≡ stopped)
-    → MatchResult result (λ closed. ∥ EndedWith lost threads closed.nodes.items (map (λ v. v.items) closed.logs.items) ∥₁) (λ other. ∥ EndedWith lost threads (nodes_of other) (logs_of other) ∥₁)
-ended_merely lost threads stopped (Ok closed) ended nodes logs same =
-    subst (λ ns. ∥ EndedWith lost threads ns (map (λ v. v.items) closed.logs.items) ∥₁) (sym nodes) (subst (λ ls. ∥ EndedWith lost threads (nodes_of stopped) ls ∥₁) (sym logs) ended)
-ended_merely lost threads stopped (Err other) ended nodes logs same = subst (λ (s : Stopped). ∥ EndedWith lost threads (nodes_of s) (logs_of s) ∥₁) (sym same) ended
+pub ended_merely : {K : Type 0} (lost : List Bool) (threads : List (Thread K)) (stopped : Stopped) (result : Result Closed Stopped) → ∥ EndedWith lost threads (nodes_of stopped) (logs_of stopped) (turns_of stopped) ∥₁
+    → IfOk result (λ closed. closed.nodes.items ≡ nodes_of stopped) → IfOk result (λ closed. map (λ v. v.items) closed.logs.items ≡ logs_of stopped)
+    → IfOk result (λ closed. closed.turns.items ≡ turns_of stopped) → IfErr result (λ other. other ≡ stopped)
+    → MatchResult result (λ closed. ∥ EndedWith lost threads closed.nodes.items (map (λ v. v.items) closed.logs.items) closed.turns.items ∥₁) (λ other. ∥ EndedWith lost threads (nodes_of other) (logs_of other) (turns_of other) ∥₁)
+ended_merely lost threads stopped (Ok closed) ended nodes logs turns same =
+    subst (λ ns. ∥ EndedWith lost threads ns (map (λ v. v.items) closed.logs.items) closed.turns.items ∥₁) (sym nodes)
+    (subst (λ ls. ∥ EndedWith lost threads (nodes_of stopped) ls closed.turns.items ∥₁) (sym logs) (subst (λ ts. ∥ EndedWith lost threads (nodes_of stopped) (logs_of stopped) ts ∥₁) (sym turns) ended))
+ended_merely lost threads stopped (Err other) ended nodes logs turns same = subst (λ (s : Stopped). ∥ EndedWith lost threads (nodes_of s) (logs_of s) (turns_of s) ∥₁) (sym same) ended
 
 -- what they said and heard is in what is finished
 pub heard_merely : {K : Type 0} (threads : List (Thread K)) (clients : List Client) (stopped : Stopped) (result : Result Closed Stopped)
@@ -133,14 +139,14 @@ finished_losing lost stopped (Err other) are is = tt
 
 -- it is one run
 pub finished_losing_run : {K : Type 0}
-    → ((given : Config) (lost : List Bool) (threads : List (Thread K)) (nodes : List NodeOf) (logs : List (List (ℕ × NodeEvent))) (schedule : List FrameStep)
-    → AreMade given (map begun_by threads) → EndedWith lost threads nodes logs → IsLosingSchedule logs lost schedule → AreOneLosingRun given lost nodes schedule)
+    → ((given : Config) (lost : List Bool) (threads : List (Thread K)) (nodes : List NodeOf) (logs : List (List (ℕ × NodeEvent))) (turns : List TurnCount) (schedule : List FrameStep)
+    → AreMade given (map begun_by threads) → EndedWith lost threads nodes logs turns → IsLosingSchedule logs lost schedule → AreOneLosingRun given lost nodes schedule)
     → (lost : List Bool) (threads : List (Thread K)) (result : Result Closed Stopped)
-    → MatchResult result (λ closed. ∥ EndedWith lost threads closed.nodes.items (map (λ v. v.items) closed.logs.items) ∥₁) (λ other. ∥ EndedWith lost threads (nodes_of other) (logs_of other) ∥₁)
+    → MatchResult result (λ closed. ∥ EndedWith lost threads closed.nodes.items (map (λ v. v.items) closed.logs.items) closed.turns.items ∥₁) (λ other. ∥ EndedWith lost threads (nodes_of other) (logs_of other) (turns_of other) ∥₁)
     → IfOk result (λ closed. IsLosingSchedule (map (λ v. v.items) closed.logs.items) lost closed.schedule.items)
     → IfOk result (λ closed. (given : Config) → AreMade given (map begun_by threads) → ∥ AreOneLosingRun given lost closed.nodes.items closed.schedule.items ∥₁)
 finished_losing_run law lost threads (Ok closed) ended is = λ given made.
-    ∥∥₁_map ended (λ e. law given lost threads closed.nodes.items (map (λ v. v.items) closed.logs.items) closed.schedule.items made e is)
+    ∥∥₁_map ended (λ e. law given lost threads closed.nodes.items (map (λ v. v.items) closed.logs.items) closed.turns.items closed.schedule.items made e is)
 finished_losing_run law lost threads (Err other) ended is = tt
 
 -- the schedule, where none was lost
@@ -152,15 +158,15 @@ finished_schedule lost stopped (Err other) are is = tt
 
 -- it is one run
 pub finished_run : {K : Type 0}
-    → ((given : Config) (lost : List Bool) (threads : List (Thread K)) (nodes : List NodeOf) (logs : List (List (ℕ × NodeEvent))) (schedule : List FrameStep)
-    → NobodyLost lost → AreMade given (map begun_by threads) → EndedWith lost threads nodes logs → IsSchedule logs (length logs) schedule → AreOneRun given nodes logs schedule)
+    → ((given : Config) (lost : List Bool) (threads : List (Thread K)) (nodes : List NodeOf) (logs : List (List (ℕ × NodeEvent))) (turns : List TurnCount) (schedule : List FrameStep)
+    → NobodyLost lost → AreMade given (map begun_by threads) → EndedWith lost threads nodes logs turns → IsSchedule logs (length logs) schedule → AreOneRun given nodes logs schedule)
     → (lost : List Bool) (threads : List (Thread K)) (result : Result Closed Stopped)
-    → (NobodyLost lost → MatchResult result (λ closed. EndedWith lost threads closed.nodes.items (map (λ v. v.items) closed.logs.items)) (λ other. EndedWith lost threads (nodes_of other) (logs_of other)))
+    → (NobodyLost lost → MatchResult result (λ closed. EndedWith lost threads closed.nodes.items (map (λ v. v.items) closed.logs.items) closed.turns.items) (λ other. EndedWith lost threads (nodes_of other) (logs_of other) (turns_of other)))
     → IfOk result (λ closed. NobodyLost lost → IsSchedule (map (λ v. v.items) closed.logs.items) (length closed.logs.items) closed.schedule.items)
     → IfOk result (λ closed. NobodyLost lost → (given : Config) → AreMade given (map begun_by threads)
     → AreOneRun given closed.nodes.items (map (λ v. v.items) closed.logs.items) closed.schedule.items)
 finished_run law lost threads (Ok closed) ended is = λ nobody given made.
-    law given lost threads closed.nodes.items (map (λ v. v.items) closed.logs.items) closed.schedule.items nobody made (ended nobody)
+    law given lost threads closed.nodes.items (map (λ v. v.items) closed.logs.items) closed.turns.items closed.schedule.items nobody made (ended nobody)
     (subst (λ n. IsSchedule (map (λ v. v.items) closed.logs.items) n closed.schedule.items) (sym (length-map closed.logs.items (λ v. v.items))) (is nobody))
 finished_run law lost threads (Err other) ended is = tt
 
@@ -202,27 +208,27 @@ joined_agree law stopped (Err other) run = tt
 
 -- what a thread made joins to one run, where no node was lost
 pub stopped_joins : {K : Type 0}
-    → ((given : Config) (lost : List Bool) (threads : List (Thread K)) (nodes : List NodeOf) (logs : List (List (ℕ × NodeEvent))) (schedule : List FrameStep)
-    → NobodyLost lost → AreMade given (map begun_by threads) → EndedWith lost threads nodes logs → IsSchedule logs (length logs) schedule → AreOneRun given nodes logs schedule)
-    → (lost : List Bool) (threads : List (Thread K)) (stopped : Stopped) (result : Result Closed Stopped) → (NobodyLost lost → EndedWith lost threads (nodes_of stopped) (logs_of stopped))
+    → ((given : Config) (lost : List Bool) (threads : List (Thread K)) (nodes : List NodeOf) (logs : List (List (ℕ × NodeEvent))) (turns : List TurnCount) (schedule : List FrameStep)
+    → NobodyLost lost → AreMade given (map begun_by threads) → EndedWith lost threads nodes logs turns → IsSchedule logs (length logs) schedule → AreOneRun given nodes logs schedule)
+    → (lost : List Bool) (threads : List (Thread K)) (stopped : Stopped) (result : Result Closed Stopped) → (NobodyLost lost → EndedWith lost threads (nodes_of stopped) (logs_of stopped) (turns_of stopped))
     → IfErr result (λ other. other ≡ stopped)
     → IfErr result (λ other. NobodyLost lost → (given : Config) → AreMade given (map begun_by threads) → JoinsToOneRun given (nodes_of other) (logs_of other))
 stopped_joins law lost threads stopped (Ok closed) ended same = tt
 stopped_joins law lost threads stopped (Err other) ended same = λ nobody given made.
     subst (λ (s : Stopped). JoinsToOneRun given (nodes_of s) (logs_of s)) (sym same)
-    (λ schedule is. law given lost threads (nodes_of stopped) (logs_of stopped) schedule nobody made (ended nobody) is)
+    (λ schedule is. law given lost threads (nodes_of stopped) (logs_of stopped) (turns_of stopped) schedule nobody made (ended nobody) is)
 
 -- what threads made joins to one run of the machine with losses, whoever was lost
 pub stopped_joins_losing : {K : Type 0}
-    → ((given : Config) (lost : List Bool) (threads : List (Thread K)) (nodes : List NodeOf) (logs : List (List (ℕ × NodeEvent))) (schedule : List FrameStep)
-    → AreMade given (map begun_by threads) → EndedWith lost threads nodes logs → IsLosingSchedule logs lost schedule → AreOneLosingRun given lost nodes schedule)
-    → (lost : List Bool) (threads : List (Thread K)) (stopped : Stopped) (result : Result Closed Stopped) → ∥ EndedWith lost threads (nodes_of stopped) (logs_of stopped) ∥₁
+    → ((given : Config) (lost : List Bool) (threads : List (Thread K)) (nodes : List NodeOf) (logs : List (List (ℕ × NodeEvent))) (turns : List TurnCount) (schedule : List FrameStep)
+    → AreMade given (map begun_by threads) → EndedWith lost threads nodes logs turns → IsLosingSchedule logs lost schedule → AreOneLosingRun given lost nodes schedule)
+    → (lost : List Bool) (threads : List (Thread K)) (stopped : Stopped) (result : Result Closed Stopped) → ∥ EndedWith lost threads (nodes_of stopped) (logs_of stopped) (turns_of stopped) ∥₁
     → IfErr result (λ other. other ≡ stopped)
     → IfErr result (λ other. (given : Config) → AreMade given (map begun_by threads) → JoinsToOneLosingRun given lost (nodes_of other) (logs_of other))
 stopped_joins_losing law lost threads stopped (Ok closed) ended same = tt
 stopped_joins_losing law lost threads stopped (Err other) ended same = λ given made.
     subst (λ (s : Stopped). JoinsToOneLosingRun given lost (nodes_of s) (logs_of s)) (sym same)
-    (λ schedule is. ∥∥₁_map ended (λ e. law given lost threads (nodes_of stopped) (logs_of stopped) schedule made e is))
+    (λ schedule is. ∥∥₁_map ended (λ e. law given lost threads (nodes_of stopped) (logs_of stopped) (turns_of stopped) schedule made e is))
 
 -- ---- survivors
 
@@ -249,10 +255,10 @@ joined_survivors law stopped (Err other) nodes logs lost is = tt
 
 -- and of a cluster that has ended
 pub closed_survivors : {K : Type 0} → SurvivorsOfOneRun
-    → ((given : Config) (lost : List Bool) (threads : List (Thread K)) (nodes : List NodeOf) (logs : List (List (ℕ × NodeEvent))) (schedule : List FrameStep)
-    → AreMade given (map begun_by threads) → EndedWith lost threads nodes logs → IsLosingSchedule logs lost schedule → AreOneLosingRun given lost nodes schedule)
+    → ((given : Config) (lost : List Bool) (threads : List (Thread K)) (nodes : List NodeOf) (logs : List (List (ℕ × NodeEvent))) (turns : List TurnCount) (schedule : List FrameStep)
+    → AreMade given (map begun_by threads) → EndedWith lost threads nodes logs turns → IsLosingSchedule logs lost schedule → AreOneLosingRun given lost nodes schedule)
     → (lost : List Bool) (threads : List (Thread K)) (result : Result Closed Stopped)
-    → MatchResult result (λ closed. ∥ EndedWith lost threads closed.nodes.items (map (λ v. v.items) closed.logs.items) ∥₁) (λ other. ∥ EndedWith lost threads (nodes_of other) (logs_of other) ∥₁)
+    → MatchResult result (λ closed. ∥ EndedWith lost threads closed.nodes.items (map (λ v. v.items) closed.logs.items) closed.turns.items ∥₁) (λ other. ∥ EndedWith lost threads (nodes_of other) (logs_of other) (turns_of other) ∥₁)
     → IfOk result (λ closed. IsLosingSchedule (map (λ v. v.items) closed.logs.items) lost closed.schedule.items)
     → MatchResult result (λ closed. closed.lost.items ≡ lost) (λ other. losses_of other ≡ lost)
     → IfOk result (λ closed. (given : Config) → AreMade given (map begun_by threads) → ∥ SurvivorsAgree closed.nodes.items closed.lost.items closed.logs.items ∥₁)
@@ -262,5 +268,5 @@ closed_survivors law runs lost threads (Ok closed) ended is same = λ given made
     sym (length-map closed.logs.items (λ v. v.items)) ∙ (ap length e.logged ∙ (length-map e.rans (λ ran. log_in ran.run) ∙ (sym (length-map e.rans (λ ran. node_in ran.run)) ∙ ap length (sym e.ended)))) in
     subst (λ ls. SurvivorsAgree closed.nodes.items ls closed.logs.items) (sym same)
     (law given lost closed.nodes.items closed.logs.items closed.schedule.items
-    (runs given lost threads closed.nodes.items (map (λ v. v.items) closed.logs.items) closed.schedule.items made e is) count is))
+    (runs given lost threads closed.nodes.items (map (λ v. v.items) closed.logs.items) closed.turns.items closed.schedule.items made e is) count is))
 closed_survivors law runs lost threads (Err other) ended is same = tt

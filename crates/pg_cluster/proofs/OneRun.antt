@@ -51,6 +51,7 @@ use Rattle.pg_frame_world.proofs.Ordered.{ordered_length}
 use Rattle.pg_frame_world.proofs.Peering.{peers_differ}
 use Rattle.pg_frame_world.proofs.Turning.{pair_is}
 use Rattle.pg_term.specs.Same.{same_atom}
+use Rattle.pg_cluster.specs.declared.closed.TurnCount.{TurnCount}
 use Rattle.pg_cluster.specs.Ended.{row_at}
 use Rattle.pg_cluster.specs.Notices.{IsOfLost, NobodyLost}
 use Rattle.pg_cluster.specs.Schedule.{IsLosingSchedule, IsSchedule, is_lost_in, node_of_peer, step_as, steps_of}
@@ -169,7 +170,7 @@ all_at : {A : Type 0} (P : A → Type 0) (xs : List A) (i : ℕ) (d : A) → All
 all_at P xs i d all low = all i d low
 
 module _ {K : Type 0} (given : Config) (lost : List Bool) (threads : List (Thread K)) (nodes : List NodeOf) (logs : List (List (ℕ × NodeEvent)))
-    (made : AreMade given (map begun_by threads)) (ended : EndedWith lost threads nodes logs) (thread : Thread K) (ran : RanOf K) where
+    (made : AreMade given (map begun_by threads)) {turns : List TurnCount} (ended : EndedWith lost threads nodes logs turns) (thread : Thread K) (ran : RanOf K) where
   abbrev pub config : Config
   config = made.begins.0
 
@@ -450,9 +451,9 @@ first_of (t ∷ threads) (r ∷ rans) some e = (t, r)
 pub one_run : {K : Type 0}
     → ((config : Config) (begun_nodes : List NodeOf) (begun ended : ℕ → Linked) (order : List (ℕ × ℕ)) → RanApart config begun_nodes begun ended
     → Merges (length config) (λ i. clocks_of (log_of (ended i))) order → RanTogether config ended (events_in ended order))
-    → (given : Config) (lost : List Bool) (threads : List (Thread K)) (nodes : List NodeOf) (logs : List (List (ℕ × NodeEvent))) (schedule : List FrameStep)
-    → NobodyLost lost → AreMade given (map begun_by threads) → EndedWith lost threads nodes logs → IsSchedule logs (length logs) schedule → AreOneRun given nodes logs schedule
-one_run law given lost threads nodes logs schedule nobody made ended is =
+    → (given : Config) (lost : List Bool) (threads : List (Thread K)) (nodes : List NodeOf) (logs : List (List (ℕ × NodeEvent))) (turns : List TurnCount) (schedule : List FrameStep)
+    → NobodyLost lost → AreMade given (map begun_by threads) → EndedWith lost threads nodes logs turns → IsSchedule logs (length logs) schedule → AreOneRun given nodes logs schedule
+one_run law given lost threads nodes logs turns schedule nobody made ended is =
     let count = length-map threads begun_by in
     let s = made.some in
     let m = made.count in
@@ -465,9 +466,9 @@ pub losing_run : {K : Type 0}
     → ((config : Config) (begun_nodes : List NodeOf) (begun ended : ℕ → Linked) (lost : ℕ → Bool) (order : List (ℕ × ℕ)) → RanLosing config begun_nodes begun ended lost
     → Merges (length config) (λ i. clocks_of (log_of (ended i))) order → RanPastLosses config lost ended (losing_events (length config) (λ i. log_of (ended i)) lost order))
     → ((config : Config) (u : LosingFrameWorld) (events : List (LosingEvent Action)) → IsDistinct same_atom (names_of config) → LosingReaches config events u → LossesSurvived config events u)
-    → (given : Config) (lost : List Bool) (threads : List (Thread K)) (nodes : List NodeOf) (logs : List (List (ℕ × NodeEvent))) (schedule : List FrameStep)
-    → AreMade given (map begun_by threads) → EndedWith lost threads nodes logs → IsLosingSchedule logs lost schedule → AreOneLosingRun given lost nodes schedule
-losing_run law survive given lost threads nodes logs schedule made ended is =
+    → (given : Config) (lost : List Bool) (threads : List (Thread K)) (nodes : List NodeOf) (logs : List (List (ℕ × NodeEvent))) (turns : List TurnCount) (schedule : List FrameStep)
+    → AreMade given (map begun_by threads) → EndedWith lost threads nodes logs turns → IsLosingSchedule logs lost schedule → AreOneLosingRun given lost nodes schedule
+losing_run law survive given lost threads nodes logs turns schedule made ended is =
     let count = length-map threads begun_by in
     let s = made.some in
     let m = made.count in

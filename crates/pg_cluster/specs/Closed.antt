@@ -5,6 +5,7 @@ use Rattle.pg_run.specs.declared.notices.Notice.{Notice}
 use Rattle.pg_run.specs.declared.log.NodeEvent.{NodeEvent}
 use Rattle.pg_run.specs.declared.port.Client.{Client}
 use Rattle.pg_cluster.specs.declared.closed.Stopped.{Stopped}
+use Rattle.pg_cluster.specs.declared.closed.TurnCount.{TurnCount}
 use Rattle.pg_cluster.specs.declared.cluster.Cluster.{Cluster}
 use Rattle.pg_cluster.specs.Members.{last_of, threads_in, losses_in}
 use Rattle.pg_cluster.specs.Clients.{AllPairs}
@@ -42,7 +43,7 @@ pub record NoticesCame {K : Type 0} (tellers : List (SlotOut Notice)) (threads :
 abbrev pub lost_of : {K : Type 0} → Cluster K → List Bool
 lost_of cluster = losses_in cluster.members.items
 
--- the nodes of a cluster whose threads have ended, their logs, and its clients
+-- the nodes of a cluster whose threads have ended, their logs and turns, and its clients
 abbrev pub nodes_of : Stopped → List NodeOf
 nodes_of stopped = stopped.nodes.items
 
@@ -51,6 +52,9 @@ losses_of stopped = stopped.lost.items
 
 abbrev pub logs_of : Stopped → List (List (ℕ × NodeEvent))
 logs_of stopped = map (λ v. v.items) stopped.logs.items
+
+abbrev pub turns_of : Stopped → List TurnCount
+turns_of stopped = stopped.turns.items
 
 abbrev pub clients_of : Stopped → List Client
 clients_of stopped = stopped.clients.items

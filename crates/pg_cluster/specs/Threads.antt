@@ -22,6 +22,7 @@ use Rattle.pg_run.specs.Follows.{node_of, peers_of, log_of}
 use Rattle.pg_run.specs.Ports.{IsUnused}
 use Rattle.pg_run.specs.Notices.{IsUntold}
 use Rattle.pg_run.specs.Runs.{linked_of, ports_at, notices_at, notices_of}
+use Rattle.pg_cluster.specs.declared.closed.TurnCount.{TurnCount}
 use Rattle.pg_cluster.specs.declared.promise.RanFrom.{RanFrom}
 use Rattle.pg_step.specs.Config.{Config}
 use Rattle.pg_joining.specs.Apart.{End}
@@ -133,14 +134,19 @@ module _ {K : Type 0} where
   abbrev pub lasts_ended : List (RanOf K) → List ℕ
   lasts_ended rans = map (λ ran. (state_of (held_by (node_in ran.run))).clock) rans
 
-  -- Each thread ran its node, from where it began, to one of these nodes, with one of these logs; what crossed between each two is
-  -- what was sent; the notices that came at each node are of nodes that were lost, with their clocks at last; and where no node was
-  -- lost no notice of a loss came.
-  pub record EndedWith (lost : List Bool) (threads : List (Thread K)) (nodes : List NodeOf) (logs : List (List (ℕ × NodeEvent))) : Type 0 where
+  -- how many turns a node made as it ran, and how many of them were short
+  abbrev pub turns_in : RanOf K → TurnCount
+  turns_in ran = record { made = ran.turns; short = ran.short }
+
+  -- Each thread ran its node, from where it began, to one of these nodes, with one of these logs, in so many turns; what crossed
+  -- between each two is what was sent; the notices that came at each node are of nodes that were lost, with their clocks at last; and
+  -- where no node was lost no notice of a loss came.
+  pub record EndedWith (lost : List Bool) (threads : List (Thread K)) (nodes : List NodeOf) (logs : List (List (ℕ × NodeEvent))) (turns : List TurnCount) : Type 0 where
     pub rans : List (RanOf K)
     pub joined : Joined threads rans
     pub ended : nodes ≡ map (λ ran. node_in ran.run) rans
     pub logged : logs ≡ map (λ ran. log_in ran.run) rans
+    pub counted : turns ≡ map turns_in rans
     pub crossed : AllCrossed (length threads) (rows_begun threads) (rows_ended rans)
     pub marked : length lost ≡ length threads
     pub told : (place : ℕ) (none : SlotIn Notice) → place < length lost

@@ -20,11 +20,21 @@ use pg_world::FrameStep;
 use rand_core::Rng;
 use std::alloc::{AllocError, Global};
 
+/// How many turns the thread of a node made.
+#[derive(Clone, Copy, Debug, PartialEq, Eq)]
+pub struct TurnCount {
+    /// How many it made; that in which it was stopped counts not.
+    pub made: u64,
+    /// How many of them were short.
+    pub short: u64,
+}
+
 /// A cluster whose threads have ended, without its schedule.
 #[derive(Drop)]
 pub struct Stopped {
     nodes: Vec<Node<IndexTable>>,
     logs: Vec<Vec<LogEntry>>,
+    turns: Vec<TurnCount>,
     clients: Vec<Client>,
     // Which of the nodes were lost.
     lost: Vec<bool>,
@@ -38,6 +48,8 @@ pub struct Closed {
     pub nodes: Vec<Node<IndexTable>>,
     /// The log of each node: its events with the clocks that they set.
     pub logs: Vec<Vec<LogEntry>>,
+    /// How many turns each node made.
+    pub turns: Vec<TurnCount>,
     /// The events of all nodes as steps of one world.
     pub schedule: Vec<FrameStep>,
     /// The clients, those of the first node first.
@@ -48,7 +60,7 @@ pub struct Closed {
 
 impl Stopped {
     ghost use Rattle.pg_cluster.specs.Closed.{JoinsToOneLosingRun, JoinsToOneRun};
-    ghost use Rattle.pg_cluster.specs.Closed.{nodes_of, logs_of, losses_of, clients_of};
+    ghost use Rattle.pg_cluster.specs.Closed.{nodes_of, logs_of, turns_of, losses_of, clients_of};
     ghost use Rattle.pg_cluster.specs.Judges.{Agree};
     ghost use Rattle.pg_cluster.specs.Survivors.{SurvivorsAgree};
     ghost use Rattle.pg_cluster.specs.Together.{AreOneLosingRun, AreOneRun};
@@ -61,17 +73,20 @@ impl Stopped {
         alloc: Global,
         nodes: Vec<Node<IndexTable>>,
         logs: Vec<Vec<LogEntry>>,
+        turns: Vec<TurnCount>,
         clients: Vec<Client>,
         lost: Vec<bool>,
     ) -> Stopped
         ensures nodes { nodes_of result ≡ nodes.items }
         ensures logs { logs_of result ≡ map (λ v. v.items) logs.items }
+        ensures turns { turns_of result ≡ turns.items }
         ensures clients { clients_of result ≡ clients.items }
         ensures lost { losses_of result ≡ lost.items }
     {
         Stopped {
             nodes,
             logs,
+            turns,
             clients,
             lost,
             alloc,
@@ -99,6 +114,7 @@ impl Stopped {
             → ∥ AreOneLosingRun given (losses_of self) closed.nodes.items closed.schedule.items ∥₁) }
         ensures survivors { IfOk result (λ closed. (given : Configuration) → JoinsToOneLosingRun given (losses_of self) (nodes_of self) (logs_of self)
             → length (logs_of self) ≡ length (nodes_of self) → ∥ SurvivorsAgree closed.nodes.items closed.lost.items closed.logs.items ∥₁) }
+        ensures turns { IfOk result (λ closed. closed.turns.items ≡ turns_of self) }
         ensures clients { IfOk result (λ closed. closed.clients.items ≡ clients_of self) }
         ensures lost { IfOk result (λ closed. closed.lost.items ≡ losses_of self) }
         ensures err { IfErr result (λ stopped. stopped ≡ self) }
@@ -115,6 +131,7 @@ impl Stopped {
         ensures nodes { IfOk result (λ closed. closed.nodes.items ≡ nodes_of self) }
         ensures logs { IfOk result (λ closed. map (λ v. v.items) closed.logs.items ≡ logs_of self) }
         ensures events { IfOk result (λ closed. IsLosingSchedule (map (λ v. v.items) closed.logs.items) (losses_of self) closed.schedule.items) }
+        ensures turns { IfOk result (λ closed. closed.turns.items ≡ turns_of self) }
         ensures clients { IfOk result (λ closed. closed.clients.items ≡ clients_of self) }
         ensures lost { IfOk result (λ closed. closed.lost.items ≡ losses_of self) }
         ensures err { IfErr result (λ stopped. stopped ≡ self) }
@@ -123,6 +140,7 @@ impl Stopped {
             Ok(schedule) => Ok(Closed {
                 nodes: self.nodes,
                 logs: self.logs,
+                turns: self.turns,
                 schedule,
                 clients: self.clients,
                 lost: self.lost,
@@ -145,13 +163,13 @@ fn schedule_of(
 }
 
 ghost use Rattle.pg_ring.specs.Slots.{AreSlots};
-ghost use Rattle.pg_cluster.specs.Closed.{nodes_of as nodes_with, logs_of as logs_with};
+ghost use Rattle.pg_cluster.specs.Closed.{nodes_of as nodes_with, logs_of as logs_with, turns_of as turns_with};
 ghost use Rattle.pg_cluster.specs.Closed.{losses_of as losses_with, clients_of as clients_with};
 ghost use Rattle.pg_run.specs.Ports.{ArePort, Meets};
 ghost use Rattle.pg_cluster.specs.Clients.{AllPairs, ClientsRest, ports_ended};
 ghost use Rattle.pg_cluster.specs.Ended.{AreJoined, AllArrived};
 ghost use Rattle.pg_cluster.specs.Notices.{Told};
-ghost use Rattle.pg_cluster.specs.Threads.{node_in, log_in, rows_ended, notices_ended};
+ghost use Rattle.pg_cluster.specs.Threads.{node_in, log_in, turns_in, rows_ended, notices_ended};
 
 /// What stopped, of what the threads gave back: both ends of each ring, of each port and of where each node was told of losses are
 /// looked at before they go. There is room for its nodes, its links, its logs, its ports and its notices.
@@ -169,6 +187,7 @@ pub(crate) fn stopped_of<K: Rng + Drop>(
     requires notices { AllPairs AreSlots tellers.items (notices_ended rans.items) }
     ensures nodes { nodes_with result ≡ map (λ ran. node_in ran.run) rans.items }
     ensures logs { logs_with result ≡ map (λ ran. log_in ran.run) rans.items }
+    ensures turns { turns_with result ≡ map turns_in rans.items }
     ensures clients { ClientsRest clients.items (clients_with result) }
     ensures arrived { AllArrived (length rans.items) (rows_ended rans.items) }
     ensures meets { AllPairs Meets clients.items (ports_ended rans.items) }
@@ -179,6 +198,7 @@ pub(crate) fn stopped_of<K: Rng + Drop>(
         nodes,
         rows,
         logs,
+        turns,
         mut ports,
         notices,
     } = parts_of(rans, room);
@@ -186,7 +206,7 @@ pub(crate) fn stopped_of<K: Rng + Drop>(
     settle_notices(tellers, notices);
     let mut clients = clients;
     settle_ports(&mut ports, &mut clients);
-    Stopped::new(alloc, nodes, logs, clients, lost)
+    Stopped::new(alloc, nodes, logs, turns, clients, lost)
 }
 
 /// What the threads gave back, taken apart, in the order of the nodes.
@@ -197,6 +217,7 @@ fn parts_of<K: Rng + Drop>(rans: Vec<NodeRan<K>>, room: Room) -> Room
     ensures nodes { result.nodes.items ≡ map (λ ran. node_in ran.run) rans.items }
     ensures rows { map (λ v. v.items) result.rows.items ≡ rows_ended rans.items }
     ensures logs { map (λ v. v.items) result.logs.items ≡ map (λ ran. log_in ran.run) rans.items }
+    ensures turns { result.turns.items ≡ map turns_in rans.items }
     ensures ports { result.ports.items ≡ ports_ended rans.items }
     ensures notices { result.notices.items ≡ notices_ended rans.items }
 {
@@ -209,6 +230,10 @@ fn parts_of<K: Rng + Drop>(rans: Vec<NodeRan<K>>, room: Room) -> Room
         parts.logs.push_reserved(log);
         move_ports(&mut parts.ports, own);
         parts.notices.push_reserved(inlet);
+        parts.turns.push_reserved(TurnCount {
+            made: ran.turns,
+            short: ran.short,
+        });
     }
     parts
 }
@@ -219,6 +244,7 @@ pub(crate) struct Room {
     pub nodes: Vec<Node<IndexTable>>,
     pub rows: Vec<Row>,
     pub logs: Vec<Vec<LogEntry>>,
+    pub turns: Vec<TurnCount>,
     pub ports: Vec<Port>,
     pub notices: Vec<SlotIn<Notice>>,
 }
@@ -236,12 +262,14 @@ impl Room {
         let nodes = Vec::with_capacity(alloc, count)?;
         let rows = Vec::with_capacity(alloc, count)?;
         let logs = Vec::with_capacity(alloc, count)?;
+        let turns = Vec::with_capacity(alloc, count)?;
         let ports = Vec::with_capacity(alloc, places)?;
         let notices = Vec::with_capacity(alloc, count)?;
         Ok(Room {
             nodes,
             rows,
             logs,
+            turns,
             ports,
             notices,
         })

@@ -85,7 +85,7 @@ impl<K: Rng + Drop + Send + 'static> Cluster<K> {
     ghost use Rattle.pg_run.specs.Ports.{IsSilent};
     ghost use Rattle.pg_cluster.specs.Clients.{AreClients, ClientsRest, AllHeard};
     ghost use Rattle.pg_cluster.specs.Closed.{AllTold, JoinsToOneLosingRun, JoinsToOneRun, NoticesCame, tellers_of};
-    ghost use Rattle.pg_cluster.specs.Closed.{threads_of, lost_of, nodes_of, logs_of, losses_of, clients_of};
+    ghost use Rattle.pg_cluster.specs.Closed.{threads_of, lost_of, nodes_of, logs_of, turns_of, losses_of, clients_of};
     ghost use Rattle.pg_cluster.specs.Fault.{CantRun};
     ghost use Rattle.pg_cluster.specs.Notices.{NobodyLost};
     ghost use Rattle.pg_node_state.specs.declared.state.fault.NodeFault.TheVariants.{Refused};
@@ -207,8 +207,10 @@ impl<K: Rng + Drop + Send + 'static> Cluster<K> {
     pub fn close<R: Threads>(self, rt: &R, clients: Vec<Client>) -> Result<Closed, Stopped>
         requires clients { AreClients (threads_of self) clients.items }
         ensures ended { MatchResult result
-            (λ closed. ∥ EndedWith (lost_of self) (threads_of self) closed.nodes.items (map (λ v. v.items) closed.logs.items) ∥₁)
-            (λ stopped. ∥ EndedWith (lost_of self) (threads_of self) (nodes_of stopped) (logs_of stopped) ∥₁) }
+            (λ closed. ∥ EndedWith (lost_of self) (threads_of self) closed.nodes.items (map (λ v. v.items) closed.logs.items)
+            closed.turns.items ∥₁)
+            (λ stopped. ∥ EndedWith (lost_of self) (threads_of self) (nodes_of stopped) (logs_of stopped)
+            (turns_of stopped) ∥₁) }
         ensures one_run { IfOk result (λ closed. NobodyLost (lost_of self) → (given : Configuration) → AreMade given (map begun_by (threads_of self))
             → AreOneRun given closed.nodes.items (map (λ v. v.items) closed.logs.items) closed.schedule.items) }
         ensures agree { IfOk result (λ closed. NobodyLost (lost_of self) → (given : Configuration) → AreMade given (map begun_by (threads_of self))
@@ -243,8 +245,10 @@ impl<K: Rng + Drop + Send + 'static> Cluster<K> {
     /// Stops the threads and joins them: what stopped. It may wait for threads.
     fn stop<R: Threads>(self, rt: &R, clients: Vec<Client>) -> Stopped
         requires clients { AreClients (threads_of self) clients.items }
-        ensures ended { ∥ EndedWith (lost_of self) (threads_of self) (nodes_of result) (logs_of result) ∥₁ }
-        ensures alone { NobodyLost (lost_of self) → EndedWith (lost_of self) (threads_of self) (nodes_of result) (logs_of result) }
+        ensures ended { ∥ EndedWith (lost_of self) (threads_of self) (nodes_of result) (logs_of result)
+            (turns_of result) ∥₁ }
+        ensures alone { NobodyLost (lost_of self)
+            → EndedWith (lost_of self) (threads_of self) (nodes_of result) (logs_of result) (turns_of result) }
         ensures heard { (given : Configuration) → AreMade given (map begun_by (threads_of self))
             → ∥ AllHeard (threads_of self) (nodes_of result) (logs_of result) clients.items ∥₁ }
         ensures lost { losses_of result ≡ lost_of self }

@@ -4,6 +4,7 @@ ghost use Rattle.std.specs.declared.vec.Vec.{Vec};
 ghost use Rattle.pg_run.specs.declared.log.NodeEvent.{NodeEvent};
 ghost use Rattle.pg_step.specs.Config.{Config};
 ghost use Rattle.pg_frame_world.specs.declared.step.FrameStep.{FrameStep};
+ghost use Rattle.pg_cluster.specs.declared.closed.TurnCount.{TurnCount};
 ghost use Rattle.pg_cluster.specs.Judges.{Agree, Replays, ReplaysPastLosses};
 ghost use Rattle.pg_cluster.specs.Notices.{NobodyLost};
 ghost use Rattle.pg_cluster.specs.Schedule.{IsSchedule, IsLosingSchedule};
@@ -20,9 +21,10 @@ use pg_retries::each_world_past_losses;
 /// after another from the start, each node does there what its log has and comes to where it ended, and of the world to which
 /// they lead everything holds that `one_history` of pg_history says.
 pub fn threads_are_one_run<K>()
-    ensures { (given : Config) (lost : List Bool) (threads : List (Thread K)) (nodes : List NodeOf) (logs : List (List (ℕ × NodeEvent))) (schedule : List FrameStep)
-        → NobodyLost lost → AreMade given (map begun_by threads) → EndedWith lost threads nodes logs → IsSchedule logs (length logs) schedule
-        → AreOneRun given nodes logs schedule }
+    ensures { (given : Config) (lost : List Bool) (threads : List (Thread K)) (nodes : List NodeOf)
+        (logs : List (List (ℕ × NodeEvent))) (turns : List TurnCount) (schedule : List FrameStep)
+        → NobodyLost lost → AreMade given (map begun_by threads) → EndedWith lost threads nodes logs turns
+        → IsSchedule logs (length logs) schedule → AreOneRun given nodes logs schedule }
 {
     nodes_ran_together();
 }
@@ -31,8 +33,9 @@ pub fn threads_are_one_run<K>()
 /// lead to a world in which just those nodes are lost, that shows each node as it ended, and of which everything holds that survives
 /// losses.
 pub fn threads_are_one_losing_run<K>()
-    ensures { (given : Config) (lost : List Bool) (threads : List (Thread K)) (nodes : List NodeOf) (logs : List (List (ℕ × NodeEvent))) (schedule : List FrameStep)
-        → AreMade given (map begun_by threads) → EndedWith lost threads nodes logs → IsLosingSchedule logs lost schedule
+    ensures { (given : Config) (lost : List Bool) (threads : List (Thread K)) (nodes : List NodeOf)
+        (logs : List (List (ℕ × NodeEvent))) (turns : List TurnCount) (schedule : List FrameStep)
+        → AreMade given (map begun_by threads) → EndedWith lost threads nodes logs turns → IsLosingSchedule logs lost schedule
         → AreOneLosingRun given lost nodes schedule }
 {
     nodes_ran_together_past_losses();

@@ -23,7 +23,7 @@ mod survivors;
 mod threads;
 mod wires;
 
-pub use closed::{Closed, Stopped};
+pub use closed::{Closed, Stopped, TurnCount};
 pub use cluster::Cluster;
 pub use fault::StartFault;
 pub use laws::{

@@ -1,6 +1,6 @@
 //! What a cluster that has ended tells of each of its nodes.
 
-ghost use Rattle.std.specs.Prelude.{◌≡◌, slice_get};
+ghost use Rattle.std.specs.Prelude.{◌≡◌, option_map, slice_get};
 ghost use Rattle.std.specs.Option.{option_and_then, option_copied};
 ghost use Rattle.pg_cluster.specs.Told.{answers_at as answers_given};
 
@@ -21,6 +21,31 @@ impl Closed {
         ensures { result ≡ was_lost self.now.lost.items node }
     {
         was_lost(self.lost.as_slice(), node)
+    }
+
+    /// How many turns the thread of the node at a place made; that in which it was stopped counts not. None where no
+    /// node is there.
+    ///
+    /// Cost: no memory.
+    pub fn turns(&self, node: usize) -> Option<u64>
+        ensures { result ≡ option_map (λ count. count.made) (slice_get self.now.turns.items node) }
+    {
+        match self.turns.get(node) {
+            Some(count) => Some(count.made),
+            None => None,
+        }
+    }
+
+    /// How many of these turns were short: memory or the clock refused something.
+    ///
+    /// Cost: no memory.
+    pub fn short_turns(&self, node: usize) -> Option<u64>
+        ensures { result ≡ option_map (λ count. count.short) (slice_get self.now.turns.items node) }
+    {
+        match self.turns.get(node) {
+            Some(count) => Some(count.short),
+            None => None,
+        }
     }
 
     /// The answers that a node gave at a port, in their order, whether its client polled them or not. `node` and

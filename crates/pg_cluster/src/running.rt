@@ -51,7 +51,7 @@ impl Running {
     ghost use Rattle.pg_step.specs.declared.refusal.Refusal.TheVariants.{NoSuchPlace, NodeLost};
     ghost use Rattle.pg_cluster.specs.Clients.{AllHeard, ClientsRest};
     ghost use Rattle.pg_cluster.specs.Closed.{AllTold, JoinsToOneLosingRun, JoinsToOneRun};
-    ghost use Rattle.pg_cluster.specs.Closed.{NoticesCame, nodes_of, logs_of, losses_of, clients_of};
+    ghost use Rattle.pg_cluster.specs.Closed.{NoticesCame, nodes_of, logs_of, turns_of, losses_of, clients_of};
     ghost use Rattle.pg_cluster.specs.Fault.{CantRun};
     ghost use Rattle.pg_cluster.specs.Judges.{Agree};
     ghost use Rattle.pg_cluster.specs.Notices.{NobodyLost};
@@ -182,8 +182,10 @@ impl Running {
         ensures can { ∥ CanBegin (config_in self).ring (config_in self).starts.items ∥₁ }
         ensures made { ∥ AreMade (config_in self).starts.items (map begun_by (threads_in self)) ∥₁ }
         ensures ended { MatchResult result.0
-            (λ closed. ∥ EndedWith (losses_in self) (threads_in self) closed.nodes.items (map (λ v. v.items) closed.logs.items) ∥₁)
-            (λ stopped. ∥ EndedWith (losses_in self) (threads_in self) (nodes_of stopped) (logs_of stopped) ∥₁) }
+            (λ closed. ∥ EndedWith (losses_in self) (threads_in self) closed.nodes.items (map (λ v. v.items) closed.logs.items)
+            closed.turns.items ∥₁)
+            (λ stopped. ∥ EndedWith (losses_in self) (threads_in self) (nodes_of stopped) (logs_of stopped)
+            (turns_of stopped) ∥₁) }
         ensures one_run { IfOk result.0 (λ closed. NobodyLost (losses_in self)
             → ∥ AreOneRun (config_in self).starts.items closed.nodes.items (map (λ v. v.items) closed.logs.items) closed.schedule.items ∥₁) }
         ensures agree { IfOk result.0 (λ closed. NobodyLost (losses_in self) → ∥ Agree closed.nodes.items closed.logs.items ∥₁) }

@@ -44,8 +44,11 @@ fn of_nodes_and_groups(rt: HostRuntime) {
     let closed = &cluster.closed;
     for (node, line) in MAKING {
         let made = maker(rt.alloc(), &cluster, line);
+        let short = closed.short_turns(node);
         holds(&rt, made == Some(node), "its node made it");
         holds(&rt, closed.is_lost(node) == (node == 2), "only c is lost");
+        holds(&rt, closed.turns(node) > short, "it makes whole turns");
+        holds(&rt, short == Some(0), "and no short ones");
         let answers = closed.answers(node, 0);
         holds(&rt, matches!(answers, Some([_])), "it answers");
         holds(&rt, closed.answers(node, 1).is_none(), "it has one port");

@@ -1,11 +1,11 @@
-use Rattle.std.proofs.Common.{rules, arith, ◌≡◌, ◌∷◌, [], length, map, vec_len, ap, sym, ◌∙◌, length-append}
+use Rattle.std.proofs.Common.{rules, arith, ◌≡◌, ◌∷◌, [], length, map, vec_len, ap, sym, refl, ◌∙◌, length-append}
 use Rattle.std.specs.Prelude.{vec_capacity}
 use Rattle.std.specs.Vec.Iter.{into_iter_items}
 use Rattle.std.proofs.lemmas.List.{length-map, map-append, nil_from_length}
 use Rattle.pg_run.specs.Follows.{node_of, peers_of, log_of}
 use Rattle.pg_run.specs.Runs.{notices_at}
 use Rattle.pg_cluster.specs.Clients.{ports_ended}
-use Rattle.pg_cluster.specs.Threads.{node_in, row_in, log_in, rows_ended, notices_ended}
+use Rattle.pg_cluster.specs.Threads.{node_in, row_in, log_in, turns_in, rows_ended, notices_ended}
 use Rattle.pg_cluster.proofs.Opening.{ports_none_moved, ports_moved, ports_all_moved, room_for_one}
 use Rattle.pg_cluster.proofs.Starts.{all_of_it, all_moved, none_moved, pushed_moves}
 use Rattle.pg_cluster.proofs.closed.parts_of.Goals as goal
@@ -21,7 +21,8 @@ loop-ran-init g c =
     let no_row : room.rows.items ≡ [] = nil_from_length room.rows.items (sym room.rows.ok.0 ∙ has.rows.0) in
     let no_log : room.logs.items ≡ [] = nil_from_length room.logs.items (sym room.logs.ok.0 ∙ has.logs.0) in
     let no_port : room.ports.items ≡ [] = nil_from_length room.ports.items (sym room.ports.ok.0 ∙ has.ports.0) in
-    let no_notice : room.notices.items ≡ [] = nil_from_length room.notices.items (sym room.notices.ok.0 ∙ has.notices.0) in (
+    let no_notice : room.notices.items ≡ [] = nil_from_length room.notices.items (sym room.notices.ok.0 ∙ has.notices.0) in
+    let no_turn : room.turns.items ≡ [] = nil_from_length room.turns.items (sym room.turns.ok.0 ∙ has.turns.0) in (
       tt,
       tt,
       search rules,
@@ -35,6 +36,8 @@ loop-ran-init g c =
       ports_none_moved room.ports.items left rans no_port same,
       search rules,
       none_moved (λ ran. notices_at ran.run) room.notices.items left rans no_notice same,
+      search rules,
+      none_moved turns_in room.turns.items left rans no_turn same,
     )
 
 pub loop-ran-preserved : goal.loop-ran-preserved
@@ -73,6 +76,8 @@ loop-ran-preserved g c =
       search rules,
       pushed_moves (λ ran. notices_at ran.run) c.loop-ran.parts.notices.items c.push_reserved-in-loop-ran-3.new.self.items c.into_parts-linked.result.3 old rest ran _ c.push_reserved-in-loop-ran-3.ensures.items
           c.into_parts-linked.ensures.notices step was.12,
+      search rules,
+      pushed_moves turns_in c.loop-ran.parts.turns.items c.push_reserved-in-loop-ran-4.new.self.items _ old rest ran _ c.push_reserved-in-loop-ran-4.ensures.items refl step was.14,
     )
 
 pub returns-clause-rows : goal.returns-clause-rows
@@ -109,3 +114,9 @@ returns-clause-logs g c =
     let left = c.loop-ran.ran-iterator.rest in
     let none : left.items ≡ [] = nil_from_length left.items (sym left.ok.0 ∙ c.in-None.ensures.steps.0) in
     all_moved (λ ran. log_in ran.run) (map (λ v. v.items) c.loop-ran.parts.logs.items) left.items (map (λ ran. log_in ran.run) c.args.rans.items) none c.loop-ran.invariant.7
+
+pub returns-clause-turns : goal.returns-clause-turns
+returns-clause-turns g c =
+    let left = c.loop-ran.ran-iterator.rest in
+    let none : left.items ≡ [] = nil_from_length left.items (sym left.ok.0 ∙ c.in-None.ensures.steps.0) in
+    all_moved turns_in c.loop-ran.parts.turns.items left.items (map turns_in c.args.rans.items) none c.loop-ran.invariant.14

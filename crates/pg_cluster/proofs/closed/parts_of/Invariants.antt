@@ -2,7 +2,7 @@ use Rattle.std.proofs.Common.{◌≡◌, ◌≤◌, ◌+◌, ◌++◌, length, m
 use Rattle.std.specs.Prelude.{vec_len, vec_capacity}
 use Rattle.std.specs.Vec.Iter.{into_iter_items, into_iter_len}
 use Rattle.pg_cluster.specs.Clients.{ports_ended}
-use Rattle.pg_cluster.specs.Threads.{node_in, log_in, row_in, rows_ended, notices_ended}
+use Rattle.pg_cluster.specs.Threads.{node_in, log_in, row_in, turns_in, rows_ended, notices_ended}
 use Rattle.pg_cluster.proofs.closed.parts_of.Given as goal
 
 abbrev pub invariant-loop-ran : goal.invariant-loop-ran
@@ -20,3 +20,5 @@ invariant-loop-ran g l =
     × (l.parts.ports.items ++ ports_ended (into_iter_items l.ran-iterator) ≡ ports_ended l.fn.rans.items)
     × (vec_len l.parts.notices + into_iter_len l.ran-iterator ≤ vec_capacity l.parts.notices)
     × (l.parts.notices.items ++ notices_ended (into_iter_items l.ran-iterator) ≡ notices_ended l.fn.rans.items)
+    × (vec_len l.parts.turns + into_iter_len l.ran-iterator ≤ vec_capacity l.parts.turns)
+    × (l.parts.turns.items ++ map turns_in (into_iter_items l.ran-iterator) ≡ map turns_in l.fn.rans.items)

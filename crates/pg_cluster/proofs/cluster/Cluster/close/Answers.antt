@@ -7,14 +7,14 @@ use Rattle.pg_cluster.proofs.cluster.Cluster.close.Goals as goal
 
 pub returns-clause-ended : goal.returns-clause-ended
 returns-clause-ended g c =
-    ended_merely (lost_of c.args.self) (threads_of c.args.self) c.stop-stopped.result c.finish.result c.stop-stopped.ensures.ended c.finish.ensures.nodes c.finish.ensures.logs c.finish.ensures.err
+    ended_merely (lost_of c.args.self) (threads_of c.args.self) c.stop-stopped.result c.finish.result c.stop-stopped.ensures.ended c.finish.ensures.nodes c.finish.ensures.logs c.finish.ensures.turns c.finish.ensures.err
 
 pub returns-clause-one_run : goal.returns-clause-one_run
 returns-clause-one_run g c =
     let lost = lost_of c.args.self in
     let threads = threads_of c.args.self in
     finished_run c.threads_are_one_run.ensures lost threads c.finish.result
-    (λ nobody. finished_ended lost threads c.stop-stopped.result c.finish.result (c.stop-stopped.ensures.alone nobody) c.finish.ensures.nodes c.finish.ensures.logs c.finish.ensures.err)
+    (λ nobody. finished_ended lost threads c.stop-stopped.result c.finish.result (c.stop-stopped.ensures.alone nobody) c.finish.ensures.nodes c.finish.ensures.logs c.finish.ensures.turns c.finish.ensures.err)
     (finished_schedule lost c.stop-stopped.result c.finish.result c.stop-stopped.ensures.lost c.finish.ensures.schedule)
 
 pub returns-clause-agree : goal.returns-clause-agree
@@ -23,7 +23,7 @@ returns-clause-agree g c =
     let threads = threads_of c.args.self in
     closed_agree c.nodes_of_one_run_agree.ensures lost threads c.finish.result
     (finished_run c.threads_are_one_run.ensures lost threads c.finish.result
-    (λ nobody. finished_ended lost threads c.stop-stopped.result c.finish.result (c.stop-stopped.ensures.alone nobody) c.finish.ensures.nodes c.finish.ensures.logs c.finish.ensures.err)
+    (λ nobody. finished_ended lost threads c.stop-stopped.result c.finish.result (c.stop-stopped.ensures.alone nobody) c.finish.ensures.nodes c.finish.ensures.logs c.finish.ensures.turns c.finish.ensures.err)
     (finished_schedule lost c.stop-stopped.result c.finish.result c.stop-stopped.ensures.lost c.finish.ensures.schedule))
 
 pub returns-clause-heard : goal.returns-clause-heard
@@ -39,7 +39,7 @@ returns-clause-events g c = finished_losing (lost_of c.args.self) c.stop-stopped
 pub returns-clause-losing_run : goal.returns-clause-losing_run
 returns-clause-losing_run g c =
     finished_losing_run c.threads_are_one_losing_run.ensures (lost_of c.args.self) (threads_of c.args.self) c.finish.result
-    (ended_merely (lost_of c.args.self) (threads_of c.args.self) c.stop-stopped.result c.finish.result c.stop-stopped.ensures.ended c.finish.ensures.nodes c.finish.ensures.logs c.finish.ensures.err)
+    (ended_merely (lost_of c.args.self) (threads_of c.args.self) c.stop-stopped.result c.finish.result c.stop-stopped.ensures.ended c.finish.ensures.nodes c.finish.ensures.logs c.finish.ensures.turns c.finish.ensures.err)
     (finished_losing (lost_of c.args.self) c.stop-stopped.result c.finish.result c.stop-stopped.ensures.lost c.finish.ensures.events)
 
 pub returns-clause-lost : goal.returns-clause-lost
@@ -59,6 +59,6 @@ returns-clause-joins_losing g c =
 pub returns-clause-survivors : goal.returns-clause-survivors
 returns-clause-survivors g c =
     closed_survivors c.survivors_of_one_run_agree.ensures c.threads_are_one_losing_run.ensures (lost_of c.args.self) (threads_of c.args.self) c.finish.result
-    (ended_merely (lost_of c.args.self) (threads_of c.args.self) c.stop-stopped.result c.finish.result c.stop-stopped.ensures.ended c.finish.ensures.nodes c.finish.ensures.logs c.finish.ensures.err)
+    (ended_merely (lost_of c.args.self) (threads_of c.args.self) c.stop-stopped.result c.finish.result c.stop-stopped.ensures.ended c.finish.ensures.nodes c.finish.ensures.logs c.finish.ensures.turns c.finish.ensures.err)
     (finished_losing (lost_of c.args.self) c.stop-stopped.result c.finish.result c.stop-stopped.ensures.lost c.finish.ensures.events)
     (finished_lost (lost_of c.args.self) c.stop-stopped.result c.finish.result c.stop-stopped.ensures.lost c.finish.ensures.lost c.finish.ensures.err)

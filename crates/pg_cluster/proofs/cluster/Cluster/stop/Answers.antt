@@ -10,7 +10,7 @@ use Rattle.pg_ring.specs.Slots.{taken}
 use Rattle.pg_run.specs.declared.notices.Notice.{Notice}
 use Rattle.pg_run.specs.Runs.{notices_at}
 use Rattle.pg_cluster.specs.Clients.{ports_begun, ports_ended}
-use Rattle.pg_cluster.specs.Closed.{NoticesCame, logs_of, nodes_of}
+use Rattle.pg_cluster.specs.Closed.{NoticesCame, logs_of, nodes_of, turns_of}
 use Rattle.pg_cluster.specs.Ended.{AreWired, AllArrived}
 use Rattle.pg_cluster.specs.Members.{is_lost, lasts_in, losses_in, thread_of, threads_in}
 use Rattle.pg_cluster.specs.Notices.{IsOfLost, NobodyLost, SaysLost}
@@ -137,8 +137,8 @@ returns-clause-ended g c =
     let came : SaysLost lost (lasts_in members) c.args.self.tellers.items → (place : ℕ) (none : SlotIn Notice) → place < length lost
     → AllByRecursion (IsOfLost (length lost) (λ node. get_or lost node false) (λ node. get_or (lasts_ended rans) node 0) place) (taken (get_or (notices_ended rans) place none)) = λ says.
     came_lost lost (lasts_in members) (lasts_ended rans) c.args.self.tellers.items (notices_ended rans) inlets (lasts_kept members rans whole was.9) says stopped.told in
-    let ended : Joined threads rans → SaysLost lost (lasts_in members) c.args.self.tellers.items → EndedWith lost threads (nodes_of c.stopped_of.result) (logs_of c.stopped_of.result) = λ joined says.
-    stopped_ended lost threads rans c.stopped_of.result c.args.self.wired joined (subst (λ n. AllArrived n (rows_ended rans)) joined.0 stopped.arrived) stopped.nodes stopped.logs marked (came says) untold in
+    let ended : Joined threads rans → SaysLost lost (lasts_in members) c.args.self.tellers.items → EndedWith lost threads (nodes_of c.stopped_of.result) (logs_of c.stopped_of.result) (turns_of c.stopped_of.result) = λ joined says.
+    stopped_ended lost threads rans c.stopped_of.result c.args.self.wired joined (subst (λ n. AllArrived n (rows_ended rans)) joined.0 stopped.arrived) stopped.nodes stopped.logs stopped.turns marked (came says) untold in
     ∥∥₁_map₂ joined c.args.self.says ended
 
 pub returns-clause-alone : goal.returns-clause-alone
@@ -158,8 +158,8 @@ returns-clause-alone g c =
     let none_came : NobodyLost lost → (place : ℕ) (none : SlotIn Notice) → place < length lost
     → AllByRecursion (IsOfLost (length lost) (λ node. get_or lost node false) (λ node. get_or (lasts_ended rans) node 0) place) (taken (get_or (notices_ended rans) place none)) = λ nobody place none low.
     subst (AllByRecursion (IsOfLost (length lost) (λ node. get_or lost node false) (λ node. get_or (lasts_ended rans) node 0) place)) (sym (untold nobody place none (omega (arith, low, inlets)))) tt in
-    let ended : NobodyLost lost → Joined threads rans → EndedWith lost threads (nodes_of c.stopped_of.result) (logs_of c.stopped_of.result) = λ nobody joined.
-    stopped_ended lost threads rans c.stopped_of.result c.args.self.wired joined (subst (λ n. AllArrived n (rows_ended rans)) joined.0 stopped.arrived) stopped.nodes stopped.logs marked (none_came nobody) untold in
+    let ended : NobodyLost lost → Joined threads rans → EndedWith lost threads (nodes_of c.stopped_of.result) (logs_of c.stopped_of.result) (turns_of c.stopped_of.result) = λ nobody joined.
+    stopped_ended lost threads rans c.stopped_of.result c.args.self.wired joined (subst (λ n. AllArrived n (rows_ended rans)) joined.0 stopped.arrived) stopped.nodes stopped.logs stopped.turns marked (none_came nobody) untold in
     λ nobody. ended nobody (joined_members members rans whole (was.5 nobody))
 
 pub returns-clause-heard : goal.returns-clause-heard
