@@ -61,7 +61,7 @@ impl Entry {
     /// Whether a node has applied it: its own, and each that took it.
     ///
     /// Cost: no memory.
-    pub fn is_applied_by(&self, node: usize) -> bool
+    pub(crate) fn is_applied_by(&self, node: usize) -> bool
         ensures { result ≡ is_applied_by self.now node }
     {
         self.node == node || self.has_taken(node)

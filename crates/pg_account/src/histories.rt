@@ -54,7 +54,7 @@ impl Histories {
         }
     }
 
-    /// The same histories and counts.
+    /// The same account.
     ///
     /// Errors: `AllocError`.
     ///
@@ -201,8 +201,8 @@ impl Histories {
         }
     }
 
-    /// The update that a packet asks for, if it does, was applied by the node that has taken it: it is the last one of its group. Which
-    /// nodes have taken it is kept of the first 16 nodes.
+    /// The update that a packet asks for, if it does, counts as the last of its group, which the node that took it has applied. Who has
+    /// applied it is kept of the first 16 nodes.
     ///
     /// Cost: no memory.
     pub fn serve(&mut self, node: usize, packet: &Packet)
@@ -240,10 +240,10 @@ impl Histories {
         }
     }
 
-    /// A node is lost: whether every node was formed when the first was.
+    /// Notes whether every node was formed when the first was lost, in place of what was noted.
     ///
     /// Cost: no memory.
-    pub fn lose(&mut self, formed: bool)
+    pub fn note_formed(&mut self, formed: bool)
         ensures { account_of self.new ≡ account_formed formed (account_of self.old) }
     {
         self.formed = formed;

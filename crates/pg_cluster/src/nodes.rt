@@ -36,7 +36,7 @@ impl Closed {
         }
     }
 
-    /// How many of these turns were short: memory or the clock refused something.
+    /// How many of the turns that `turns` counts were short: memory or the clock refused something. None where no node is there.
     ///
     /// Cost: no memory.
     pub fn short_turns(&self, node: usize) -> Option<u64>

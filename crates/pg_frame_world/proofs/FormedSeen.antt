@@ -1,6 +1,6 @@
 -- What nodes that are seen tell of the losses, behind a step.
-use Rattle.std.proofs.Common.{◌≡◌, ◌↔◌, ◌⊎◌, ◌<◌, ℕ, zero, suc, Bool, true, false, ◌&&◌, ◌||◌, length, List, [], ◌∷◌}
-use Rattle.std.proofs.Common.{Option, Some, None, Result, Ok, Err, inl, inr, refl, sym, ap, ◌∙◌, subst, arith}
+use Rattle.std.proofs.Common.{◌≡◌, ◌↔◌, ◌<◌, ℕ, zero, suc, Bool, true, false, ◌||◌, length, List, [], ◌∷◌}
+use Rattle.std.proofs.Common.{Some, Result, Ok, Err, inl, inr, refl, sym, ap, ◌∙◌, subst, arith}
 use Rattle.std.specs.Prelude.{slice_get}
 use Rattle.std.specs.List.{list_all}
 use Rattle.std.specs.Cmp.{first_so, second_so}
@@ -8,8 +8,7 @@ use Rattle.std.proofs.lemmas.Bool.{eq-eqb, lt-ltb, ltb-true}
 use Rattle.std.proofs.lemmas.Option.{slice_get_within}
 use Rattle.pg_machine.specs.Clocked.{Timed}
 use Rattle.pg_machine.specs.Losing.{LosingEvent, Step, Lose}
-use Rattle.pg_machine.specs.Machine.{Event, Do, Take}
-use Rattle.pg_machine.specs.Places.{is_place}
+use Rattle.pg_machine.specs.Machine.{Do, Take}
 use Rattle.pg_step.specs.Config.{Config, nodes_at}
 use Rattle.pg_step.specs.LossLaws.{LosingFrameWorld}
 use Rattle.pg_step.specs.Nodes.{Node, Nodes}
@@ -19,15 +18,13 @@ use Rattle.pg_history.proofs.steps.Lossless.{NoneLost, left_all}
 use Rattle.pg_opens.specs.Places.{whole_in}
 use Rattle.pg_opens.proofs.Alike.{both_true}
 use Rattle.pg_node_state.specs.declared.state.fault.NodeFault.{NodeFault}
-use Rattle.pg_node_state.specs.declared.state.fault.NodeFault.TheVariants.{Refused, OutOfMemory}
-use Rattle.pg_node_state.specs.declared.state.fault.NodeFault.TheVariants.{Message as BadMessage, TooLong, Damaged}
 use Rattle.pg_account.specs.Losses.{is_lost}
 use Rattle.pg_starts.specs.Seen.{Seen}
 use Rattle.pg_frame_world.specs.declared.step.FrameStep.{FrameStep}
 use Rattle.pg_frame_world.specs.declared.step.FrameStep.TheVariants as steps
 use Rattle.pg_frame_world.specs.declared.step.Stepped.{Stepped}
 use Rattle.pg_frame_world.specs.declared.step.Stepped.TheVariants.{Happened, Moved, Nothing, Gone}
-use Rattle.pg_frame_world.specs.Losing.{LosingComesTo, formed_after, formed_at, formed_with, is_formed, keep_of, losing_of, told_of}
+use Rattle.pg_frame_world.specs.Losing.{LosingComesTo, formed_after, formed_at, is_formed, keep_of, losing_of, told_of}
 use Rattle.pg_frame_world.specs.Worlds.{TimedFrameWorld, ShowsNodes}
 use Rattle.pg_frame_world.proofs.AtLosses.{AreFormed, ToldBehind}
 

@@ -1,5 +1,5 @@
 -- The past of a world, and what a step adds to it.
-use Rattle.std.proofs.Common.{◌≡◌, ◌↔◌, ◌<◌, ◌≤◌, ℕ, Bool, true, false, cond, length, take, List, [], ◌∷◌}
+use Rattle.std.proofs.Common.{◌≡◌, ◌↔◌, ◌<◌, ◌≤◌, ℕ, Bool, true, false, length, take, List, [], ◌∷◌}
 use Rattle.std.proofs.Common.{◌++◌, Option, Some, None, Result, Ok, Err, refl, sym, ap, ◌∙◌, subst, arith}
 use Rattle.std.specs.Prelude.{drop, is_none, slice_get}
 use Rattle.std.specs.List.{IsDistinct, list_all}
@@ -40,7 +40,7 @@ use Rattle.pg_frame_world.specs.Losing.{Telling, LosingComesTo, SeenAreLost, Sho
 use Rattle.pg_frame_world.specs.LosingRuns.{LosingKind, LosingGoesTo, packets_past_losses}
 use Rattle.pg_account.specs.Losses.{is_lost}
 use Rattle.pg_frame_world.specs.Past.{HasHeadline, IsPast, HasPast, LedOn, GoesOn, FramesHavePast}
-use Rattle.pg_frame_world.specs.Past.{FormedFirst, FramesGoOn, FramesRunOn, HistoriesGrow, MissedIn, RunsOn, missed_in}
+use Rattle.pg_frame_world.specs.Past.{FormedFirst, FramesGoOn, FramesRunOn, HistoriesGrow, MissedInRun, RunsOn, missed_in}
 use Rattle.pg_frame_world.specs.Pending.{AgreeOn, has_formed, pending_of, sees_free}
 use Rattle.pg_frame_world.specs.Starts.{Begins, Orders}
 use Rattle.pg_starts.specs.Seen.{Seen}
@@ -386,7 +386,7 @@ missed_there given config events u nodes account lost frames few reached survive
     missed_is config shows.apart few nodes account lost frames u shows updates is events reached i name within lives (survived.along i name there stays).whole
 
 pub frames_missed : (given : Config) (view : View) (lost : List ℕ) (i : ℕ) (name : Term) → i < length view.traffic.nodes → is_lost lost i ≡ false
-    → (entries : List Entry) → entries ≡ missed_in view.traffic.nodes view.account i name → FramesHavePast given view lost → MissedIn given view lost i name entries
+    → (entries : List Entry) → entries ≡ missed_in view.traffic.nodes view.account i name → FramesHavePast given view lost → MissedInRun given view lost i name entries
 frames_missed given view lost i name within lives entries told past = record {
   past = past;
   is = let shows = past.is.shows in told ∙ missed_there given past.config past.events past.u view.traffic.nodes view.account lost shows.frames past.few past.is.reached past.is.survived

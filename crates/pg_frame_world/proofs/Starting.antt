@@ -1,36 +1,26 @@
 -- What the world shows in which all nodes start.
-use Rattle.std.proofs.Common.{◌≡◌, ℕ, zero, suc, ◌+◌, ◌-◌, ◌<◌, ◌≤◌, ◌^◌, true, false, cond}
+use Rattle.std.proofs.Common.{◌≡◌, ℕ, zero, suc, ◌+◌, ◌-◌, ◌<◌, ◌^◌, true, cond}
 use Rattle.std.proofs.Common.{map, get_or, take, length, replicate, List, [], ◌∷◌, ◌++◌, Option}
-use Rattle.std.proofs.Common.{Some, None, refl, sym, ap, ◌∙◌, inl, inr, ◌⊎◌, arith, subst}
-use Rattle.std.specs.Prelude.{slice_get, option_map, Result, Ok, Err, IfOk}
-use Rattle.std.specs.List.{All, AllByRecursion, IsDistinct, remove}
-use Rattle.std.proofs.lemmas.Map.Keys.{IsDistinct-head, IsDistinct-tail}
-use Rattle.std.proofs.lemmas.List.{get_or-map, get_or-replicate, length-replicate, length-map}
-use Rattle.std.proofs.lemmas.List.{length-append, map-append, take_more, get_or_default}
-use Rattle.std.proofs.lemmas.Option.{slice_get-map, slice_get-get_or, unwrap_or-slice_get}
+use Rattle.std.proofs.Common.{Some, refl, sym, ap, ◌∙◌, arith, subst}
+use Rattle.std.specs.Prelude.{slice_get, option_map}
+use Rattle.std.specs.List.{All, IsDistinct}
+use Rattle.std.proofs.lemmas.List.{get_or-replicate, length-replicate, length-map}
+use Rattle.std.proofs.lemmas.List.{map-append, take_more}
+use Rattle.std.proofs.lemmas.Option.{slice_get-map, slice_get-get_or}
 use Rattle.pg_term.specs.Same.{same_atom, same_term}
-use Rattle.pg_term.specs.declared.pid.Pid.{Pid}
-use Rattle.pg_term.specs.declared.term.Term.{Term}
-use Rattle.pg_group.specs.Value.{count_in}
-use Rattle.pg_group.specs.Table.{Table}
-use Rattle.pg_step.specs.State.{new_state}
 use Rattle.pg_group.specs.declared.table.GroupTable.{Ghosts}
-use Rattle.pg_exchange.specs.GroupList.{GroupList, IsSnapshot, announced_names}
+use Rattle.pg_exchange.specs.GroupList.{IsSnapshot, announced_names}
 use Rattle.pg_message.specs.declared.message.Message.{Message}
 use Rattle.pg_message.specs.declared.message.Message.TheVariants.{Exchange}
 use Rattle.pg_message.specs.Members.{HasFewMembers}
 use Rattle.pg_machine.specs.Places.{is_pair}
 use Rattle.pg_machine.specs.Machine.{start_of}
 use Rattle.pg_machine.specs.Clocked.{Stamped, stamped}
-use Rattle.pg_step.specs.declared.start.Start.{Start}
-use Rattle.pg_step.specs.Nodes.{Node}
-use Rattle.pg_step.specs.Config.{Config, names_of, name_at, groups_at, made_at, ports_at, first_table}
+use Rattle.pg_step.specs.Config.{Config, names_of, name_at, groups_at, first_table}
 use Rattle.pg_step.specs.FrameMachine.{frame_machine}
 use Rattle.pg_opens.specs.Places.{name_at as place_name}
-use Rattle.pg_opens.proofs.Named.{names_differ}
 use Rattle.pg_node_state.specs.declared.state.NodeState.{NodeState}
-use Rattle.pg_node_state.specs.Issued.{ports_of}
-use Rattle.pg_node_state.specs.States.{kept_by, stamped_of, state_of, answers_of, names_of as known_names}
+use Rattle.pg_node_state.specs.States.{kept_by, stamped_of}
 use Rattle.pg_frame_world.specs.declared.outgoing.Outgoing.{Outgoing}
 use Rattle.pg_starts.specs.Seen.{Seen, seen_of}
 use Rattle.pg_frame_world.specs.Views.{ways_of, fresh_view, traffic_in, peer_place, on_the_way, IsWhole}

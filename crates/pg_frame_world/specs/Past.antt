@@ -72,8 +72,8 @@ has_seen_in nodes i p = is_pair (length nodes) i p && seen_at nodes i p
 abbrev pub missed_in : List Seen → Account → ℕ → Term → List Entry
 missed_in nodes account i name = missed_of (has_seen_in nodes i) (account.marked i name)
 
--- These are the entries that node i has missed in the run that led to a world, of which the losses that survived say the rest.
-pub record MissedIn (given : Config) (view : View) (lost : List ℕ) (i : ℕ) (name : Term) (entries : List Entry) : Type 0 where
+-- These are the entries that node i has missed in the run that led to a world; `survived.along` of that past says the rest.
+pub record MissedInRun (given : Config) (view : View) (lost : List ℕ) (i : ℕ) (name : Term) (entries : List Entry) : Type 0 where
   pub past : FramesHavePast given view lost
   pub is : entries ≡ missed past.config past.u i name
 

@@ -1,5 +1,5 @@
 -- How a world begins: the nodes of a configuration as they start, and the packets that they send then.
-use Rattle.std.specs.Prelude.{◌≡◌, ◌^◌, ℕ, zero, suc, List, [], ◌∷◌, ◌++◌, replicate}
+use Rattle.std.specs.Prelude.{◌≡◌, ◌^◌, ℕ, List, [], ◌∷◌, replicate}
 use Rattle.std.specs.List.{AllByRecursion-prop}
 use Rattle.std.proofs.Math.Bridge.{le_prop}
 use Rattle.pg_group.specs.Table.{Table}
@@ -10,15 +10,12 @@ use Rattle.pg_message.specs.declared.packet.Packet.{Packet}
 use Rattle.pg_machine.specs.Machine.{start_of}
 use Rattle.pg_machine.specs.Clocked.{Stamped}
 use Rattle.pg_step.specs.declared.start.Start.{Start}
-use Rattle.pg_step.specs.Config.{Config, nodes_at, groups_at, made_at, ports_at, first_table}
+use Rattle.pg_step.specs.Config.{Config, first_table}
 use Rattle.pg_step.specs.FrameMachine.{frame_machine}
-use Rattle.pg_step.specs.Nodes.{all_of}
-use Rattle.pg_step.specs.State.{new_state}
 use Rattle.pg_opens.specs.Places.{name_at}
 use Rattle.pg_node_state.specs.Opening.{IsAnnouncement}
 use Rattle.pg_node_state.specs.States.{stamped_of}
 use Rattle.pg_starts.specs.Seen.{Seen}
-use Rattle.pg_starts.specs.Firsts.{seen_first, firsts}
 use Rattle.pg_frame_world.specs.Fitting.{FitsFrame}
 use Rattle.pg_starts.specs.Seen.{Seen}
 use Rattle.pg_frame_world.specs.Views.{View}

@@ -5,14 +5,11 @@ use Rattle.std.specs.VecDeque.{deque_len, deque_capacity}
 use Rattle.pg_group.specs.declared.table.GroupTable.{Ghosts}
 use Rattle.pg_message.specs.declared.message.Message.{Message}
 use Rattle.pg_message.specs.declared.packet.Packet.{Packet}
-use Rattle.pg_machine.specs.Clocked.{Timed, Stamped}
-use Rattle.pg_step.specs.declared.answer.Answer.{Answer}
+use Rattle.pg_machine.specs.Clocked.{Stamped}
 use Rattle.pg_step.specs.Nodes.{Node}
-use Rattle.pg_step.specs.State.{State}
 use Rattle.pg_node_state.specs.declared.state.NodeState.{NodeState}
-use Rattle.pg_node_state.specs.Issued.{ports_of}
 use Rattle.pg_node_state.specs.Sendable.{AreSendable}
-use Rattle.pg_node_state.specs.States.{names_of, state_of, answers_of, stamped_of}
+use Rattle.pg_node_state.specs.States.{stamped_of}
 use Rattle.pg_starts.specs.Seen.{Seen, seen_of}
 use Rattle.pg_frame_world.specs.declared.outgoing.Outgoing.{Outgoing}
 use Rattle.pg_frame_world.specs.declared.way.Way.{Way}

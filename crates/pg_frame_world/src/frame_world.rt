@@ -76,9 +76,9 @@ impl<T: GroupTable + Drop> FrameWorld<T> {
     ghost use Rattle.pg_frame_world.specs.Alike.{AreAlikeWorlds};
     ghost use Rattle.pg_frame_world.specs.FrameWorlds.{view_of, traffic_of, lost_of, given_of};
     ghost use Rattle.pg_account.specs.Histories.{as_entry, last_entries};
-    ghost use Rattle.pg_frame_world.specs.Losing.{lost_after, told_of, ShowsLosing, LosingComesTo};
+    ghost use Rattle.pg_frame_world.specs.Losing.{formed_after, lost_after, told_of, ShowsLosing, LosingComesTo};
     ghost use Rattle.pg_account.specs.Losses.{is_lost};
-    ghost use Rattle.pg_frame_world.specs.Past.{FormedFirst, FramesGoOn, HistoriesGrow, MissedIn, missed_in};
+    ghost use Rattle.pg_frame_world.specs.Past.{FormedFirst, FramesGoOn, HistoriesGrow, MissedInRun, missed_in};
     ghost use Rattle.pg_frame_world.specs.Pending.{AgreeOn, pending_of, sees_free};
     ghost use Rattle.pg_starts.specs.Seen.{seen_of};
     ghost use Rattle.pg_frame_world.specs.Views.{on_the_way};
@@ -103,7 +103,8 @@ impl<T: GroupTable + Drop> FrameWorld<T> {
 
     /// Whether both worlds are alike: the same but for clocks and stamps. They have as many nodes, each the same as
     /// the one at its place but for its clock, and the same packets on each way but for their stamps. The same nodes
-    /// are lost, each group has the same history, and each node has applied as many of its updates.
+    /// are lost, each group has the same history, and each node has applied as many of its updates. What was missed, and
+    /// whether all were formed at the first loss, may differ.
     ///
     /// Errors: `AllocError`. It ends at the first difference.
     ///
@@ -191,24 +192,26 @@ impl<T: GroupTable + Drop> FrameWorld<T> {
         self.frames.losses.has(node)
     }
 
-    /// What the losses that a node has seen took along of a group: the updates by nodes whose loss it has seen that it had not applied
-    /// when it saw it, each with its node and its command, in the order of the history. Of each lost node it is one at most, and
-    /// none was answered. The rest of the history, up to what the node has applied, makes its table, of its own groups and those
-    /// of the exchanges that it took, less the ended (`TakenAlong`).
+    /// What the losses that a node has seen took along of a group: the updates by nodes whose loss it has seen that it has not applied,
+    /// each with its node and its command, in the order of the history; none where no such node is there.
+    ///
+    /// Of a node that is not lost: it is one at most of each lost node, and none was answered. The rest of the history, up to what
+    /// it has applied, makes its table, of its own groups and those of the exchanges that it took, less the ended (`TakenAlong`).
     ///
     /// Errors: `AllocError`.
     ///
-    /// Cost: O(log n) in the groups that were named, a walk over the history of the group, and a copy of each update that is missed.
+    /// Cost: O(log n) in the groups that were named, a mark for each node, a walk over the history of the group, and a copy of each
+    /// update that is missed.
     pub fn missed(&self, node: usize, name: &Term) -> Result<Vec<Entry>, AllocError>
         ensures list { IfOk result (λ missed. map as_entry missed.items ≡ missed_in (traffic_of self.now).nodes (view_of self.now).account node name.now) }
         ensures along { node < length (traffic_of self.now).nodes → is_lost (lost_of self.now) node ≡ false
-            → IfOk result (λ missed. ∥ MissedIn (given_of self.now) (view_of self.now) (lost_of self.now) node name.now (map as_entry missed.items) ∥₁) }
+            → IfOk result (λ missed. ∥ MissedInRun (given_of self.now) (view_of self.now) (lost_of self.now) node name.now (map as_entry missed.items) ∥₁) }
     {
         self.frames.missed(node, name)
     }
 
-    /// Whether every node was formed when the first was lost; also where none is lost. There survivors agree on a group of which
-    /// they have applied the same updates, once no end is pending among them and each has seen each loss.
+    /// Whether every node was formed when the first was lost; yes too where none is lost. Where it is yes, formed nodes that are left
+    /// agree on a group of which they have applied the same updates, once each has seen each loss and no end is pending among them.
     ///
     /// Cost: no memory.
     pub fn formed_at_first_loss(&self) -> bool
@@ -266,6 +269,8 @@ impl<T: GroupTable + Drop> FrameWorld<T> {
         ensures losing { (config : Configuration) (u : LosingFrameWorld) → ShowsLosing config (view_of self.old) (lost_of self.old) u
             → LosingComesTo config u (told_of config u step.now) result (ShowsLosing config (view_of self.new) (lost_of self.new)) }
         ensures lost { lost_of self.new ≡ lost_after step.now result (lost_of self.old) }
+        ensures formed { (view_of self.new).account.formed
+            ≡ formed_after step.now result (traffic_of self.old).nodes (lost_of self.old) (view_of self.old).account.formed }
         ensures nothing { result ≡ Ok Stepped.Nothing → view_of self.new ≡ view_of self.old }
         ensures err { OnErr result (view_of self.new ≡ view_of self.old) }
     {

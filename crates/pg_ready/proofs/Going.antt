@@ -48,7 +48,7 @@ use Rattle.pg_history.proofs.steps.Ways.{told_append}
 use Rattle.pg_loss.specs.Reached.{LosingReaches}
 use Rattle.pg_loss.proofs.Bridge.{left_same}
 use Rattle.pg_loss.proofs.Lossy.{Died, Makes as LossyMakes, Passed, Sees, Steps, Went, bare, makes, noted, passed}
-use Rattle.pg_ready.specs.Ready.{AsksOn, GaveUp, GoesOn, HasBegun, IsAnswered, is_ready, is_ready_at}
+use Rattle.pg_ready.specs.Ready.{AsksOn, GaveUp, RetryGoesOn, HasBegun, IsAnswered, is_ready, is_ready_at}
 use Rattle.pg_ready.proofs.Holders.{all_linked}
 use Rattle.pg_left.proofs.Passing.{Leaves}
 
@@ -188,7 +188,7 @@ module _ (config : Config) (es : List (LosingEvent Action)) (w v : LosingFrameWo
       stage_now : (stage : Stage) → t.state.stages op ≡ stage → (v.world.node i).state.stages op ≡ stage
       stage_now stage at = ap (λ (z : State). z.stages op) state_is ∙ at
 
-      goes_so : WentOn (left (nodes_at config i) (w.world.node i).state) op t.state t.reported → GoesOn config w v i op
+      goes_so : WentOn (left (nodes_at config i) (w.world.node i).state) op t.state t.reported → RetryGoesOn config w v i op
       goes_so (Answered closed gave) = IsAnswered
           (ap (λ ts. answers_by i ts op.port) reported_is ∙ (told_append (answer_by i op.port) w.world.reported ((i, t.reported) ∷ [])
           ∙ ap (λ xs. answers_by i w.world.reported op.port ++ xs) (append-nil (answer_by i op.port (i, t.reported))
@@ -200,10 +200,10 @@ module _ (config : Config) (es : List (LosingEvent Action)) (w v : LosingFrameWo
       goes_so (Asks c stage missing) = AsksOn c (stage_now (Asking c) stage) (waits_now (Asking c) stage missing)
       goes_so (Denied u stage) = GaveUp u (stage_now (Waiting u) stage)
 
-      gone_on : GoesOn config w v i op
+      gone_on : RetryGoesOn config w v i op
       gone_on = goes_so went
 
-    by_made : LossyMakes config i (w.world.node i).state h.input h.turn → GoesOn config w v i op
+    by_made : LossyMakes config i (w.world.node i).state h.input h.turn → RetryGoesOn config w v i op
     by_made (Steps given u is made same) =
         let own : given ≡ Own (Retry op) = own_given given (Retry op) (some_is h.given ∙ is) in
         let made_own : node_step config i (w.world.node i).state (Own (Retry op)) ≡ Some u = subst (λ z. node_step config i (w.world.node i).state z ≡ Some u) own made in
@@ -213,13 +213,13 @@ module _ (config : Config) (es : List (LosingEvent Action)) (w v : LosingFrameWo
         (acted_goes (left (nodes_at config i) (w.world.node i).state) op (nodes_at config i) (ports_at config i) (w.world.node i).state t.0 (all_linked config es w l i) ready t.1)
     by_made (Sees p is not_yet same) = absurd (cc (some_is h.given ∙ is))
 
-    goes_by : GoesOn config w v i op
+    goes_by : RetryGoesOn config w v i op
     goes_by = by_made (makes config i (w.world.node i).state h.input h.turn h.made)
 
-  pub goes_on : Leaves config w (Step (Do i (Retry op))) v → GoesOn config w v i op
+  pub goes_on : Leaves config w (Step (Do i (Retry op))) v → RetryGoesOn config w v i op
   goes_on happens_ = go (passed config w v (Step (Do i (Retry op))) happens_)
     where
-      go : Passed config (bare w) (bare v) (Step (Do i (Retry op))) → GoesOn config w v i op
+      go : Passed config (bare w) (bare v) (Step (Do i (Retry op))) → RetryGoesOn config w v i op
       go (Went d is alive h same) = goes_by (subst (λ z. Happened (losing_machine_of config) (bare w).world z (bare v).world) (retry_is is) h)
       go (Died j keep is there alive cut gone) = absurd (no_loss is)
 

@@ -1,4 +1,4 @@
--- Whose locks are held where nothing is on the way to a node that is left.
+-- Commands that a loss has left ready: whose locks they hold, and what becomes of them.
 use Rattle.std.specs.Prelude.{◌≡◌, ◌≢◌, ◌↔◌, ◌⊎◌, ℕ, ◌+◌, ◌≤◌, Bool, true, false, ◌&&◌, ◌||◌, nat_eq}
 use Rattle.std.specs.Prelude.{length, List, [], ◌∷◌, ◌++◌, Some, None}
 use Rattle.pg_term.specs.RefParts.{RefParts}
@@ -102,17 +102,17 @@ pub record OfReady (config : Config) (w : LosingFrameWorld) (name : Term) (holde
       ⊎ ((n : ℕ) × (replied : Node → Bool) × ((w.world.node node).state.uses n ≡ Updating op update number replied))
 
 -- What a retry of a ready command of node i comes to at once, from the world w to the world v.
-pub data GoesOn (config : Config) (w v : LosingFrameWorld) (i : ℕ) (op : OpId) : Type 0 where
+pub data RetryGoesOn (config : Config) (w v : LosingFrameWorld) (i : ℕ) (op : OpId) : Type 0 where
   -- each node that is left has its update: it is answered ok
   IsAnswered : answers_by i v.world.reported op.port ≡ answers_by i w.world.reported op.port ++ (op.number, Given reply.Ok) ∷ []
-      → (v.world.node i).state.stages op ≡ Closed → GoesOn config w v i op
+      → (v.world.node i).state.stages op ≡ Closed → RetryGoesOn config w v i op
   -- it has the last grant: its update enters the history, and goes out
   HasBegun : (u : Update) (n : ℕ) → entries v.world.reported ≡ entries w.world.reported ++ record { node = i; op = op; update = u } ∷ []
-      → (v.world.node i).state.stages op ≡ Changing n → is_ready_at config v i op ≡ false → GoesOn config w v i op
+      → (v.world.node i).state.stages op ≡ Changing n → is_ready_at config v i op ≡ false → RetryGoesOn config w v i op
   -- it asks those for the lock that it has not asked, and waits for them
-  AsksOn : (c : ℕ) → (v.world.node i).state.stages op ≡ Asking c → is_ready_at config v i op ≡ false → GoesOn config w v i op
+  AsksOn : (c : ℕ) → (v.world.node i).state.stages op ≡ Asking c → is_ready_at config v i op ≡ false → RetryGoesOn config w v i op
   -- it was denied: it gives back the locks that it has, and waits for its next attempt
-  GaveUp : (u : Update) → (v.world.node i).state.stages op ≡ Waiting u → GoesOn config w v i op
+  GaveUp : (u : Update) → (v.world.node i).state.stages op ≡ Waiting u → RetryGoesOn config w v i op
 
 -- What becomes of commands that a loss has left ready, where a world is reached.
 pub record ReadyGoOn (config : Config) (w : LosingFrameWorld) : Type 0 where
@@ -126,16 +126,16 @@ pub record ReadyGoOn (config : Config) (w : LosingFrameWorld) : Type 0 where
   pub tried : (i : ℕ) (op : OpId) → is_ready_at config w i op ≡ true → is_place (length config) i ≡ true → w.gone i ≡ false → (w.world.node i).clock + 1 ≤ CLOCK_LIMIT
       → (v : LosingFrameWorld) × (losing_happens (losing_frame_machine config) last_notice w (Step (Do i (Retry op))) ≡ Some v)
   pub goes : (v : LosingFrameWorld) (i : ℕ) (op : OpId) → is_ready_at config w i op ≡ true
-      → losing_happens (losing_frame_machine config) last_notice w (Step (Do i (Retry op))) ≡ Some v → GoesOn config w v i op
+      → losing_happens (losing_frame_machine config) last_notice w (Step (Do i (Retry op))) ≡ Some v → RetryGoesOn config w v i op
   -- once each was tried again, in whatever order and whatever else came in, none is ready; and where nothing is on the way then, no lock is held
   pub retried : (v : LosingFrameWorld) (steps : List (Event Action)) → LossesSeen config w → LosingLeads (losing_frame_machine config) last_notice w (all_steps steps) v
       → EachIsRetried config w steps → NoneReadyLeft config v
   pub freed : (v : LosingFrameWorld) (steps : List (Event Action)) → LossesSeen config w → LosingLeads (losing_frame_machine config) last_notice w (all_steps steps) v
       → EachIsRetried config w steps → IsQuietLeft config v → NoLockLeft config v
-  -- no other is ready by it, and none less
+  -- after a retry each other command is ready exactly where it was before
   pub others : (v : LosingFrameWorld) (i j : ℕ) (op other : OpId) → losing_happens (losing_frame_machine config) last_notice w (Step (Do i (Retry op))) ≡ Some v
       → (j ≡ i → op ≢ other) → is_ready_at config v j other ≡ is_ready_at config w j other
-  -- with room in the clocks all can be tried again, and no other is
+  -- with room in the clocks the ready commands, and no others, can be tried again one after another
   pub all : (room : ℕ) → LossesSeen config w → HasRoomLeft config w (left_open config w + room)
       → (retries : List (Event Action)) × (v : LosingFrameWorld) × OnlyRetries retries
       × LosingLeads (losing_frame_machine config) last_notice w (all_steps retries) v × EachIsRetried config w retries × OnlyReady config w retries

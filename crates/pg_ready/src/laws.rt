@@ -16,7 +16,7 @@ ghost use Rattle.pg_step.specs.declared.command.OpId.{OpId};
 ghost use Rattle.pg_history.specs.Quiet.{OnlyTakes};
 ghost use Rattle.pg_loss.specs.Quiet.{IsQuietLeft, left_open, most_takes_left};
 ghost use Rattle.pg_loss.specs.Reached.{LosingReaches};
-ghost use Rattle.pg_ready.specs.Ready.{EachIsRetried, GoesOn, HasRoomLeft, IsQuietAmongLeft, LossesSeen, NoLockLeft};
+ghost use Rattle.pg_ready.specs.Ready.{EachIsRetried, RetryGoesOn, HasRoomLeft, IsQuietAmongLeft, LossesSeen, NoLockLeft};
 ghost use Rattle.pg_ready.specs.Ready.{NoneReadyLeft, OfReady, OnlyReady, OnlyRetries, is_ready_at, is_retried};
 
 /// Nothing is on the way to a node that is not lost exactly where each of them has seen each loss, and nothing is on the way
@@ -49,7 +49,7 @@ pub fn a_retry_of_a_ready_command_goes_on()
     ensures goes { (config : Config) (w v : LosingFrameWorld) (events : List (LosingEvent Action)) (i : ℕ) (op : OpId)
         → LosingReaches config events w → is_ready_at config w i op ≡ true
         → losing_happens (losing_frame_machine config) last_notice w (Step (Do i (Retry op))) ≡ Some v
-        → GoesOn config w v i op }
+        → RetryGoesOn config w v i op }
 {}
 
 /// Where nothing is on the way to a node that is not lost, and no command of such a node is ready, no such node holds
@@ -98,7 +98,7 @@ pub fn retries_free_the_locks()
         → EachIsRetried config w steps → IsQuietLeft config v → NoLockLeft config v }
 {}
 
-/// A retry makes no other command ready, and leaves none that is ready not so.
+/// After a retry each other command is ready exactly where it was before.
 pub fn a_retry_leaves_the_others()
     ensures { (config : Config) (w v : LosingFrameWorld) (events : List (LosingEvent Action)) (i j : ℕ) (op other : OpId)
         → LosingReaches config events w
@@ -106,8 +106,8 @@ pub fn a_retry_leaves_the_others()
         → (j ≡ i → op ≢ other) → is_ready_at config v j other ≡ is_ready_at config w j other }
 {}
 
-/// Where each node that is not lost has seen each loss, each ready command can be tried again, one after another, if no
-/// clock is nearer to its limit than commands are open, and no other is. Then none is ready.
+/// Where each node that is not lost has seen each loss, the ready commands, and no others, can be tried again one after another, if
+/// no clock is nearer to its limit than commands are open. Then none is ready.
 pub fn all_ready_commands_can_be_retried()
     ensures { (config : Config) (w : LosingFrameWorld) (events : List (LosingEvent Action)) (room : ℕ)
         → IsDistinct same_atom (names_of config) → LosingReaches config events w → LossesSeen config w

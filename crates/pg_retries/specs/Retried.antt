@@ -63,7 +63,7 @@ pub record RetryGoesPastLosses (config : Config) (w : LosingFrameWorld) (i : ℕ
 
 -- ---- until no lock is held, and until all is answered
 
--- How many events free every lock, where no command comes in and no node is lost: takes until nothing is on the way, a retry of each
+-- How much room in the clocks suffices to free every lock, where no command comes in and no node is lost: takes until nothing is on the way, a retry of each
 -- open command at most, and six takes for each peer of each.
 abbrev pub most_events_to_free : Config → LosingFrameWorld → ℕ
 most_events_to_free config w = most_takes_left config w + left_open config w + 6 * peer_count config * left_open config w
@@ -96,7 +96,7 @@ abbrev pub NoneOpenLeft : Config → LosingFrameWorld → Type 0
 NoneOpenLeft config w = (i : ℕ) (op : OpId) → is_place (length config) i ≡ true → w.gone i ≡ false
     → is_open ((w.world.node i).state.stages op) ≡ false
 
--- How many events answer every open command of a node that is left, where no command comes in and no node is lost: those that
+-- How much room in the clocks suffices to answer every open command of a node that is left, where no command comes in and no node is lost: those that
 -- free every lock, and for each open command its retry and five takes for each peer.
 abbrev pub most_events_left : Config → LosingFrameWorld → ℕ
 most_events_left config w = most_events_to_free config w + (1 + 5 * peer_count config) * left_open config w

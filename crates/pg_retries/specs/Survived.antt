@@ -1,4 +1,4 @@
--- What is true of each world that nodes come to which can be lost, whoever is lost and whenever: all that the laws say of one world.
+-- What is true of each world that nodes come to which can be lost, whoever is lost and whenever.
 use Rattle.std.specs.Prelude.{◌≡◌, ℕ, true, false, length, List}
 use Rattle.pg_term.specs.declared.pid.Pid.{Pid}
 use Rattle.pg_term.specs.declared.term.Term.{Term}

@@ -1,6 +1,6 @@
-//! What becomes of retries where nodes were lost, and all that holds of one world, whoever is lost.
+//! What becomes of retries where nodes were lost, and what holds of one world, whoever is lost.
 //!
-//! There is no code: `each_world_past_losses()` is the law of all of it. Begin with `specs/Survived.antt`, then `src/laws.rt`.
+//! There is no code: `each_world_past_losses()` is the law that joins them. Begin with `specs/Survived.antt`, then `src/laws.rt`.
 #![tactic(auto)]
 
 mod laws;

@@ -24,7 +24,7 @@ use pg_ready::{
     retries_free_the_locks,
 };
 
-/// All that the laws say of one world, whoever is lost and whenever.
+/// What worlds and clusters promise of each world that their runs lead to, whoever is lost and whenever.
 pub fn each_world_past_losses()
     ensures { (config : Config) (w : LosingFrameWorld) (events : List (LosingEvent Action))
         → IsDistinct same_atom (names_of config) → LosingReaches config events w

@@ -11,7 +11,8 @@ use Rattle.pg_term.specs.declared.term.Term.{Term}
 use Rattle.pg_account.specs.Losses.{is_lost}
 use Rattle.pg_starts.specs.Seen.{Seen}
 use Rattle.pg_survey.specs.Differing.{DifferOn, IsApartOrSame, IsLive, IsLiveAt, IsOtherOrSame, IsSameAt}
-use Rattle.pg_survey.specs.Differing.{IsSomeLive, LiveOf, SeesAt, Tells, is_formed, is_held_at}
+use Rattle.pg_survey.specs.Differing.{IsSomeLive, LiveOf, SeesAt, Tells, is_held_at}
+use Rattle.pg_frame_world.specs.Losing.{is_formed}
 
 -- ---- places and names
 

@@ -3,9 +3,8 @@ use Rattle.std.specs.Prelude.{◌≡◌, ◌≢◌, ◌<◌, ℕ, Bool, true, fa
 use Rattle.std.specs.List.{Contains}
 use Rattle.std.specs.Option.{option_map_or}
 use Rattle.pg_term.specs.declared.term.Term.{Term}
-use Rattle.pg_opens.specs.Places.{whole_in}
-use Rattle.pg_step.specs.State.{formed, left}
 use Rattle.pg_account.specs.Losses.{is_lost}
+use Rattle.pg_frame_world.specs.Losing.{is_formed}
 use Rattle.pg_frame_world.specs.Pending.{pending_of}
 use Rattle.pg_starts.specs.Seen.{Seen}
 
@@ -13,10 +12,6 @@ use Rattle.pg_starts.specs.Seen.{Seen}
 abbrev pub Tells : Type 0 → Bool → Type 0
 Tells P true = P
 Tells P false = P → ⊥
-
--- a node is formed: of those that count each has told its groups
-abbrev pub is_formed : Seen → Bool
-is_formed node = formed (left (whole_in node.names) node.state.state) node.state.state
 
 -- ---- of the nodes of a world, of which some are lost
 

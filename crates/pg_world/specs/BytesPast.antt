@@ -24,7 +24,7 @@ pub record BytesFormedFirst (given : Config) (crossing : Crossing) (account : Ac
   pub past : BytesHavePast given crossing account lost
   pub is : (formed ≡ true) ↔ FormedAtLosses past.config past.events
 
--- These are the entries that node i has missed in the run that led to a world, of which the losses that survived say the rest.
+-- These are the entries that node i has missed in the run that led to a world; `survived.along` of that past says the rest.
 pub record BytesMissed (given : Config) (crossing : Crossing) (account : Account) (lost : List ℕ) (i : ℕ) (name : Term) (entries : List Entry) : Type 0 where
   pub past : BytesHavePast given crossing account lost
   pub is : entries ≡ missed past.config past.u i name

@@ -70,7 +70,7 @@ impl<T: GroupTable + Drop> World<T> {
     ghost use Rattle.pg_history.specs.History.{LockFree};
     ghost use Rattle.pg_step.specs.Config.{Config as Configuration};
     ghost use Rattle.pg_step.specs.LossLaws.{LosingFrameWorld};
-    ghost use Rattle.pg_world.specs.Bars.{IsHeld, StepTellsUndrained, bar_of, bytes_lost_after};
+    ghost use Rattle.pg_world.specs.Bars.{IsHeld, StepTellsUndrained, bar_of, bytes_formed_after, bytes_lost_after};
     ghost use Rattle.pg_world.specs.BytesLosing.{ShowsLosingBytes, StepLeaves};
     ghost use Rattle.pg_frame_world.specs.Losing.{IsReachedLosing};
     ghost use Rattle.pg_world.specs.ByteWorlds.{account_of, crossing_of, given_of, lost_of, room_of};
@@ -154,14 +154,16 @@ impl<T: GroupTable + Drop> World<T> {
         self.bytes.losses.has(node)
     }
 
-    /// What the losses that a node has seen took along of a group: the updates by nodes whose loss it has seen that it had not applied
-    /// when it saw it, each with its node and its command, in the order of the history. Of each lost node it is one at most, and
-    /// none was answered. The rest of the history, up to what the node has applied, makes its table, of its own groups and those
-    /// of the exchanges that it took, less the ended (`TakenAlong`).
+    /// What the losses that a node has seen took along of a group: the updates by nodes whose loss it has seen that it has not applied,
+    /// each with its node and its command, in the order of the history; none where no such node is there.
+    ///
+    /// Of a node that is not lost: it is one at most of each lost node, and none was answered. The rest of the history, up to what
+    /// it has applied, makes its table, of its own groups and those of the exchanges that it took, less the ended (`TakenAlong`).
     ///
     /// Errors: `AllocError`.
     ///
-    /// Cost: O(log n) in the groups that were named, a walk over the history of the group, and a copy of each update that is missed.
+    /// Cost: O(log n) in the groups that were named, a mark for each node, a walk over the history of the group, and a copy of each
+    /// update that is missed.
     pub fn missed(&self, node: usize, name: &Term) -> Result<Vec<Entry>, AllocError>
         ensures list { IfOk result (λ missed. map as_entry missed.items ≡ missed_in (crossing_of self.now).nodes (account_of self.now) node name.now) }
         ensures along { node < length (crossing_of self.now).nodes → is_lost (lost_of self.now) node ≡ false
@@ -170,8 +172,8 @@ impl<T: GroupTable + Drop> World<T> {
         self.bytes.missed(node, name)
     }
 
-    /// Whether every node was formed when the first was lost; also where none is lost. There survivors agree on a group of which
-    /// they have applied the same updates, once no end is pending among them and each has seen each loss.
+    /// Whether every node was formed when the first was lost; yes too where none is lost. Where it is yes, formed nodes that are left
+    /// agree on a group of which they have applied the same updates, once each has seen each loss and no end is pending among them.
     ///
     /// Cost: no memory.
     pub fn formed_at_first_loss(&self) -> bool
@@ -235,6 +237,8 @@ impl<T: GroupTable + Drop> World<T> {
         ensures barred { IsHeld (bar_of (crossing_of self.old) (lost_of self.old) step.now) result }
         ensures undrained { StepTellsUndrained (crossing_of self.old) step.now result }
         ensures lost { lost_of self.new ≡ bytes_lost_after step.now result (lost_of self.old) }
+        ensures formed { (account_of self.new).formed
+            ≡ bytes_formed_after step.now result (crossing_of self.old).nodes (lost_of self.old) (account_of self.old).formed }
         ensures room { room_of self.new ≡ room_of self.old }
     {
         each_world_past_losses();

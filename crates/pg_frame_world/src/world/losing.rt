@@ -187,7 +187,7 @@ impl<T: GroupTable + Drop> FrameNodes<T> {
             Ok(()) => {}
             Err(AllocError) => return Err(NodeFault::OutOfMemory),
         }
-        self.histories.lose(formed);
+        self.histories.note_formed(formed);
         let outgoing = &mut self.outgoing[node];
         outgoing.cut(keep);
         Ok(Stepped::Gone)

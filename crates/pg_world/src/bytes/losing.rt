@@ -177,7 +177,7 @@ impl<T: GroupTable + Drop> ByteNodes<T> {
         let formed = self.formed_at_loss();
         match self.losses.add(node) {
             Ok(()) => {
-                self.histories.lose(formed);
+                self.histories.note_formed(formed);
                 Ok(Stepped::Gone)
             }
             Err(AllocError) => Err(NodeFault::OutOfMemory),

@@ -56,6 +56,6 @@ returns-clause-losing g c = λ config u shows.
     let within : c.args.node < length outs = omega (arith, c.requires.place, whole.rows, length-map outs ways_of, length-map nodes seen_of) in
     let count = whole.others c.args.node c.requires.place in
     lost_now config (view_of c.args.self.now) _ u c.args.node c.args.keep.now (lost_of c.args.self.now) _ shows c.requires.place count
-    (sym c.has.ensures ∙ c.if-has.false) (c.can_keep.ensures.0 c.if-not-can_keep.false) c.in-Ok.ensures.added refl _ c.lose.ensures
+    (sym c.has.ensures ∙ c.if-has.false) (c.can_keep.ensures.0 c.if-not-can_keep.false) c.in-Ok.ensures.added refl _ c.note_formed.ensures
     (cut_there nodes outs c.args.node c.index_mut-outgoing.result.now c.cut.new.self within c.index_mut-outgoing.ensures.value c.args.keep.now c.cut.ensures.len c.cut.ensures.cut)
     (cut_others nodes outs c.args.node c.index_mut-outgoing.result.now c.cut.new.self within c.index_mut-outgoing.ensures.value c.args.keep.now c.cut.ensures.len c.cut.ensures.cut)

@@ -25,9 +25,9 @@ pub returns-in-Ok-clause-losing : goal.returns-in-Ok-clause-losing
 returns-in-Ok-clause-losing g c = λ config u shows.
     let many = length-map c.args.self.now.nodes.items node_of in
     let within : c.args.node < length (crossing_of c.args.self.now).nodes = omega (arith, many, c.if-node-len.false, c.len.ensures, c.args.self.now.nodes.ok) in
-    lost_with config (crossing_of c.args.self.now) (account_of c.args.self.now.histories) _ u c.args.node (lost_in c.add.new.self) c.formed_at_loss-formed.result c.lose.ensures
+    lost_with config (crossing_of c.args.self.now) (account_of c.args.self.now.histories) _ u c.args.node (lost_in c.add.new.self) c.formed_at_loss-formed.result c.note_formed.ensures
     (lost_bytes config (crossing_of c.args.self.now) (account_of c.args.self.now.histories) u c.args.node (lost_in c.args.self.now.losses) (lost_in c.add.new.self) shows
     (λ packets bytes. c.loss_cuts_packets.ensures.cut written_of packets bytes) within (sym c.has.ensures ∙ c.if-has.false) c.in-Ok.ensures.added)
 
 pub returns-in-Ok-clause-account : goal.returns-in-Ok-clause-account
-returns-in-Ok-clause-account g c = c.lose.ensures ∙ ap (λ b. account_formed b (account_of c.args.self.now.histories)) c.formed_at_loss-formed.ensures
+returns-in-Ok-clause-account g c = c.note_formed.ensures ∙ ap (λ b. account_formed b (account_of c.args.self.now.histories)) c.formed_at_loss-formed.ensures
