@@ -13,6 +13,7 @@ use Rattle.pg_opens.specs.contracts.command.OpenCommand as OpenCommand
 use Rattle.pg_opens.specs.contracts.opens.Opens as Opens
 use Rattle.pg_ring.specs.contracts.ring_in.RingIn as RingIn
 use Rattle.pg_ring.specs.contracts.ring_out.RingOut as RingOut
+use Rattle.pg_run.specs.contracts.held.Held as Held
 use Rattle.pg_run.specs.contracts.linked.LinkedNode as LinkedNode
 use Rattle.pg_run.specs.contracts.log.NodeEvent as NodeEvent
 use Rattle.pg_run.specs.contracts.notices.Notice as Notice
@@ -21,6 +22,7 @@ use Rattle.pg_run.specs.contracts.port.Asked as Asked
 use Rattle.pg_run.specs.contracts.port.Port as Port
 use Rattle.pg_run.specs.contracts.run.NodeRun as NodeRun
 use Rattle.pg_run.specs.contracts.running.Ran as Ran
+use Rattle.pg_step.specs.contracts.command.Command as Command
 use Rattle.pg_cluster.proofs.TermsSent.{atom_send}
 use Rattle.pg_cluster.proofs.PartsSent.{opid_send, update_send, command_send, answer_send}
 use Rattle.pg_cluster.proofs.PartsSent.{lock_send, ended_send, formation_send, processes_send}
@@ -77,10 +79,16 @@ ring_out_send = search (sendable, crosses, end_send) depth 30
 pub ring_in_send : IsSend RingIn.the_row
 ring_in_send = search (sendable, crosses, end_send) depth 30
 
+held_send : (R : RattleType) → IsSend R → IsSend (Held.the_row R)
+held_send R s = search (sendable, crosses) depth 30
+
 event_send : IsSend NodeEvent.the_row
 event_send = variants_send NodeEvent.enum (
   (search (sendable, crosses, as_row_send) depth 30, tt),
-  ((search (sendable, crosses, as_row_send) depth 30, (command_send, tt)), ((opid_send, tt), ((search (sendable, crosses, as_row_send) depth 30, tt), tt))),
+  (
+    (search (sendable, crosses, as_row_send) depth 30, (as_row_send (Held.the_field Command.the_row) (held_send Command.the_row command_send), tt)),
+    ((opid_send, tt), ((search (sendable, crosses, as_row_send) depth 30, tt), tt)),
+  ),
 )
 
 asked_send : IsSend Asked.the_row

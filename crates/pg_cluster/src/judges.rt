@@ -166,7 +166,10 @@ fn is_pending(nodes: &[Node<IndexTable>], event: &NodeEvent) -> bool
     ensures { result ≡ is_pending_end nodes.now event.now }
 {
     match event {
-        NodeEvent::Command(_, Command::Finish(pid)) => is_taken_by_some(nodes, pid),
+        NodeEvent::Command(_, command) => match command.get() {
+            Command::Finish(pid) => is_taken_by_some(nodes, pid),
+            _ => false,
+        },
         _ => false,
     }
 }

@@ -30,5 +30,5 @@ pub use laws::{
     nodes_of_one_run_agree, one_losing_run_replays, one_run_replays, survivors_of_one_run_agree,
     threads_are_one_losing_run, threads_are_one_run,
 };
-pub use pg_run::{Client, Gate, LogEntry, NodeEvent};
+pub use pg_run::{Client, Gate, Held, LogEntry, NodeEvent};
 pub use running::{OpenGate, Running};

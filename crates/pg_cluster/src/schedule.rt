@@ -63,7 +63,7 @@ fn step_of(alloc: Global, node: usize, event: &NodeEvent) -> Result<FrameStep, A
         NodeEvent::Command(port, command) => FrameStep::Command {
             node,
             port: *port,
-            command: copy_command(alloc, command)?,
+            command: copy_command(alloc, command.get())?,
         },
         NodeEvent::Retry(op) => FrameStep::Retry { node, op: *op },
         NodeEvent::SeeLoss(peer) => FrameStep::SeeLoss {

@@ -172,7 +172,7 @@ fn is_change_of(event: &NodeEvent, name: &Term) -> bool
     ensures { result ≡ is_change_of_event name.now event.now }
 {
     match event {
-        NodeEvent::Command(_, command) => changes(command, name),
+        NodeEvent::Command(_, command) => changes(command.get(), name),
         _ => false,
     }
 }
@@ -210,9 +210,12 @@ fn is_pending(nodes: &[Node<IndexTable>], lost: &[bool], event: &NodeEvent) -> b
     ensures { result ≡ is_pending_end (survivors lost.now nodes.now) event.now }
 {
     match event {
-        NodeEvent::Command(_, Command::Finish(pid)) => {
-            is_taken_by_one(nodes, lost, pid) && !is_taken_by_each(nodes, lost, pid)
-        }
+        NodeEvent::Command(_, command) => match command.get() {
+            Command::Finish(pid) => {
+                is_taken_by_one(nodes, lost, pid) && !is_taken_by_each(nodes, lost, pid)
+            }
+            _ => false,
+        },
         _ => false,
     }
 }

@@ -3,6 +3,7 @@
 ghost use Rattle.std.specs.Prelude.{◌≡◌, ◌<◌, ◌+◌, ◌^◌, ◌++◌, [], ◌∷◌, true, false, Ok, None, Some};
 ghost use Rattle.std.specs.Prelude.{IfOk, IfErr, IfSome, OnOk, length, vec_len, vec_capacity};
 
+use crate::held::Held;
 use crate::linked::LinkedNode;
 use crate::log::NodeEvent;
 use pg_group::GroupTable;
@@ -88,29 +89,46 @@ impl<T: GroupTable + Drop, L: Link + Drop, I: Inlet + Drop> LinkedNode<T, L, I> 
         }
     }
 
-    /// Takes a command that comes in at a port, and logs it. `port`: its place among the ports. The place in the log
-    /// is got first.
+    /// Takes a command that comes in at a port, and logs it. `port`: its place among the ports. The command's block and
+    /// the place in the log are got first.
     ///
     /// Errors, by which nothing happens, nothing is logged, and the command is handed back: those of `Node::command`;
     /// `OutOfMemory` may come in the place of each.
     ///
-    /// Cost: that of `Node::command`, and memory for one more entry of the log.
+    /// Cost: that of `Node::command`, and memory for one more entry of the log and for the command.
     pub fn command(&mut self, port: u16, command: Command) -> Result<(), (NodeFault, Command)>
         requires place { port < ports_of (held_by (node_of self.old)) }
         ensures acted { Acted L.accepts I.gives (Did (Issue port command)) result self.old self.new }
         ensures fault { IfErr result (λ back. IsRefusedAs (told_of_action (node_of self.old) (Issue port command)) back.0) }
         ensures back { IfErr result (λ back. back.1 ≡ command) }
     {
-        if self.log.reserve(1).is_err() {
-            return Err((NodeFault::OutOfMemory, command));
+        match Held::new(*self.log.allocator(), command) {
+            Ok(command) => self.command_held(port, command),
+            Err(command) => Err((NodeFault::OutOfMemory, command)),
         }
-        match self.node.command(port, &command) {
+    }
+
+    /// Takes a command that comes in at a port, and logs it.
+    fn command_held(
+        &mut self,
+        port: u16,
+        command: Held<Command>,
+    ) -> Result<(), (NodeFault, Command)>
+        requires place { port < ports_of (held_by (node_of self.old)) }
+        ensures acted { Acted L.accepts I.gives (Did (Issue port command)) result self.old self.new }
+        ensures fault { IfErr result (λ back. IsRefusedAs (told_of_action (node_of self.old) (Issue port command)) back.0) }
+        ensures back { IfErr result (λ back. back.1 ≡ command) }
+    {
+        if self.log.reserve(1).is_err() {
+            return Err((NodeFault::OutOfMemory, command.into_inner()));
+        }
+        match self.node.command(port, command.get()) {
             Ok(done) => {
                 drop(done);
                 self.keep(NodeEvent::Command(port, command));
                 Ok(())
             }
-            Err(fault) => Err((fault, command)),
+            Err(fault) => Err((fault, command.into_inner())),
         }
     }
 

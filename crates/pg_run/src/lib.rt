@@ -5,6 +5,7 @@
 #![tactic(auto)]
 
 mod events;
+mod held;
 mod linked;
 mod log;
 mod losses;
@@ -19,6 +20,7 @@ mod run;
 mod running;
 mod serving;
 
+pub use held::Held;
 pub use linked::{LinkedNode, Peer};
 pub use log::{LogEntry, NodeEvent};
 pub use notices::{NOTICE_PLACES, Notice};

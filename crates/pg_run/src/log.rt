@@ -1,5 +1,6 @@
 //! What a node keeps of its events.
 
+use crate::held::Held;
 use pg_step::{Command, OpId};
 
 /// An event of one node.
@@ -8,7 +9,7 @@ pub enum NodeEvent {
     /// It took the next packet of the peer at this place among its peers.
     Take(usize),
     /// A command came in at a port.
-    Command(u16, Command),
+    Command(u16, Held<Command>),
     /// It tried a command again that waited.
     Retry(OpId),
     /// It saw the loss of the peer at this place among its peers.

@@ -1,19 +1,15 @@
-use Rattle.std.proofs.Common.{refl}
-use Rattle.pg_run.proofs.Acting.{nothing_done, nothing_held, log_after}
-use Rattle.pg_run.proofs.Taking.{action_acts}
+use Rattle.std.proofs.Common.{refl, subst}
+use Rattle.pg_run.specs.Acts.{Did}
+use Rattle.pg_run.specs.Events.{Acted}
+use Rattle.pg_run.proofs.Acting.{nothing_held}
 use Rattle.pg_run.proofs.linked.LinkedNode.command.Goals as goal
+use Rattle.pg_step.specs.declared.command.Command.{Command}
 use Rattle.pg_step.specs.Step.{Issue}
-
-pub returns-then-is_err-clause-acted : goal.returns-then-is_err-clause-acted
-returns-then-is_err-clause-acted g c =
-    nothing_held g.L.Link.accepts g.I.Inlet.gives g.met.L.Link.rests g.met.I.Inlet.rests c.args.self.now _ refl c.reserve.ensures.items refl refl
 
 pub returns-in-Ok-clause-acted : goal.returns-in-Ok-clause-acted
 returns-in-Ok-clause-acted g c =
-    action_acts g.L.Link.accepts g.I.Inlet.gives g.met.L.Link.rests g.met.I.Inlet.rests c.args.self.now c.keep.new.self c.command.new.self (Issue c.args.port c.args.command) _
-    c.in-Ok.ensures.event c.in-Ok.ensures.fits c.in-Ok.ensures.small c.in-Ok.ensures.sent c.command.ensures.names c.command.ensures.ports c.keep.ensures.node
-    (log_after _ _ _ _ c.keep.ensures.log c.reserve.ensures.items) c.keep.ensures.peers
+    subst (λ (command : Command). Acted g.L.Link.accepts g.I.Inlet.gives (Did (Issue c.args.port command)) c.command_held.result c.args.self.now c.command_held.new.self)
+    c.in-Ok.ensures.ok c.command_held.ensures.acted
 
 pub returns-in-Err-clause-acted : goal.returns-in-Err-clause-acted
-returns-in-Err-clause-acted g c =
-    nothing_done g.L.Link.accepts g.I.Inlet.gives g.met.L.Link.rests g.met.I.Inlet.rests c.args.self.now _ c.command.ensures.names c.command.ensures.ports c.in-Err.ensures.err c.in-Err.ensures.err_answers c.reserve.ensures.items refl c.in-Err.ensures.kept
+returns-in-Err-clause-acted g c = nothing_held g.L.Link.accepts g.I.Inlet.gives g.met.L.Link.rests g.met.I.Inlet.rests c.args.self.now _ refl refl refl refl
