@@ -388,7 +388,8 @@ static TAKEN_ALONG: &[Turn<'static>] = &[
 // A node is lost before the others are formed, which is told so for good.
 static LOST_EARLY: &[Turn<'static>] = &[
     &[FormedFirst(true), Lose(2, GONE), FormedFirst(false)],
-    &[Settle(2), See(0, 2, QUIET), See(1, 2, QUIET)],
+    &[Take(0, 1, QUIET), Take(1, 0, QUIET)],
+    &[See(0, 2, QUIET), See(1, 2, QUIET)],
     &[Lose(1, GONE), FormedFirst(false)],
 ];
 
