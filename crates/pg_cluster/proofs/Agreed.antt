@@ -29,12 +29,14 @@ use Rattle.pg_step.specs.Step.{Action, Issue}
 use Rattle.pg_step.specs.declared.command.Command.TheVariants.{Finish}
 use Rattle.pg_joining.specs.Apart.{event_at}
 use Rattle.pg_frame_world.specs.declared.step.FrameStep.{FrameStep}
+use Rattle.pg_cluster.specs.Closed.{IsOneRun}
 use Rattle.pg_cluster.specs.Judges.{Agree, formed_in, is_end_pending, is_pending_end, is_taken_by_some, state_in}
 use Rattle.pg_cluster.specs.Notices.{NobodyLost}
 use Rattle.pg_cluster.specs.Threads.{NodeOf, Thread, AreMade, begun_by}
 use Rattle.pg_cluster.specs.Together.{AreOneRun}
 use Rattle.pg_cluster.specs.declared.closed.Closed.{Closed}
 use Rattle.pg_cluster.specs.declared.closed.Stopped.{Stopped}
+use Rattle.pg_cluster.proofs.StepsThere.{steps_there}
 
 -- ---- lists
 
@@ -194,7 +196,9 @@ module _ (finished : EndedWereFinished) (unseen : NoLossIsSeen) (given : Config)
 pub closed_agree : {K : Type 0}
     → ((given : Config) (nodes : List NodeOf) (logs : List (Vec (ℕ × NodeEvent) Global)) (schedule : List FrameStep) → AreOneRun given nodes (map (λ v. v.items) logs) schedule → Agree nodes logs)
     → (lost : List Bool) (threads : List (Thread K)) (result : Result Closed Stopped)
-    → IfOk result (λ closed. NobodyLost lost → (given : Config) → AreMade given (map begun_by threads) → AreOneRun given closed.nodes.items (map (λ v. v.items) closed.logs.items) closed.schedule.items)
+    → IfOk result (λ closed. NobodyLost lost → (given : Config) → AreMade given (map begun_by threads) → IsOneRun given closed)
     → IfOk result (λ closed. NobodyLost lost → (given : Config) → AreMade given (map begun_by threads) → Agree closed.nodes.items closed.logs.items)
-closed_agree law lost threads (Ok closed) run = λ nobody given made. law given closed.nodes.items closed.logs.items closed.schedule.items (run nobody given made)
+closed_agree law lost threads (Ok closed) run = λ nobody given made.
+    let there = steps_there closed in
+    law given closed.nodes.items closed.logs.items there.0 (run nobody given made there.0 there.1)
 closed_agree law lost threads (Err stopped) run = tt

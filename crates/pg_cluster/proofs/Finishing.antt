@@ -21,18 +21,22 @@ use Rattle.pg_cluster.specs.declared.closed.Closed.{Closed}
 use Rattle.pg_cluster.specs.declared.closed.Stopped.{Stopped}
 use Rattle.pg_cluster.specs.declared.closed.TurnCount.{TurnCount}
 use Rattle.pg_cluster.specs.Clients.{AllPairs, AllHeard, ClientsRest, ports_ended}
-use Rattle.pg_cluster.specs.Closed.{JoinsToOneLosingRun, JoinsToOneRun, nodes_of, logs_of, turns_of, losses_of, clients_of}
+use Rattle.pg_cluster.specs.Closed.{AreStepsOf, IsInOrder, IsOneLosingRun, IsOneRun, JoinsToOneLosingRun, JoinsToOneRun}
+use Rattle.pg_cluster.specs.Closed.{nodes_of, logs_in, logs_of, turns_of, losses_of, clients_of}
 use Rattle.pg_cluster.specs.Judges.{Agree}
 use Rattle.pg_cluster.specs.Ended.{AreWired, AllArrived}
 use Rattle.pg_cluster.specs.Notices.{IsOfLost, NobodyLost}
 use Rattle.pg_cluster.specs.Schedule.{IsLosingSchedule, IsSchedule}
-use mathlib.Core.Logic.{∥∥₁_map}
+use Rattle.std.proofs.Props.{props}
+use mathlib.Core.Logic.{∥∥₁_elim, ∥∥₁_map}
 use Rattle.pg_cluster.specs.Survivors.{SurvivorsAgree}
 use Rattle.pg_cluster.specs.Threads.{NodeOf, RunOf, RanOf, Thread, AreMade, EndedWith, Joined, begun_by}
 use Rattle.pg_cluster.specs.Threads.{lasts_ended, node_in, log_in, turns_in, rows_begun, rows_ended, notices_ended}
 use Rattle.pg_cluster.specs.Together.{AreOneLosingRun, AreOneRun}
 use Rattle.pg_cluster.proofs.Closing.{crossed_after}
 use Rattle.pg_cluster.proofs.Hearing.{heard_all}
+use Rattle.pg_cluster.proofs.Scheduling.{all_events}
+use Rattle.pg_cluster.proofs.StepsThere.{steps_there}
 
 -- one more stands in its place
 pub one_more_stands :
@@ -130,80 +134,71 @@ pub finished_lost : (lost : List Bool) (stopped : Stopped) (result : Result Clos
 finished_lost lost stopped (Ok closed) are told same = told ∙ are
 finished_lost lost stopped (Err other) are told same = ap losses_of same ∙ are
 
--- the schedule, whoever was lost
-pub finished_losing : (lost : List Bool) (stopped : Stopped) (result : Result Closed Stopped) → losses_of stopped ≡ lost
-    → IfOk result (λ closed. IsLosingSchedule (map (λ v. v.items) closed.logs.items) (losses_of stopped) closed.schedule.items)
-    → IfOk result (λ closed. IsLosingSchedule (map (λ v. v.items) closed.logs.items) lost closed.schedule.items)
-finished_losing lost stopped (Ok closed) are is = subst (λ marks. IsLosingSchedule (map (λ v. v.items) closed.logs.items) marks closed.schedule.items) are is
-finished_losing lost stopped (Err other) are is = tt
+-- ---- its steps
 
--- it is one run
+-- what the steps of a cluster that has ended are, whoever was lost, and where nobody was
+pub in_schedule : (closed : Closed) → IsInOrder closed → (steps : List FrameStep) → AreStepsOf closed steps → IsLosingSchedule (logs_in closed) closed.lost.items steps
+in_schedule closed order steps are = record { order = closed.order.items; merges = order; is = are }
+
+pub in_plain_schedule : (closed : Closed) → IsInOrder closed → NobodyLost closed.lost.items → (steps : List FrameStep) → AreStepsOf closed steps → IsSchedule (logs_in closed) (length (logs_in closed)) steps
+in_plain_schedule closed order nobody steps are = all_events (logs_in closed) closed.lost.items steps (in_schedule closed order steps are) nobody
+
+-- they are one run of the machine with losses
 pub finished_losing_run : {K : Type 0}
     → ((given : Config) (lost : List Bool) (threads : List (Thread K)) (nodes : List NodeOf) (logs : List (List (ℕ × NodeEvent))) (turns : List TurnCount) (schedule : List FrameStep)
     → AreMade given (map begun_by threads) → EndedWith lost threads nodes logs turns → IsLosingSchedule logs lost schedule → AreOneLosingRun given lost nodes schedule)
     → (lost : List Bool) (threads : List (Thread K)) (result : Result Closed Stopped)
     → MatchResult result (λ closed. ∥ EndedWith lost threads closed.nodes.items (map (λ v. v.items) closed.logs.items) closed.turns.items ∥₁) (λ other. ∥ EndedWith lost threads (nodes_of other) (logs_of other) (turns_of other) ∥₁)
-    → IfOk result (λ closed. IsLosingSchedule (map (λ v. v.items) closed.logs.items) lost closed.schedule.items)
-    → IfOk result (λ closed. (given : Config) → AreMade given (map begun_by threads) → ∥ AreOneLosingRun given lost closed.nodes.items closed.schedule.items ∥₁)
-finished_losing_run law lost threads (Ok closed) ended is = λ given made.
-    ∥∥₁_map ended (λ e. law given lost threads closed.nodes.items (map (λ v. v.items) closed.logs.items) closed.turns.items closed.schedule.items made e is)
-finished_losing_run law lost threads (Err other) ended is = tt
+    → IfOk result IsInOrder → MatchResult result (λ closed. closed.lost.items ≡ lost) (λ other. losses_of other ≡ lost)
+    → IfOk result (λ closed. (given : Config) → AreMade given (map begun_by threads) → IsOneLosingRun given closed)
+finished_losing_run law lost threads (Ok closed) ended order same = λ given made steps are.
+    ∥∥₁_map ended (λ e.
+    law given closed.lost.items threads closed.nodes.items (logs_in closed) closed.turns.items steps made
+    (subst (λ marks. EndedWith marks threads closed.nodes.items (logs_in closed) closed.turns.items) (sym same) e) (in_schedule closed order steps are))
+finished_losing_run law lost threads (Err other) ended order same = tt
 
--- the schedule, where none was lost
-pub finished_schedule : (lost : List Bool) (stopped : Stopped) (result : Result Closed Stopped) → losses_of stopped ≡ lost
-    → IfOk result (λ closed. NobodyLost (losses_of stopped) → IsSchedule (map (λ v. v.items) closed.logs.items) (length closed.logs.items) closed.schedule.items)
-    → IfOk result (λ closed. NobodyLost lost → IsSchedule (map (λ v. v.items) closed.logs.items) (length closed.logs.items) closed.schedule.items)
-finished_schedule lost stopped (Ok closed) are is = λ nobody. is (subst NobodyLost (sym are) nobody)
-finished_schedule lost stopped (Err other) are is = tt
-
--- it is one run
+-- they are one run, where nobody was lost
 pub finished_run : {K : Type 0}
     → ((given : Config) (lost : List Bool) (threads : List (Thread K)) (nodes : List NodeOf) (logs : List (List (ℕ × NodeEvent))) (turns : List TurnCount) (schedule : List FrameStep)
     → NobodyLost lost → AreMade given (map begun_by threads) → EndedWith lost threads nodes logs turns → IsSchedule logs (length logs) schedule → AreOneRun given nodes logs schedule)
     → (lost : List Bool) (threads : List (Thread K)) (result : Result Closed Stopped)
     → (NobodyLost lost → MatchResult result (λ closed. EndedWith lost threads closed.nodes.items (map (λ v. v.items) closed.logs.items) closed.turns.items) (λ other. EndedWith lost threads (nodes_of other) (logs_of other) (turns_of other)))
-    → IfOk result (λ closed. NobodyLost lost → IsSchedule (map (λ v. v.items) closed.logs.items) (length closed.logs.items) closed.schedule.items)
-    → IfOk result (λ closed. NobodyLost lost → (given : Config) → AreMade given (map begun_by threads)
-    → AreOneRun given closed.nodes.items (map (λ v. v.items) closed.logs.items) closed.schedule.items)
-finished_run law lost threads (Ok closed) ended is = λ nobody given made.
-    law given lost threads closed.nodes.items (map (λ v. v.items) closed.logs.items) closed.turns.items closed.schedule.items nobody made (ended nobody)
-    (subst (λ n. IsSchedule (map (λ v. v.items) closed.logs.items) n closed.schedule.items) (sym (length-map closed.logs.items (λ v. v.items))) (is nobody))
-finished_run law lost threads (Err other) ended is = tt
+    → IfOk result IsInOrder → MatchResult result (λ closed. closed.lost.items ≡ lost) (λ other. losses_of other ≡ lost)
+    → IfOk result (λ closed. NobodyLost lost → (given : Config) → AreMade given (map begun_by threads) → IsOneRun given closed)
+finished_run law lost threads (Ok closed) ended order same = λ nobody given made steps are.
+    law given lost threads closed.nodes.items (logs_in closed) closed.turns.items steps nobody made (ended nobody) (in_plain_schedule closed order (subst NobodyLost (sym same) nobody) steps are)
+finished_run law lost threads (Err other) ended order same = tt
 
 -- ---- what stopped, once it is finished
 
 pub joined_run : (stopped : Stopped) (result : Result Closed Stopped) → IfOk result (λ closed. closed.nodes.items ≡ nodes_of stopped)
-    → IfOk result (λ closed. map (λ v. v.items) closed.logs.items ≡ logs_of stopped)
-    → IfOk result (λ closed. NobodyLost (losses_of stopped) → IsSchedule (map (λ v. v.items) closed.logs.items) (length closed.logs.items) closed.schedule.items)
-    → IfOk result (λ closed. NobodyLost (losses_of stopped) → (given : Config) → JoinsToOneRun given (nodes_of stopped) (logs_of stopped)
-    → AreOneRun given closed.nodes.items (map (λ v. v.items) closed.logs.items) closed.schedule.items)
-joined_run stopped (Ok closed) nodes logs is = λ nobody given joins.
-    let own = map (λ v. v.items) closed.logs.items in
-    let joined : IsSchedule own (length own) closed.schedule.items =
-    subst (λ n. IsSchedule own n closed.schedule.items) (sym (length-map closed.logs.items (λ v. v.items))) (is nobody) in
-    subst (λ ns. AreOneRun given ns own closed.schedule.items) (sym nodes)
-    (subst (λ ls. AreOneRun given (nodes_of stopped) ls closed.schedule.items) (sym logs)
-    (joins closed.schedule.items (subst (λ ls. IsSchedule ls (length ls) closed.schedule.items) logs joined)))
-joined_run stopped (Err other) nodes logs is = tt
+    → IfOk result (λ closed. map (λ v. v.items) closed.logs.items ≡ logs_of stopped) → IfOk result (λ closed. closed.lost.items ≡ losses_of stopped) → IfOk result IsInOrder
+    → IfOk result (λ closed. NobodyLost (losses_of stopped) → (given : Config) → JoinsToOneRun given (nodes_of stopped) (logs_of stopped) → IsOneRun given closed)
+joined_run stopped (Ok closed) nodes logs lost order = λ nobody given joins steps are.
+    subst (λ ns. AreOneRun given ns (logs_in closed) steps) (sym nodes)
+    (subst (λ ls. AreOneRun given (nodes_of stopped) ls steps) (sym logs)
+    (joins steps (subst (λ ls. IsSchedule ls (length ls) steps) logs (in_plain_schedule closed order (subst NobodyLost (sym lost) nobody) steps are))))
+joined_run stopped (Err other) nodes logs lost order = tt
 
 -- the same, whoever was lost
 pub joined_losing_run : (stopped : Stopped) (result : Result Closed Stopped) → IfOk result (λ closed. closed.nodes.items ≡ nodes_of stopped)
-    → IfOk result (λ closed. map (λ v. v.items) closed.logs.items ≡ logs_of stopped)
-    → IfOk result (λ closed. IsLosingSchedule (map (λ v. v.items) closed.logs.items) (losses_of stopped) closed.schedule.items)
-    → IfOk result (λ closed. (given : Config) → JoinsToOneLosingRun given (losses_of stopped) (nodes_of stopped) (logs_of stopped)
-    → ∥ AreOneLosingRun given (losses_of stopped) closed.nodes.items closed.schedule.items ∥₁)
-joined_losing_run stopped (Ok closed) nodes logs is = λ given joins.
-    subst (λ ns. ∥ AreOneLosingRun given (losses_of stopped) ns closed.schedule.items ∥₁) (sym nodes)
-    (joins closed.schedule.items (subst (λ ls. IsLosingSchedule ls (losses_of stopped) closed.schedule.items) logs is))
-joined_losing_run stopped (Err other) nodes logs is = tt
+    → IfOk result (λ closed. map (λ v. v.items) closed.logs.items ≡ logs_of stopped) → IfOk result (λ closed. closed.lost.items ≡ losses_of stopped) → IfOk result IsInOrder
+    → IfOk result (λ closed. (given : Config) → JoinsToOneLosingRun given (losses_of stopped) (nodes_of stopped) (logs_of stopped) → IsOneLosingRun given closed)
+joined_losing_run stopped (Ok closed) nodes logs lost order = λ given joins steps are.
+    subst (λ ns. ∥ AreOneLosingRun given closed.lost.items ns steps ∥₁) (sym nodes)
+    (subst (λ marks. ∥ AreOneLosingRun given marks (nodes_of stopped) steps ∥₁) (sym lost)
+    (joins steps (subst (λ ls. IsLosingSchedule ls (losses_of stopped) steps) logs
+    (subst (λ marks. IsLosingSchedule (logs_in closed) marks steps) lost (in_schedule closed order steps are)))))
+joined_losing_run stopped (Err other) nodes logs lost order = tt
 
 pub joined_agree : ((given : Config) (nodes : List NodeOf) (logs : List (Vec (ℕ × NodeEvent) Global)) (schedule : List FrameStep)
     → AreOneRun given nodes (map (λ v. v.items) logs) schedule → Agree nodes logs)
     → (stopped : Stopped) (result : Result Closed Stopped)
-    → IfOk result (λ closed. NobodyLost (losses_of stopped) → (given : Config) → JoinsToOneRun given (nodes_of stopped) (logs_of stopped)
-    → AreOneRun given closed.nodes.items (map (λ v. v.items) closed.logs.items) closed.schedule.items)
+    → IfOk result (λ closed. NobodyLost (losses_of stopped) → (given : Config) → JoinsToOneRun given (nodes_of stopped) (logs_of stopped) → IsOneRun given closed)
     → IfOk result (λ closed. NobodyLost (losses_of stopped) → (given : Config) → JoinsToOneRun given (nodes_of stopped) (logs_of stopped) → Agree closed.nodes.items closed.logs.items)
-joined_agree law stopped (Ok closed) run = λ nobody given joins. law given closed.nodes.items closed.logs.items closed.schedule.items (run nobody given joins)
+joined_agree law stopped (Ok closed) run = λ nobody given joins.
+    let there = steps_there closed in
+    law given closed.nodes.items closed.logs.items there.0 (run nobody given joins there.0 there.1)
 joined_agree law stopped (Err other) run = tt
 
 -- what a thread made joins to one run, where no node was lost
@@ -239,34 +234,27 @@ SurvivorsOfOneRun = (given : Config) (lost : List Bool) (nodes : List NodeOf) (l
 
 -- they agree, of what stopped, once it is finished
 pub joined_survivors : SurvivorsOfOneRun → (stopped : Stopped) (result : Result Closed Stopped) → IfOk result (λ closed. closed.nodes.items ≡ nodes_of stopped)
-    → IfOk result (λ closed. map (λ v. v.items) closed.logs.items ≡ logs_of stopped) → IfOk result (λ closed. closed.lost.items ≡ losses_of stopped)
-    → IfOk result (λ closed. IsLosingSchedule (map (λ v. v.items) closed.logs.items) (losses_of stopped) closed.schedule.items)
+    → IfOk result (λ closed. map (λ v. v.items) closed.logs.items ≡ logs_of stopped) → IfOk result IsInOrder
+    → IfOk result (λ closed. (given : Config) → JoinsToOneLosingRun given (losses_of stopped) (nodes_of stopped) (logs_of stopped) → IsOneLosingRun given closed)
     → IfOk result (λ closed. (given : Config) → JoinsToOneLosingRun given (losses_of stopped) (nodes_of stopped) (logs_of stopped)
     → length (logs_of stopped) ≡ length (nodes_of stopped) → ∥ SurvivorsAgree closed.nodes.items closed.lost.items closed.logs.items ∥₁)
-joined_survivors law stopped (Ok closed) nodes logs lost is = λ given joins sizes.
+joined_survivors law stopped (Ok closed) nodes logs order run = λ given joins sizes.
     let count : length closed.logs.items ≡ length closed.nodes.items =
     sym (length-map closed.logs.items (λ v. v.items)) ∙ (ap length logs ∙ (sizes ∙ ap length (sym nodes))) in
-    let marks : IsLosingSchedule (map (λ v. v.items) closed.logs.items) closed.lost.items closed.schedule.items =
-    subst (λ ls. IsLosingSchedule (map (λ v. v.items) closed.logs.items) ls closed.schedule.items) (sym lost) is in
-    ∥∥₁_map (joins closed.schedule.items (subst (λ ls. IsLosingSchedule ls (losses_of stopped) closed.schedule.items) logs is)) (λ run.
-    law given closed.lost.items closed.nodes.items closed.logs.items closed.schedule.items
-    (subst (λ ns. AreOneLosingRun given closed.lost.items ns closed.schedule.items) (sym nodes) (subst (λ ls. AreOneLosingRun given ls (nodes_of stopped) closed.schedule.items) (sym lost) run)) count marks)
-joined_survivors law stopped (Err other) nodes logs lost is = tt
+    let there = steps_there closed in
+    ∥∥₁_map (run given joins there.0 there.1) (λ one. law given closed.lost.items closed.nodes.items closed.logs.items there.0 one count (in_schedule closed order there.0 there.1))
+joined_survivors law stopped (Err other) nodes logs order run = tt
 
 -- and of a cluster that has ended
 pub closed_survivors : {K : Type 0} → SurvivorsOfOneRun
-    → ((given : Config) (lost : List Bool) (threads : List (Thread K)) (nodes : List NodeOf) (logs : List (List (ℕ × NodeEvent))) (turns : List TurnCount) (schedule : List FrameStep)
-    → AreMade given (map begun_by threads) → EndedWith lost threads nodes logs turns → IsLosingSchedule logs lost schedule → AreOneLosingRun given lost nodes schedule)
     → (lost : List Bool) (threads : List (Thread K)) (result : Result Closed Stopped)
     → MatchResult result (λ closed. ∥ EndedWith lost threads closed.nodes.items (map (λ v. v.items) closed.logs.items) closed.turns.items ∥₁) (λ other. ∥ EndedWith lost threads (nodes_of other) (logs_of other) (turns_of other) ∥₁)
-    → IfOk result (λ closed. IsLosingSchedule (map (λ v. v.items) closed.logs.items) lost closed.schedule.items)
-    → MatchResult result (λ closed. closed.lost.items ≡ lost) (λ other. losses_of other ≡ lost)
+    → IfOk result IsInOrder → IfOk result (λ closed. (given : Config) → AreMade given (map begun_by threads) → IsOneLosingRun given closed)
     → IfOk result (λ closed. (given : Config) → AreMade given (map begun_by threads) → ∥ SurvivorsAgree closed.nodes.items closed.lost.items closed.logs.items ∥₁)
-closed_survivors law runs lost threads (Ok closed) ended is same = λ given made.
-    ∥∥₁_map ended (λ e.
+closed_survivors law lost threads (Ok closed) ended order run = λ given made.
+    let there = steps_there closed in
+    ∥∥₁_elim ended (hlevel props) (λ e.
     let count : length closed.logs.items ≡ length closed.nodes.items =
     sym (length-map closed.logs.items (λ v. v.items)) ∙ (ap length e.logged ∙ (length-map e.rans (λ ran. log_in ran.run) ∙ (sym (length-map e.rans (λ ran. node_in ran.run)) ∙ ap length (sym e.ended)))) in
-    subst (λ ls. SurvivorsAgree closed.nodes.items ls closed.logs.items) (sym same)
-    (law given lost closed.nodes.items closed.logs.items closed.schedule.items
-    (runs given lost threads closed.nodes.items (map (λ v. v.items) closed.logs.items) closed.turns.items closed.schedule.items made e is) count is))
-closed_survivors law runs lost threads (Err other) ended is same = tt
+    ∥∥₁_map (run given made there.0 there.1) (λ one. law given closed.lost.items closed.nodes.items closed.logs.items there.0 one count (in_schedule closed order there.0 there.1)))
+closed_survivors law lost threads (Err other) ended order run = tt

@@ -1,6 +1,6 @@
 -- The history of a group in the world to which a schedule leads.
 use Rattle.std.proofs.Common.{◌≡◌, ◌≢◌, ◌∙◌, ℕ, Bool, true, false, List, ◌++◌, [], ◌∷◌, map}
-use Rattle.std.proofs.Common.{Option, Some, None, Result, Ok, Err, refl, sym, ap, subst}
+use Rattle.std.proofs.Common.{Option, Some, None, Result, Ok, Err, sym, ap, subst}
 use Rattle.std.specs.Prelude.{IfOk, IfSome, is_some}
 use Rattle.std.specs.Option.{option_to_list}
 use Rattle.std.specs.declared.alloc.Global.{Global}
@@ -21,6 +21,8 @@ use Rattle.pg_frame_world.specs.Openings.{CanBegin, CantBegin}
 use Rattle.pg_frame_world.specs.Runs.{Ran, LosesNone, over_packets}
 use Rattle.pg_frame_world.specs.Views.{View}
 use Rattle.pg_frame_world.specs.Worlds.{Shows}
+use Rattle.pg_cluster.specs.declared.closed.Closed.{Closed}
+use Rattle.pg_cluster.specs.Closed.{AreStepsOf, IsHistory}
 use Rattle.pg_cluster.specs.Judges.{all_made, ran_out}
 use Rattle.pg_cluster.specs.Threads.{NodeOf}
 use Rattle.pg_cluster.specs.Together.{AreOneLosingRun}
@@ -76,8 +78,16 @@ pub none_found : {A E : Type 0} (P : A → Type 0) (Q : Type 0) (result : Result
 none_found P Q (Ok found) told = subst (λ f. IfSome f P) (sym told.0) tt
 none_found P Q (Err e) told = tt
 
-pub unbegun_history : {A E : Type 0} (ring : ℕ) (given : Config) (nodes : List NodeOf) (schedule : List FrameStep) (fault : WorldFault) (result : Result (Option A) E)
+pub unbegun_history : {A E : Type 0} (ring : ℕ) (given : Config) (Run : Type 0) (fault : WorldFault) (result : Result (Option A) E)
     → (CanBegin ring given → CantBegin ring given fault → fault ≡ OutOfMemory) → CantBegin ring given fault → IfOk result (λ found. (found ≡ None) × (fault ≢ OutOfMemory))
-    → IfOk result (λ found. (lost : List Bool) → CanBegin ring given → AreOneLosingRun given lost nodes schedule → is_some found ≡ true)
-unbegun_history ring given nodes schedule fault (Ok found) memory cant told = λ lost can run. absurd (told.1 (memory can cant))
-unbegun_history ring given nodes schedule fault (Err e) memory cant told = tt
+    → IfOk result (λ found. CanBegin ring given → Run → is_some found ≡ true)
+unbegun_history ring given Run fault (Ok found) memory cant told = λ can run. absurd (told.1 (memory can cant))
+unbegun_history ring given Run fault (Err e) memory cant told = tt
+
+-- the history in the run of a cluster that has ended
+pub told_history : {E : Type 0} (given : Config) (closed : Closed) (steps : List FrameStep) (name : Term) (result : Result (Option (Vec Entry Global)) E) → AreStepsOf closed steps
+    → IfOk result (λ found. IfSome found (λ entries. HasHistory given steps name (map as_entry entries.items)))
+    → IfOk result (λ found. IfSome found (λ entries. IsHistory given closed name (map as_entry entries.items)))
+told_history given closed steps name (Ok (Some entries)) are has = record { steps = steps; are = are; has = has }
+told_history given closed steps name (Ok None) are has = tt
+told_history given closed steps name (Err e) are has = tt

@@ -19,6 +19,8 @@ use Rattle.pg_joining.specs.ApartWithLosses.{nodes_in}
 use Rattle.pg_frame_world.specs.Losing.{ShowsLosing, losing_of}
 use Rattle.pg_frame_world.specs.LosingRuns.{RanLosing, packets_past_losses}
 use Rattle.pg_cluster.specs.Judges.{AreShown, Replays, ReplaysPastLosses, all_made}
+use Rattle.pg_cluster.specs.declared.closed.Closed.{Closed}
+use Rattle.pg_cluster.specs.Closed.{AreStepsOf, IsReplayed}
 
 -- what holds of each answer
 pub of_ok : {X E : Type 0} {P : Type 0} (result : Result X E) → P → IfOk result (λ x. P)
@@ -89,3 +91,15 @@ module _ {T : Type 0} {g : Ghosts T} where
     };
   }
   replays_losing given schedule nodes world numbers (Err e) ran shown = tt
+
+-- what follows of an answer
+pub ok_so : {X E : Type 0} (P Q : X → Type 0) (result : Result X E) → ((x : X) → P x → Q x) → IfOk result P → IfOk result Q
+ok_so P Q (Ok x) then p = then x p
+ok_so P Q (Err e) then p = tt
+
+-- the steps of a cluster that has ended lead to its nodes
+pub replayed_so : {E : Type 0} (given : Config) (closed : Closed) (steps : List FrameStep) (result : Result Bool E) → AreStepsOf closed steps
+    → IfOk result (λ yes. IsTrue yes → LosesNone steps → Replays given steps closed.nodes.items) → IfOk result (λ yes. IsTrue yes → ReplaysPastLosses given steps closed.nodes.items)
+    → IfOk result (λ yes. IsTrue yes → IsReplayed given closed)
+replayed_so given closed steps (Ok told) are unlost losing = λ holds. record { steps = steps; are = are; unlost = unlost holds; losing = losing holds }
+replayed_so given closed steps (Err e) are unlost losing = tt

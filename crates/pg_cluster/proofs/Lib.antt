@@ -4,6 +4,7 @@ pub mod Alike
 pub mod Closing
 pub mod Counted
 pub mod Finishing
+pub mod GoingOn
 pub mod Handing
 pub mod Hearing
 pub mod Histories
@@ -28,6 +29,7 @@ pub mod Settling
 pub mod SettlingPorts
 pub mod ShownOnce
 pub mod Starts
+pub mod StepsThere
 pub mod Surviving
 pub mod SurvivorsAgreed
 pub mod Telling

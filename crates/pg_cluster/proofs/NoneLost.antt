@@ -1,5 +1,5 @@
 -- A schedule of events has no loss in it.
-use Rattle.std.proofs.Common.{◌≡◌, ◌<◌, ℕ, true, not, List, [], ◌∷◌, map, Some, refl, zero, suc, arith}
+use Rattle.std.proofs.Common.{◌≡◌, true, not, List, [], ◌∷◌, map, Some, refl, zero, suc, arith}
 use Rattle.pg_machine.specs.Machine.{Event}
 use Rattle.pg_step.specs.Step.{Action}
 use Rattle.pg_frame_world.specs.Runs.{LosesNone}

@@ -177,11 +177,11 @@ never_no ring given nodes logs schedule view numbers (Ok answer) ran shown none 
 never_no ring given nodes logs schedule view numbers (Err e) ran shown none = tt
 
 -- no is told where no world could begin, which is so of no configuration of which one can
-pub unbegun_so : {E : Type 0} (ring : ℕ) (given : Config) (nodes : List NodeOf) (logs : List (List (ℕ × NodeEvent))) (schedule : List FrameStep) (fault : WorldFault) (result : Result Bool E)
+pub unbegun_so : {E : Type 0} (ring : ℕ) (given : Config) (Run : Type 0) (fault : WorldFault) (result : Result Bool E)
     → (CanBegin ring given → CantBegin ring given fault → fault ≡ OutOfMemory) → CantBegin ring given fault → IfOk result (λ answer. (answer ≡ false) × (fault ≢ OutOfMemory))
-    → IfOk result (λ answer. CanBegin ring given → AreOneRun given nodes logs schedule → answer ≡ true)
-unbegun_so ring given nodes logs schedule fault (Ok answer) memory cant told = λ can run. absurd (told.1 (memory can cant))
-unbegun_so ring given nodes logs schedule fault (Err e) memory cant told = tt
+    → IfOk result (λ answer. CanBegin ring given → Run → answer ≡ true)
+unbegun_so ring given Run fault (Ok answer) memory cant told = λ can run. absurd (told.1 (memory can cant))
+unbegun_so ring given Run fault (Err e) memory cant told = tt
 
 -- ---- a run with no refusals
 

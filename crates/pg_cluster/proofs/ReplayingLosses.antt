@@ -1,10 +1,8 @@
 -- A schedule with losses that leads from the start does so again, unless memory runs out.
-use Rattle.std.proofs.Common.{◌≡◌, ◌≢◌, ◌↔◌, ◌∙◌, inl, inr, ℕ, nat_eq, Bool, true, false, ◌&&◌}
+use Rattle.std.proofs.Common.{◌≡◌, ◌↔◌, ◌∙◌, inl, inr, ℕ, nat_eq, Bool, true, false, ◌&&◌}
 use Rattle.std.proofs.Common.{cond, List, [], ◌∷◌, map, Result, Ok, Err, refl, sym, ap, subst}
 use Rattle.std.specs.Prelude.{IfOk, IsTrue}
 use Rattle.std.specs.Option.{option_map_or}
-use Rattle.pg_config.specs.declared.fault.WorldFault.{WorldFault}
-use Rattle.pg_config.specs.declared.fault.WorldFault.TheVariants.{OutOfMemory}
 use Rattle.pg_machine.specs.Losing.{LosingEvent, losing_happens, nobody_gone}
 use Rattle.pg_machine.specs.Machine.{start_of}
 use Rattle.pg_machine.proofs.Options.{some_is}
@@ -20,7 +18,7 @@ use Rattle.pg_frame_world.specs.declared.step.FrameStep.{FrameStep}
 use Rattle.pg_frame_world.specs.declared.step.FrameStep.TheVariants as steps
 use Rattle.pg_frame_world.specs.Losing.{ShowsLosing, Telling, losing_of, told_of}
 use Rattle.pg_frame_world.specs.LosingRuns.{IsLeftOut, LosingRunsTo, RanLosing, packets_past_losses}
-use Rattle.pg_frame_world.specs.Openings.{CanBegin, CantBegin}
+use Rattle.pg_frame_world.specs.Openings.{CanBegin}
 use Rattle.pg_frame_world.specs.Views.{View}
 use Rattle.pg_frame_world.specs.Worlds.{ShowsNode, TimedFrameWorld}
 use Rattle.pg_frame_world.proofs.OrderedOnce.{ordered_once}
@@ -94,13 +92,6 @@ pub never_no_losing : {E : Type 0} (ring : ℕ) (given : Config) (nodes : List N
     → IfOk result (λ yes. (lost : List Bool) → CanBegin ring given → AreOneLosingRun given lost nodes schedule → yes ≡ true)
 never_no_losing ring given nodes schedule view gone numbers (Ok answer) ran shown none = λ lost can run. shown.1 (losing_again given lost nodes schedule run view gone numbers ran none)
 never_no_losing ring given nodes schedule view gone numbers (Err e) ran shown none = tt
-
--- no is told where no world could begin, which is so of no configuration of which one can
-pub unbegun_losing : {E : Type 0} (ring : ℕ) (given : Config) (nodes : List NodeOf) (schedule : List FrameStep) (fault : WorldFault) (result : Result Bool E)
-    → (CanBegin ring given → CantBegin ring given fault → fault ≡ OutOfMemory) → CantBegin ring given fault → IfOk result (λ answer. (answer ≡ false) × (fault ≢ OutOfMemory))
-    → IfOk result (λ answer. (lost : List Bool) → CanBegin ring given → AreOneLosingRun given lost nodes schedule → answer ≡ true)
-unbegun_losing ring given nodes schedule fault (Ok answer) memory cant told = λ lost can run. absurd (told.1 (memory can cant))
-unbegun_losing ring given nodes schedule fault (Err e) memory cant told = tt
 
 -- ---- a run with no refusals
 

@@ -1,9 +1,9 @@
 -- At each node of a cluster there is room for a notice of each node that runs.
 use Rattle.std.proofs.Common.{◌≡◌, ◌<◌, ◌≤◌, ◌+◌, ℕ, zero, suc, List, [], ◌∷◌}
-use Rattle.std.proofs.Common.{length, get_or, set, refl, sym, ◌∙◌, ap, subst, arith}
+use Rattle.std.proofs.Common.{length, get_or, set, refl, sym, ◌∙◌, arith}
 use Rattle.std.specs.Prelude.{Bool, true, false}
 use Rattle.std.specs.List.{All}
-use Rattle.std.proofs.lemmas.List.{get_or-map, length-map, length-set}
+use Rattle.std.proofs.lemmas.List.{length-set}
 use Rattle.pg_ring.specs.declared.slot_out.SlotOut.{SlotOut}
 use Rattle.pg_ring.specs.Slots.{slots_free}
 use Rattle.pg_run.specs.declared.notices.Notice.{Notice}

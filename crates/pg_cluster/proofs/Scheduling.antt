@@ -1,15 +1,12 @@
 -- A schedule in which nobody is lost.
-use Rattle.std.proofs.Common.{◌≡◌, ◌≤◌, ◌<◌, ◌⊎◌, ◌∙◌, ◌&&◌, ◌++◌, ◌+◌, ℕ, Bool, true, false, List, [], ◌∷◌, cond}
-use Rattle.std.proofs.Common.{get_or, length, map, nat_eq, append-nil, refl, sym, ap, subst, inl, inr, arith, suc, zero}
-use Rattle.std.specs.Prelude.{Result, Ok, Err, IfOk}
+use Rattle.std.proofs.Common.{◌≡◌, ◌≤◌, ◌<◌, ◌⊎◌, ◌∙◌, ◌&&◌, ◌++◌, ◌+◌, ℕ, Bool, false, List, [], ◌∷◌, cond}
+use Rattle.std.proofs.Common.{get_or, length, map, nat_eq, append-nil, refl, sym, ap, inl, inr, arith, suc, zero}
 use Rattle.std.proofs.lemmas.Bool.{cases_lt}
-use Rattle.std.proofs.lemmas.List.{length-map, map-append}
-use Rattle.pg_joining.specs.Merge.{Merges, clocks_in, entry_at, log_at}
+use Rattle.std.proofs.lemmas.List.{map-append}
+use Rattle.pg_joining.specs.Merge.{entry_at, log_at}
 use Rattle.pg_run.specs.declared.log.NodeEvent.{NodeEvent}
 use Rattle.pg_frame_world.specs.declared.step.FrameStep.{FrameStep}
 use Rattle.pg_frame_world.specs.declared.step.FrameStep.TheVariants as steps
-use Rattle.pg_cluster.specs.declared.closed.Closed.{Closed}
-use Rattle.pg_cluster.specs.declared.closed.Stopped.{Stopped}
 use Rattle.pg_cluster.specs.Notices.{NobodyLost}
 use Rattle.pg_cluster.specs.Schedule.{IsLosingSchedule, IsSchedule, SeenStep, Turned, is_lost_in, losing_steps}
 use Rattle.pg_cluster.specs.Schedule.{loss_seen, losses_first, seen_step, step_as, steps_behind, steps_of}
@@ -78,15 +75,3 @@ all_events logs lost schedule is nobody = record {
   merges = is.merges;
   is = steps_only schedule (steps_of logs is.order) (is.is ∙ none_lost logs lost (nobody_at lost nobody) is.order);
 }
-
-pub events_alone : (lost : List Bool) (result : Result Closed Stopped) → IfOk result (λ closed. IsLosingSchedule (map (λ v. v.items) closed.logs.items) lost closed.schedule.items)
-    → IfOk result (λ closed. NobodyLost lost → IsSchedule (map (λ v. v.items) closed.logs.items) (length closed.logs.items) closed.schedule.items)
-events_alone lost (Ok closed) is = λ nobody.
-    let count : length (map (λ v. v.items) closed.logs.items) ≡ length closed.logs.items = length-map closed.logs.items (λ v. v.items) in
-    subst (λ n. IsSchedule (map (λ v. v.items) closed.logs.items) n closed.schedule.items) count (all_events (map (λ v. v.items) closed.logs.items) lost closed.schedule.items is nobody)
-events_alone lost (Err other) is = tt
-
-pub in_order : {S E : Type 0} (items : S → List FrameStep) (logs : List (List (ℕ × NodeEvent))) (lost : List Bool) (order : List (ℕ × ℕ)) (made : Result S E) → Merges (length logs) (clocks_in logs) order
-    → IfOk made (λ schedule. map seen_step (items schedule) ≡ losing_steps logs lost order) → IfOk made (λ schedule. IsLosingSchedule logs lost (items schedule))
-in_order items logs lost order (Ok schedule) merges is = record { order = order; merges = merges; is = is }
-in_order items logs lost order (Err fault) merges is = tt

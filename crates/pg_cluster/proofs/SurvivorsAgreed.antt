@@ -1,15 +1,14 @@
 -- The survivors of one run agree: what their logs tell of losses, packets and commands is in the run.
-use Rattle.std.proofs.Common.{◌≡◌, ◌≢◌, ◌⊎◌, inl, inr, ℕ, ◌+◌, ◌-◌, ◌<◌, ◌≤◌, ◌^◌, zero, suc, Bool, true, false}
-use Rattle.std.proofs.Common.{not, ◌&&◌, ◌||◌, cond, nat_eq, nat_lt, min, map, take, drop, length, get_or, List}
+use Rattle.std.proofs.Common.{◌≡◌, ◌≢◌, ℕ, ◌+◌, ◌-◌, ◌<◌, ◌≤◌, zero, suc, Bool, true, false}
+use Rattle.std.proofs.Common.{not, ◌&&◌, ◌||◌, cond, nat_eq, map, length, get_or, List}
 use Rattle.std.proofs.Common.{[], ◌∷◌, ◌++◌, Option, Some, None, refl, sym, ap, subst, ◌∙◌, arith}
-use Rattle.std.specs.Prelude.{is_none, slice_get, slice_index_or}
+use Rattle.std.specs.Prelude.{is_none, slice_get}
 use Rattle.std.specs.declared.vec.Vec.{Vec}
 use Rattle.std.specs.declared.alloc.Global.{Global}
 use Rattle.std.specs.List.{All, AllByRecursion, IsDistinct, list_all, list_any, range_with_len}
-use Rattle.std.specs.Cmp.{first_so, second_so}
-use Rattle.std.proofs.lemmas.Bool.{cases_eq, eqb-true, eq-eqb}
+use Rattle.std.proofs.lemmas.Bool.{eqb-true}
 use Rattle.std.proofs.lemmas.Bool.Decides.{Decides-ltb}
-use Rattle.std.proofs.lemmas.List.{get_or-map, length-map, map-append}
+use Rattle.std.proofs.lemmas.List.{length-map, map-append}
 use Rattle.std.proofs.lemmas.Option.{slice_get-get_or}
 use Rattle.pg_term.specs.declared.pid.Pid.{Pid}
 use Rattle.pg_term.specs.declared.term.Term.{Term}
@@ -20,12 +19,12 @@ use Rattle.pg_group.specs.Value.{name_of}
 use Rattle.pg_message.specs.declared.message.Message.{Message}
 use Rattle.pg_machine.specs.Clocked.{Stamped, packets_of}
 use Rattle.pg_machine.specs.Happened.{Happened}
-use Rattle.pg_machine.specs.Losing.{Last, Lose, LosingEvent, LosingLeads, Noticed}
+use Rattle.pg_machine.specs.Losing.{Last, LosingEvent, LosingLeads, Noticed}
 use Rattle.pg_machine.specs.Losing.{Sent, Step, losing_happens, nobody_gone}
-use Rattle.pg_machine.specs.Machine.{Do, Event, Input, Own, Take, Taken, first_from, input_of, start_of}
+use Rattle.pg_machine.specs.Machine.{Do, Event, Input, Own, Take, Taken, first_from, start_of}
 use Rattle.pg_machine.specs.Places.{is_pair, is_place}
 use Rattle.pg_machine.proofs.Options.{some_is}
-use Rattle.pg_machine.proofs.Steps.{changes, pair_apart}
+use Rattle.pg_machine.proofs.Steps.{changes}
 use Rattle.pg_step.specs.Commands.{change_of}
 use Rattle.pg_step.specs.Config.{Config, name_at, names_of, nodes_at}
 use Rattle.pg_step.specs.FrameMachine.{last_notice, losing_frame_machine, losing_machine_of}
@@ -38,17 +37,15 @@ use Rattle.pg_step.specs.Step.{Action, Issue, Retry}
 use Rattle.pg_step.specs.Turns.{Report}
 use Rattle.pg_step.specs.declared.command.Command.{Command}
 use Rattle.pg_step.specs.declared.command.Command.TheVariants as commands
-use Rattle.pg_step.specs.declared.command.OpId.{OpId}
-use Rattle.pg_machine.specs.Machine.{Turn, World}
-use Rattle.pg_history.specs.History.{Entry, command_at, entries, history, issued, of_group}
+use Rattle.pg_machine.specs.Machine.{Turn}
+use Rattle.pg_history.specs.History.{Entry, entries, issued, of_group}
 use Rattle.pg_history.specs.Reached.{FinishedAt}
 use Rattle.pg_history.specs.WithLosses.{NonePendingLeft, has_seen}
-use Rattle.pg_history.proofs.ends.Apart.{pair_first, pair_second}
+use Rattle.pg_history.proofs.ends.Apart.{pair_second}
 use Rattle.pg_history.proofs.references.Keys.{atoms, read_at}
 use Rattle.pg_history.proofs.steps.Ways.{all_both}
 use Rattle.pg_loss.specs.Agreeing.{SawAll}
 use Rattle.pg_loss.specs.Reached.{LosingReaches, steps_of}
-use Rattle.pg_retries.specs.Survived.{LossesSurvived}
 use Rattle.pg_loss.proofs.Bridge.{not_true}
 use Rattle.pg_loss.proofs.Lasts.{seen_later}
 use Rattle.pg_loss.proofs.Lossy.{bare, Passed, Went, Died, passed, Makes, Steps, Sees, makes, noted}
@@ -57,8 +54,7 @@ use Rattle.pg_left.proofs.Unlocked.{all_left, waits}
 use Rattle.pg_opens.specs.Places.{whole_in}
 use Rattle.pg_run.specs.declared.log.NodeEvent.{NodeEvent}
 use Rattle.pg_run.specs.declared.log.NodeEvent.TheVariants as events
-use Rattle.pg_joining.specs.ApartWithLosses.{nodes_in}
-use Rattle.pg_joining.specs.Merge.{Merges, clocks_in, clocks_of, entry_at, places_of}
+use Rattle.pg_joining.specs.Merge.{clocks_in, entry_at, places_of}
 use Rattle.pg_joining.specs.Merge.{log_at as merge_log}
 use Rattle.pg_joining.proofs.Sorted.{every_place}
 use Rattle.pg_frame_world.specs.declared.step.FrameStep.{FrameStep}
@@ -69,7 +65,7 @@ use Rattle.pg_frame_world.proofs.Peering.{there_and_back}
 use Rattle.pg_cluster.specs.Judges.{HasAs, formed_in, is_end_pending, is_pending_end}
 use Rattle.pg_cluster.specs.Judges.{is_seen_free, is_taken_by_some, state_in}
 use Rattle.pg_cluster.specs.Schedule.{IsLosingSchedule, SeenStep, Turned, Lost, is_alone, is_last_of}
-use Rattle.pg_cluster.specs.Schedule.{is_lost_in, loss_if, loss_seen, losing_steps, losses_first}
+use Rattle.pg_cluster.specs.Schedule.{loss_if, losses_first}
 use Rattle.pg_cluster.specs.Schedule.{node_of_peer, seen_step, step_as, steps_at, steps_behind}
 use Rattle.pg_cluster.specs.Survivors.{SurvivorsAgree, any_before, asks_of, has_event, is_change_of}
 use Rattle.pg_cluster.specs.Survivors.{is_compared, is_loss_of, is_loss_pending, is_missing}

@@ -1,20 +1,27 @@
 -- What a cluster, and one whose threads have ended, are seen as.
 use Rattle.std.specs.Prelude.{◌≡◌, ℕ, Bool, List, Some, length, map, slice_get}
+use Rattle.pg_term.specs.declared.term.Term.{Term}
+use Rattle.pg_history.specs.History.{Entry}
+use Rattle.pg_joining.specs.Merge.{Merges, clocks_in}
 use Rattle.pg_ring.specs.declared.slot_out.SlotOut.{SlotOut}
 use Rattle.pg_run.specs.declared.notices.Notice.{Notice}
 use Rattle.pg_run.specs.declared.log.NodeEvent.{NodeEvent}
 use Rattle.pg_run.specs.declared.port.Client.{Client}
+use Rattle.pg_cluster.specs.declared.closed.Closed.{Closed}
 use Rattle.pg_cluster.specs.declared.closed.Stopped.{Stopped}
 use Rattle.pg_cluster.specs.declared.closed.TurnCount.{TurnCount}
 use Rattle.pg_cluster.specs.declared.cluster.Cluster.{Cluster}
 use Rattle.pg_cluster.specs.Members.{last_of, threads_in, losses_in}
 use Rattle.pg_cluster.specs.Clients.{AllPairs}
+use Rattle.pg_cluster.specs.Judges.{Replays, ReplaysPastLosses}
 use Rattle.pg_cluster.specs.Notices.{AllNotified, Told}
-use Rattle.pg_cluster.specs.Schedule.{IsSchedule, IsLosingSchedule}
+use Rattle.pg_cluster.specs.Schedule.{AreSteps, IsSchedule, IsLosingSchedule}
 use Rattle.pg_cluster.specs.Threads.{Joined, NodeOf, RanOf, Thread, notices_ended}
 use Rattle.pg_cluster.specs.Together.{AreOneLosingRun, AreOneRun}
+use Rattle.pg_cluster.specs.Told.{HasHistory}
 use Rattle.pg_step.specs.Config.{Config}
 use Rattle.pg_frame_world.specs.declared.step.FrameStep.{FrameStep}
+use Rattle.pg_frame_world.specs.Runs.{LosesNone}
 
 -- the threads of a cluster, by the places of their nodes
 abbrev pub threads_of : {K : Type 0} → Cluster K → List (Thread K)
@@ -66,3 +73,38 @@ JoinsToOneRun given nodes logs = (schedule : List FrameStep) → IsSchedule logs
 -- where such logs, with the losses of these nodes, join to a schedule, that is one run of the machine with losses
 abbrev pub JoinsToOneLosingRun : Config → List Bool → List NodeOf → List (List (ℕ × NodeEvent)) → Type 0
 JoinsToOneLosingRun given lost nodes logs = (schedule : List FrameStep) → IsLosingSchedule logs lost schedule → ∥ AreOneLosingRun given lost nodes schedule ∥₁
+
+-- ---- a cluster that has ended
+
+-- the logs of its nodes
+abbrev pub logs_in : Closed → List (List (ℕ × NodeEvent))
+logs_in closed = map (λ v. v.items) closed.logs.items
+
+-- their entries are merged by clock and then by node
+abbrev pub IsInOrder : Closed → Type 0
+IsInOrder closed = Merges (length (logs_in closed)) (clocks_in (logs_in closed)) closed.order.items
+
+-- these steps are its nodes' events and losses, in their order
+abbrev pub AreStepsOf : Closed → List FrameStep → Type 0
+AreStepsOf closed steps = AreSteps (logs_in closed) closed.lost.items closed.order.items steps
+
+-- they are one run of the configuration
+abbrev pub IsOneRun : Config → Closed → Type 0
+IsOneRun given closed = (steps : List FrameStep) → AreStepsOf closed steps → AreOneRun given closed.nodes.items (logs_in closed) steps
+
+-- they are one run of the machine with losses
+abbrev pub IsOneLosingRun : Config → Closed → Type 0
+IsOneLosingRun given closed = (steps : List FrameStep) → AreStepsOf closed steps → ∥ AreOneLosingRun given closed.lost.items closed.nodes.items steps ∥₁
+
+-- They lead from the start of the configuration to its nodes, and none is refused.
+pub record IsReplayed (given : Config) (closed : Closed) : Type 0 where
+  pub steps : List FrameStep
+  pub are : AreStepsOf closed steps
+  pub unlost : LosesNone steps → Replays given steps closed.nodes.items
+  pub losing : ReplaysPastLosses given steps closed.nodes.items
+
+-- They lead from the start of the configuration to a world in which these entries are the history of the group, and none is refused.
+pub record IsHistory (given : Config) (closed : Closed) (name : Term) (entries : List Entry) : Type 0 where
+  pub steps : List FrameStep
+  pub are : AreStepsOf closed steps
+  pub has : HasHistory given steps name entries

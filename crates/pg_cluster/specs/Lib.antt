@@ -7,6 +7,7 @@ pub mod Judges
 pub mod Members
 pub mod Notices
 pub mod Promises
+pub mod Replay
 pub mod Room
 pub mod Rows
 pub mod Running

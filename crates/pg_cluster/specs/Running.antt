@@ -8,7 +8,6 @@ use Rattle.pg_run.specs.declared.port.Client.{Client}
 use Rattle.pg_run.specs.Ports.{submitted, polled}
 use Rattle.pg_step.specs.declared.answer.Answer.{Answer}
 use Rattle.pg_config.specs.declared.config.Config.{Config}
-use Rattle.pg_cluster.specs.declared.cluster.Cluster.{Cluster}
 use Rattle.pg_cluster.specs.declared.running.Running.{Running}
 use Rattle.pg_cluster.specs.Clients.{SameClients}
 use Rattle.pg_cluster.specs.Closed.{tellers_of, threads_of, lost_of}

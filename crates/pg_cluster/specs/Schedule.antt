@@ -1,7 +1,7 @@
 -- The schedule to which logs join.
-use Rattle.std.specs.Prelude.{◌≡◌, ℕ, zero, suc, ◌+◌, ◌-◌, ◌^◌, Bool, true, false, ◌&&◌, cond}
-use Rattle.std.specs.Prelude.{nat_eq, nat_lt, not, min, get_or, length, map, List, [], ◌∷◌, ◌++◌}
-use Rattle.std.specs.List.{filter, flat_map}
+use Rattle.std.specs.Prelude.{◌≡◌, ℕ, zero, suc, ◌+◌, ◌-◌, ◌^◌, Bool, false, ◌&&◌, cond}
+use Rattle.std.specs.Prelude.{nat_eq, nat_lt, min, get_or, length, map, List, [], ◌∷◌, ◌++◌}
+use Rattle.std.specs.List.{flat_map}
 use Rattle.pg_joining.specs.Merge.{Merges, clocks_in, log_at, entry_at}
 use Rattle.pg_run.specs.declared.log.NodeEvent.{NodeEvent}
 use Rattle.pg_run.specs.declared.log.NodeEvent.TheVariants as events
@@ -85,8 +85,12 @@ steps_behind logs lost (x ∷ order) = steps_at logs lost x order ++ steps_behin
 abbrev pub losing_steps : List (List (ℕ × NodeEvent)) → List Bool → List (ℕ × ℕ) → List SeenStep
 losing_steps logs lost order = losses_first logs lost order (length logs) ++ steps_behind logs lost order
 
+-- The steps are what the entries of these logs are, in this order, and the losses of these nodes in their places.
+abbrev pub AreSteps : List (List (ℕ × NodeEvent)) → List Bool → List (ℕ × ℕ) → List FrameStep → Type 0
+AreSteps logs lost order steps = map seen_step steps ≡ losing_steps logs lost order
+
 -- The steps are the entries of the logs, merged by clock and then by node, and the losses of these nodes in their places.
 pub record IsLosingSchedule (logs : List (List (ℕ × NodeEvent))) (lost : List Bool) (schedule : List FrameStep) : Type 0 where
   pub order : List (ℕ × ℕ)
   pub merges : Merges (length logs) (clocks_in logs) order
-  pub is : map seen_step schedule ≡ losing_steps logs lost order
+  pub is : AreSteps logs lost order schedule

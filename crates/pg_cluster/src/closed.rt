@@ -3,12 +3,12 @@
 ghost use Rattle.std.specs.Prelude.{◌≡◌, IfOk, IfErr, map, length};
 ghost use Rattle.pg_cluster.specs.Notices.{NobodyLost};
 ghost use Rattle.pg_cluster.specs.Room.{HasRoom};
-ghost use Rattle.pg_cluster.specs.Schedule.{IsSchedule, IsLosingSchedule};
 
 use crate::laws::{nodes_of_one_run_agree, survivors_of_one_run_agree};
 use crate::notices::{Teller, settle_notices};
 use crate::pairs::{move_ports, settle_all, settle_ports};
 use crate::promise::NodeRan;
+use crate::replay::{Replay, replay_all};
 use crate::schedule::steps_with_losses;
 use crate::wires::Row;
 use pg_index::IndexTable;
@@ -16,7 +16,7 @@ use pg_joining::order_of_logs;
 use pg_node::Node;
 use pg_ring::SlotIn;
 use pg_run::{Client, LogEntry, Notice, Port};
-use pg_world::FrameStep;
+use pg_world::{Config, FrameStep, WorldFault};
 use rand_core::Rng;
 use std::alloc::{AllocError, Global};
 
@@ -29,7 +29,7 @@ pub struct TurnCount {
     pub short: u64,
 }
 
-/// A cluster whose threads have ended, without its schedule.
+/// A cluster whose threads have ended, without the order of its logs' entries.
 #[derive(Drop)]
 pub struct Stopped {
     nodes: Vec<Node<IndexTable>>,
@@ -50,8 +50,9 @@ pub struct Closed {
     pub logs: Vec<Vec<LogEntry>>,
     /// How many turns each node made.
     pub turns: Vec<TurnCount>,
-    /// The events of all nodes as steps of one world.
-    pub schedule: Vec<FrameStep>,
+    /// The order in which the events of all nodes happened, as steps of one world: each by its node and its place in
+    /// the log of that. By their clocks, and at one clock by their nodes. `schedule` gives the steps.
+    pub order: Vec<(usize, usize)>,
     /// The clients, those of the first node first.
     pub clients: Vec<Client>,
     /// Which of the nodes were lost.
@@ -59,11 +60,10 @@ pub struct Closed {
 }
 
 impl Stopped {
-    ghost use Rattle.pg_cluster.specs.Closed.{JoinsToOneLosingRun, JoinsToOneRun};
+    ghost use Rattle.pg_cluster.specs.Closed.{IsInOrder, IsOneLosingRun, IsOneRun, JoinsToOneLosingRun, JoinsToOneRun};
     ghost use Rattle.pg_cluster.specs.Closed.{nodes_of, logs_of, turns_of, losses_of, clients_of};
     ghost use Rattle.pg_cluster.specs.Judges.{Agree};
     ghost use Rattle.pg_cluster.specs.Survivors.{SurvivorsAgree};
-    ghost use Rattle.pg_cluster.specs.Together.{AreOneLosingRun, AreOneRun};
     ghost use Rattle.pg_step.specs.Config.{Config as Configuration};
 
     /// A cluster whose threads have ended.
@@ -93,25 +93,21 @@ impl Stopped {
         }
     }
 
-    /// The nodes as they ended, their logs, and the schedule to which these join; the loss of each node that was lost
-    /// comes after its last event.
+    /// The nodes as they ended, their logs, and the order in which the entries of these happened.
     ///
-    /// Errors: where there is no memory for the schedule, what stopped, unchanged.
+    /// Errors: where there is no memory for the order, what stopped, unchanged.
     ///
-    /// Cost: a look at each log for each entry; for each loss, a walk over the entries after it for each other node;
-    /// and memory for each step.
+    /// Cost: a look at each log for each entry, and two words for each.
     pub fn finish(self) -> Result<Closed, Stopped>
         ensures nodes { IfOk result (λ closed. closed.nodes.items ≡ nodes_of self) }
         ensures logs { IfOk result (λ closed. map (λ v. v.items) closed.logs.items ≡ logs_of self) }
-        ensures schedule { IfOk result (λ closed. NobodyLost (losses_of self)
-            → IsSchedule (map (λ v. v.items) closed.logs.items) (length closed.logs.items) closed.schedule.items) }
-        ensures events { IfOk result (λ closed. IsLosingSchedule (map (λ v. v.items) closed.logs.items) (losses_of self) closed.schedule.items) }
+        ensures order { IfOk result IsInOrder }
         ensures one_run { IfOk result (λ closed. NobodyLost (losses_of self) → (given : Configuration) → JoinsToOneRun given (nodes_of self) (logs_of self)
-            → AreOneRun given closed.nodes.items (map (λ v. v.items) closed.logs.items) closed.schedule.items) }
+            → IsOneRun given closed) }
         ensures agree { IfOk result (λ closed. NobodyLost (losses_of self) → (given : Configuration) → JoinsToOneRun given (nodes_of self) (logs_of self)
             → Agree closed.nodes.items closed.logs.items) }
         ensures losing_run { IfOk result (λ closed. (given : Configuration) → JoinsToOneLosingRun given (losses_of self) (nodes_of self) (logs_of self)
-            → ∥ AreOneLosingRun given (losses_of self) closed.nodes.items closed.schedule.items ∥₁) }
+            → IsOneLosingRun given closed) }
         ensures survivors { IfOk result (λ closed. (given : Configuration) → JoinsToOneLosingRun given (losses_of self) (nodes_of self) (logs_of self)
             → length (logs_of self) ≡ length (nodes_of self) → ∥ SurvivorsAgree closed.nodes.items closed.lost.items closed.logs.items ∥₁) }
         ensures turns { IfOk result (λ closed. closed.turns.items ≡ turns_of self) }
@@ -121,27 +117,27 @@ impl Stopped {
     {
         nodes_of_one_run_agree();
         survivors_of_one_run_agree();
-        self.with_schedule()
+        self.in_order()
     }
 
-    /// The same, with the schedule to which the logs join.
+    /// The same, with the order of the logs' entries.
     ///
-    /// Errors: where there is no memory for the schedule, what stopped, unchanged.
-    fn with_schedule(self) -> Result<Closed, Stopped>
+    /// Errors: where there is no memory for the order, what stopped, unchanged.
+    fn in_order(self) -> Result<Closed, Stopped>
         ensures nodes { IfOk result (λ closed. closed.nodes.items ≡ nodes_of self) }
         ensures logs { IfOk result (λ closed. map (λ v. v.items) closed.logs.items ≡ logs_of self) }
-        ensures events { IfOk result (λ closed. IsLosingSchedule (map (λ v. v.items) closed.logs.items) (losses_of self) closed.schedule.items) }
+        ensures order { IfOk result IsInOrder }
         ensures turns { IfOk result (λ closed. closed.turns.items ≡ turns_of self) }
         ensures clients { IfOk result (λ closed. closed.clients.items ≡ clients_of self) }
         ensures lost { IfOk result (λ closed. closed.lost.items ≡ losses_of self) }
         ensures err { IfErr result (λ stopped. stopped ≡ self) }
     {
-        match schedule_of(self.alloc, self.logs.as_slice(), self.lost.as_slice()) {
-            Ok(schedule) => Ok(Closed {
+        match order_of_logs(self.alloc, self.logs.as_slice()) {
+            Ok(order) => Ok(Closed {
                 nodes: self.nodes,
                 logs: self.logs,
                 turns: self.turns,
-                schedule,
+                order,
                 clients: self.clients,
                 lost: self.lost,
             }),
@@ -150,16 +146,41 @@ impl Stopped {
     }
 }
 
-// The steps of all logs, merged by clock and then by node, with the losses of these nodes among them.
-fn schedule_of(
-    alloc: Global,
-    logs: &[Vec<LogEntry>],
-    lost: &[bool],
-) -> Result<Vec<FrameStep>, AllocError>
-    ensures { IfOk result (λ schedule. IsLosingSchedule (map (λ v. v.items) logs.now) lost.now schedule.items) }
-{
-    let order = order_of_logs(alloc, logs)?;
-    steps_with_losses(alloc, logs, lost, order.as_slice())
+impl Closed {
+    ghost use Rattle.pg_frame_world.specs.Openings.{CantBegin};
+    ghost use Rattle.pg_cluster.specs.Closed.{AreStepsOf, logs_in};
+    ghost use Rattle.pg_cluster.specs.Replay.{HasMadeAll};
+
+    /// The events of all nodes as steps of one world, in their order. The loss of each node that was lost comes after its
+    /// last event, or first where it did nothing, and keeps as many packets for each other node as that takes later.
+    ///
+    /// Errors: `AllocError`.
+    ///
+    /// Cost: memory for each step, of 88 bytes and its command; for each loss, a walk over the entries after it for each
+    /// other node.
+    pub fn schedule(&self, alloc: Global) -> Result<Vec<FrameStep>, AllocError>
+        ensures { IfOk result (λ steps. AreStepsOf self.now steps.items) }
+    {
+        let logs = self.logs.as_slice();
+        steps_with_losses(alloc, logs, self.lost.as_slice(), self.order.as_slice())
+    }
+
+    /// What these steps lead to, made one after another from the start of a configuration.
+    ///
+    /// Errors: those of `run_frames`.
+    pub(crate) fn replayed(&self, alloc: Global, config: &Config) -> Result<Replay, WorldFault>
+        ensures ok { IfOk result (HasMadeAll config.now.starts.items (logs_in self.now) self.now.lost.items self.now.order.items) }
+        ensures fault { IfErr result (CantBegin config.now.ring config.now.starts.items) }
+    {
+        let logs = self.logs.as_slice();
+        replay_all(
+            alloc,
+            config,
+            logs,
+            self.lost.as_slice(),
+            self.order.as_slice(),
+        )
+    }
 }
 
 ghost use Rattle.pg_ring.specs.Slots.{AreSlots};

@@ -85,6 +85,7 @@ impl<K: Rng + Drop + Send + 'static> Cluster<K> {
     ghost use Rattle.pg_run.specs.Ports.{IsSilent};
     ghost use Rattle.pg_cluster.specs.Clients.{AreClients, ClientsRest, AllHeard};
     ghost use Rattle.pg_cluster.specs.Closed.{AllTold, JoinsToOneLosingRun, JoinsToOneRun, NoticesCame, tellers_of};
+    ghost use Rattle.pg_cluster.specs.Closed.{IsInOrder, IsOneLosingRun, IsOneRun};
     ghost use Rattle.pg_cluster.specs.Closed.{threads_of, lost_of, nodes_of, logs_of, turns_of, losses_of, clients_of};
     ghost use Rattle.pg_cluster.specs.Fault.{CantRun};
     ghost use Rattle.pg_cluster.specs.Notices.{NobodyLost};
@@ -96,9 +97,7 @@ impl<K: Rng + Drop + Send + 'static> Cluster<K> {
     ghost use Rattle.pg_step.specs.Config.{Config as Configuration};
     ghost use Rattle.pg_cluster.specs.Judges.{Agree};
     ghost use Rattle.pg_frame_world.specs.Openings.{CanBegin};
-    ghost use Rattle.pg_cluster.specs.Schedule.{IsSchedule, IsLosingSchedule};
     ghost use Rattle.pg_cluster.specs.Survivors.{SurvivorsAgree};
-    ghost use Rattle.pg_cluster.specs.Together.{AreOneRun, AreOneLosingRun};
 
     /// Starts a thread for each node of a configuration, with rings of so many bytes between them: the cluster, and a
     /// client for each port, those of the first node first. `generators`: of the pauses, one for each node. `gate`:
@@ -194,13 +193,12 @@ impl<K: Rng + Drop + Send + 'static> Cluster<K> {
         Ok(())
     }
 
-    /// Stops the threads and joins them: the nodes as they ended, their logs, and the schedule to which these join,
-    /// which is one run of the configuration that was started unless nodes were lost, and what of that which the
-    /// clients said and heard is in it. The loss of a node comes after its last event, with as many packets kept
-    /// for each other node as that takes later. `clients`: those that `start` gave, in their order. It may wait for
-    /// threads.
+    /// Stops the threads and joins them: the nodes as they ended, their logs, and the order of the entries of these. The
+    /// steps that they are, in this order, are one run of the configuration that was started, of the machine with
+    /// losses where nodes were lost, and what of that which the clients said and heard is in it. `clients`: those that
+    /// `start` gave, in their order. It may wait for threads.
     ///
-    /// Errors: where there is no memory for the schedule, what stopped, of which `finish` tries again.
+    /// Errors: where there is no memory for the order, what stopped, of which `finish` tries again.
     ///
     /// Cost: that of `Stopped::finish`. To stop takes no memory; both ends of each ring and of each port are looked
     /// at.
@@ -212,13 +210,12 @@ impl<K: Rng + Drop + Send + 'static> Cluster<K> {
             (λ stopped. ∥ EndedWith (lost_of self) (threads_of self) (nodes_of stopped) (logs_of stopped)
             (turns_of stopped) ∥₁) }
         ensures one_run { IfOk result (λ closed. NobodyLost (lost_of self) → (given : Configuration) → AreMade given (map begun_by (threads_of self))
-            → AreOneRun given closed.nodes.items (map (λ v. v.items) closed.logs.items) closed.schedule.items) }
+            → IsOneRun given closed) }
         ensures agree { IfOk result (λ closed. NobodyLost (lost_of self) → (given : Configuration) → AreMade given (map begun_by (threads_of self))
             → Agree closed.nodes.items closed.logs.items) }
-        ensures schedule { IfOk result (λ closed. NobodyLost (lost_of self) → IsSchedule (map (λ v. v.items) closed.logs.items) (length closed.logs.items) closed.schedule.items) }
-        ensures events { IfOk result (λ closed. IsLosingSchedule (map (λ v. v.items) closed.logs.items) (lost_of self) closed.schedule.items) }
+        ensures order { IfOk result IsInOrder }
         ensures losing_run { IfOk result (λ closed. (given : Configuration) → AreMade given (map begun_by (threads_of self))
-            → ∥ AreOneLosingRun given (lost_of self) closed.nodes.items closed.schedule.items ∥₁) }
+            → IsOneLosingRun given closed) }
         ensures survivors { IfOk result (λ closed. (given : Configuration) → AreMade given (map begun_by (threads_of self))
             → ∥ SurvivorsAgree closed.nodes.items closed.lost.items closed.logs.items ∥₁) }
         ensures heard { MatchResult result

@@ -10,17 +10,16 @@ use crate::closed::Closed;
 use crate::judges::{all_made, ran_out};
 use pg_index::IndexTable;
 use pg_term::Term;
-use pg_world::{Config, Entry, FrameWorld, WorldFault, configs_are_decided, run_frames};
+use pg_world::{Config, Entry, FrameWorld, WorldFault, configs_are_decided};
 use std::alloc::{AllocError, Global};
 
 impl Closed {
-    ghost use Rattle.std.specs.Prelude.{Bool, List, true};
+    ghost use Rattle.std.specs.Prelude.{true};
     ghost use Rattle.pg_frame_world.specs.Openings.{CanBegin};
-    ghost use Rattle.pg_cluster.specs.Together.{AreOneLosingRun};
-    ghost use Rattle.pg_cluster.specs.Told.{HasHistory};
+    ghost use Rattle.pg_cluster.specs.Closed.{IsHistory, IsOneLosingRun};
 
     /// The updates of a group in the order in which they got their last grant, each with its node and its command, as
-    /// the schedule has them, made step by step from the start of this configuration. None where that can't be made:
+    /// the steps have them, made one after another from the start of this configuration. None where that can't be made:
     /// never of what `Cluster::close` gives, whoever was lost, and the configuration that was started.
     ///
     /// Errors: `AllocError`, also where a step was refused for memory.
@@ -33,17 +32,16 @@ impl Closed {
         name: &Term,
     ) -> Result<Option<Vec<Entry>>, AllocError>
         ensures history { IfOk result (λ found. IfSome found (λ entries.
-            HasHistory config.now.starts.items self.now.schedule.items name.now (map as_entry entries.items))) }
-        ensures some { IfOk result (λ found. (lost : List Bool) → CanBegin config.now.ring config.now.starts.items
-            → AreOneLosingRun config.now.starts.items lost self.now.nodes.items self.now.schedule.items
+            IsHistory config.now.starts.items self.now name.now (map as_entry entries.items))) }
+        ensures some { IfOk result (λ found. CanBegin config.now.ring config.now.starts.items → IsOneLosingRun config.now.starts.items self.now
             → is_some found ≡ true) }
     {
         configs_are_decided();
-        match run_frames(alloc, config, self.schedule.as_slice()) {
-            Ok((world, numbers)) => {
-                let found = history_of(alloc, &world, numbers.as_slice(), name);
-                drop(world);
-                drop(numbers);
+        match self.replayed(alloc, config) {
+            Ok(replay) => {
+                let numbers = replay.numbers.as_slice();
+                let found = history_of(alloc, &replay.world, numbers, name);
+                drop(replay);
                 found
             }
             Err(fault) => unbegun(fault),

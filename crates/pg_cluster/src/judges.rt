@@ -1,4 +1,4 @@
-//! Whether a cluster that has ended came to what its schedule says, and to one opinion.
+//! Whether a cluster that has ended came to where its steps lead, and to one opinion.
 
 ghost use Rattle.std.specs.Prelude.{◌≡◌, ◌≢◌, ◌↔◌, Bool, true, false, IsTrue, IfOk, List, Some, map, slice_get};
 ghost use Rattle.std.specs.List.{All, list_all, list_any};
@@ -27,15 +27,14 @@ use pg_query::same_group;
 use pg_run::{LogEntry, NodeEvent};
 use pg_step::Command;
 use pg_term::{Pid, Term};
-use pg_world::{Config, FrameWorld, WorldFault, configs_are_decided, run_frames};
+use pg_world::{Config, FrameWorld, WorldFault, configs_are_decided};
 use std::alloc::{AllocError, Global};
 
 impl Closed {
     ghost use Rattle.pg_frame_world.specs.FrameWorlds.{view_of};
-    ghost use Rattle.pg_frame_world.specs.Runs.{LosesNone};
-    ghost use Rattle.pg_cluster.specs.Judges.{Agree, AreShown, Replays, ReplaysPastLosses, all_made, ran_out};
+    ghost use Rattle.pg_cluster.specs.Closed.{IsOneLosingRun, IsOneRun, IsReplayed};
+    ghost use Rattle.pg_cluster.specs.Judges.{Agree, AreShown, all_made, ran_out};
     ghost use Rattle.pg_frame_world.specs.Openings.{CanBegin};
-    ghost use Rattle.pg_cluster.specs.Together.{AreOneRun, AreOneLosingRun};
 
     /// Whether the nodes agree: formed nodes have the same of each group whose lock one node sees free, or an end is
     /// pending that a log has.
@@ -53,27 +52,24 @@ impl Closed {
         are_one(alloc, nodes)
     }
 
-    /// Whether the schedule, made step by step from the start of this configuration, comes to the same nodes, and no
-    /// step of it is refused: never no of what `Cluster::close` gives, whoever was lost, and the configuration that was
+    /// Whether the steps, made one after another from the start of this configuration, come to the same nodes, and none
+    /// of them is refused: never no of what `Cluster::close` gives, whoever was lost, and the configuration that was
     /// started.
     ///
     /// Errors: `AllocError`, also where a step was refused for memory.
     ///
-    /// Cost: that of the steps, and of `NodeState::same` of each node.
+    /// Cost: that of the steps, of which one is in memory at a time, a byte for each, and that of `NodeState::same` of
+    /// each node.
     pub fn replays(&self, alloc: Global, config: &Config) -> Result<bool, AllocError>
-        ensures one_run { IfOk result (λ yes. CanBegin config.now.ring config.now.starts.items
-            → AreOneRun config.now.starts.items self.now.nodes.items (map (λ v. v.items) self.now.logs.items) self.now.schedule.items → yes ≡ true) }
-        ensures losing_run { IfOk result (λ yes. (lost : List Bool) → CanBegin config.now.ring config.now.starts.items
-            → AreOneLosingRun config.now.starts.items lost self.now.nodes.items self.now.schedule.items → yes ≡ true) }
-        ensures replays { IfOk result (λ yes. IsTrue yes → LosesNone self.now.schedule.items → Replays config.now.starts.items self.now.schedule.items self.now.nodes.items) }
-        ensures losing { IfOk result (λ yes. IsTrue yes → ReplaysPastLosses config.now.starts.items self.now.schedule.items self.now.nodes.items) }
+        ensures one_run { IfOk result (λ yes. CanBegin config.now.ring config.now.starts.items → IsOneRun config.now.starts.items self.now → yes ≡ true) }
+        ensures losing_run { IfOk result (λ yes. CanBegin config.now.ring config.now.starts.items → IsOneLosingRun config.now.starts.items self.now → yes ≡ true) }
+        ensures replays { IfOk result (λ yes. IsTrue yes → IsReplayed config.now.starts.items self.now) }
     {
         configs_are_decided();
-        match run_frames(alloc, config, self.schedule.as_slice()) {
-            Ok((world, numbers)) => {
-                let told = self.is_shown(&world, numbers.as_slice());
-                drop(world);
-                drop(numbers);
+        match self.replayed(alloc, config) {
+            Ok(replay) => {
+                let told = self.is_shown(&replay.world, replay.numbers.as_slice());
+                drop(replay);
                 told
             }
             Err(fault) => unbegun(fault),
@@ -95,7 +91,7 @@ impl Closed {
     }
 }
 
-/// What is said of a schedule where no world could begin: it does not replay.
+/// What is said of steps where no world could begin: they do not replay.
 ///
 /// Errors: `AllocError`, where that was for memory.
 fn unbegun(fault: WorldFault) -> Result<bool, AllocError>

@@ -15,6 +15,7 @@ mod nodes;
 mod notices;
 mod pairs;
 mod promise;
+mod replay;
 mod running;
 mod runs;
 mod same;

@@ -50,7 +50,7 @@ impl Running {
     ghost use Rattle.pg_run.specs.declared.port.Client.{Client as ClientEnd};
     ghost use Rattle.pg_step.specs.declared.refusal.Refusal.TheVariants.{NoSuchPlace, NodeLost};
     ghost use Rattle.pg_cluster.specs.Clients.{AllHeard, ClientsRest};
-    ghost use Rattle.pg_cluster.specs.Closed.{AllTold, JoinsToOneLosingRun, JoinsToOneRun};
+    ghost use Rattle.pg_cluster.specs.Closed.{AllTold, IsInOrder, IsOneLosingRun, IsOneRun, JoinsToOneLosingRun, JoinsToOneRun};
     ghost use Rattle.pg_cluster.specs.Closed.{NoticesCame, nodes_of, logs_of, turns_of, losses_of, clients_of};
     ghost use Rattle.pg_cluster.specs.Fault.{CantRun};
     ghost use Rattle.pg_cluster.specs.Judges.{Agree};
@@ -59,9 +59,7 @@ impl Running {
     ghost use Rattle.pg_cluster.specs.Running.{losses_in, submitted_at, polled_at, OnlyClient};
     ghost use Rattle.pg_cluster.specs.Threads.{limit_of, EndedWith, HaveRings};
     ghost use Rattle.pg_run.specs.Runs.{generator_of};
-    ghost use Rattle.pg_cluster.specs.Schedule.{IsSchedule, IsLosingSchedule};
     ghost use Rattle.pg_cluster.specs.Survivors.{SurvivorsAgree};
-    ghost use Rattle.pg_cluster.specs.Together.{AreOneLosingRun, AreOneRun};
 
     /// Starts a thread for each node of a configuration, and a client for each port. `seed`: of the pauses of the
     /// first node; that of each further node is one more, and wraps. `gate`: what each node passes at the start of
@@ -187,11 +185,10 @@ impl Running {
             (λ stopped. ∥ EndedWith (losses_in self) (threads_in self) (nodes_of stopped) (logs_of stopped)
             (turns_of stopped) ∥₁) }
         ensures one_run { IfOk result.0 (λ closed. NobodyLost (losses_in self)
-            → ∥ AreOneRun (config_in self).starts.items closed.nodes.items (map (λ v. v.items) closed.logs.items) closed.schedule.items ∥₁) }
+            → ∥ IsOneRun (config_in self).starts.items closed ∥₁) }
         ensures agree { IfOk result.0 (λ closed. NobodyLost (losses_in self) → ∥ Agree closed.nodes.items closed.logs.items ∥₁) }
-        ensures schedule { IfOk result.0 (λ closed. NobodyLost (losses_in self) → IsSchedule (map (λ v. v.items) closed.logs.items) (length closed.logs.items) closed.schedule.items) }
-        ensures events { IfOk result.0 (λ closed. IsLosingSchedule (map (λ v. v.items) closed.logs.items) (losses_in self) closed.schedule.items) }
-        ensures losing_run { IfOk result.0 (λ closed. ∥ AreOneLosingRun (config_in self).starts.items (losses_in self) closed.nodes.items closed.schedule.items ∥₁) }
+        ensures order { IfOk result.0 IsInOrder }
+        ensures losing_run { IfOk result.0 (IsOneLosingRun (config_in self).starts.items) }
         ensures survivors { IfOk result.0 (λ closed. ∥ SurvivorsAgree closed.nodes.items closed.lost.items closed.logs.items ∥₁) }
         ensures joins { IfErr result.0 (λ stopped. NobodyLost (losses_in self)
             → ∥ JoinsToOneRun (config_in self).starts.items (nodes_of stopped) (logs_of stopped) ∥₁) }

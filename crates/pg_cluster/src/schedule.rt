@@ -4,8 +4,8 @@ ghost use Rattle.std.specs.Prelude.{◌≡◌, ◌++◌, ◌+◌, ◌∷◌, [],
 ghost use Rattle.pg_joining.specs.Merge.{log_at, entry_at};
 ghost use Rattle.pg_joining.specs.ApartWithLosses.{is_take, takes_in, takes_of, takes_one};
 ghost use Rattle.pg_frame_world.specs.Views.{place_of_peer};
-ghost use Rattle.pg_cluster.specs.Schedule.{is_alone, is_lost_in, keeps, loss_if, loss_seen};
-ghost use Rattle.pg_cluster.specs.Schedule.{losing_steps, node_of_peer, seen_step, step_as, steps_at};
+ghost use Rattle.pg_cluster.specs.Schedule.{AreSteps, is_alone, is_lost_in, keeps, loss_if, loss_seen};
+ghost use Rattle.pg_cluster.specs.Schedule.{losses_first, node_of_peer, seen_step, step_as, steps_at};
 
 use pg_run::{LogEntry, NodeEvent};
 use pg_step::Command;
@@ -106,15 +106,30 @@ pub(crate) fn steps_with_losses(
     lost: &[bool],
     order: &[(usize, usize)],
 ) -> Result<Vec<FrameStep>, AllocError>
-    ensures { IfOk result (λ steps. map seen_step steps.items ≡ losing_steps (map (λ v. v.items) logs.now) lost.now order.now) }
+    ensures { IfOk result (λ steps. AreSteps (map (λ v. v.items) logs.now) lost.now order.now steps.items) }
+{
+    let mut steps = first_losses(alloc, logs, lost, order)?;
+    for place in 0..order.len() {
+        let later = &order[place + 1..];
+        add_with_loss(alloc, logs, lost, order[place], later, &mut steps)?;
+    }
+    Ok(steps)
+}
+
+/// The losses of the nodes that were lost and did nothing.
+///
+/// Errors: `AllocError`.
+pub(crate) fn first_losses(
+    alloc: Global,
+    logs: &[Vec<LogEntry>],
+    lost: &[bool],
+    order: &[(usize, usize)],
+) -> Result<Vec<FrameStep>, AllocError>
+    ensures { IfOk result (λ steps. map seen_step steps.items ≡ losses_first (map (λ v. v.items) logs.now) lost.now order.now (length logs.now)) }
 {
     let mut steps = Vec::new(alloc);
     for node in 0..logs.len() {
         add_if_alone(alloc, logs, lost, node, order, &mut steps)?;
-    }
-    for place in 0..order.len() {
-        let later = &order[place + 1..];
-        add_with_loss(alloc, logs, lost, order[place], later, &mut steps)?;
     }
     Ok(steps)
 }
@@ -143,7 +158,7 @@ fn add_if_alone(
 /// that. `later`: the entries that follow.
 ///
 /// Errors: `AllocError`.
-fn add_with_loss(
+pub(crate) fn add_with_loss(
     alloc: Global,
     logs: &[Vec<LogEntry>],
     lost: &[bool],

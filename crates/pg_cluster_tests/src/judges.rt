@@ -26,13 +26,7 @@ impl Judged {
 
     // Takes the last step away; whether there was one.
     fn forget_step(&mut self) -> bool {
-        match self.closed.schedule.pop() {
-            Some(step) => {
-                drop(step);
-                true
-            }
-            None => false,
-        }
+        self.closed.order.pop().is_some()
     }
 
     // Has the node of another cluster at a place; whether both have one there.
@@ -141,7 +135,7 @@ fn a_node_of_another_cluster(rt: HostRuntime) {
     };
     holds(&rt, before.is_well(), "the nodes agree");
     holds(&rt, !after.agrees, "those of two clusters do not");
-    holds(&rt, !after.replays, "nor are they where the schedule leads");
+    holds(&rt, !after.replays, "nor are they where the steps lead");
 }
 
 /// All three nodes speak before the last is lost, and the first after it.

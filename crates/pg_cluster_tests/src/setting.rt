@@ -221,7 +221,7 @@ pub struct End {
     pub nodes: usize,
     pub events: usize,
     pub losses: usize,
-    /// Whether the nodes agree, those that were not lost do, and the schedule leads to them.
+    /// Whether the nodes agree, those that were not lost do, and the steps lead to them.
     pub agrees: bool,
     pub survivors_agree: bool,
     pub replays: bool,
@@ -230,21 +230,27 @@ pub struct End {
 }
 
 impl End {
-    /// Whether the nodes agree, and the schedule leads to them.
+    /// Whether the nodes agree, and the steps lead to them.
     pub fn is_well(self) -> bool {
         self.agrees && self.replays
     }
 }
 
-/// How many losses of nodes a schedule has.
-fn loss_count(schedule: &[FrameStep]) -> usize {
+/// How many losses of nodes are among these steps.
+fn loss_count(steps: &[FrameStep]) -> usize {
     let mut count: usize = 0;
-    for step in schedule {
+    for step in steps {
         if matches!(step, FrameStep::Lose { .. }) {
             count = count.saturating_add(1);
         }
     }
     count
+}
+
+/// How many steps a cluster that is closed has, and how many of them are losses.
+fn step_counts(alloc: Global, closed: &Closed) -> Result<(usize, usize), AllocError> {
+    let steps = closed.schedule(alloc)?;
+    Ok((steps.len(), loss_count(steps.as_slice())))
 }
 
 // The answer to a question, which is asked a second time where memory was refused.
@@ -259,10 +265,14 @@ macro_rules! asked {
 
 /// How a cluster ended that is closed.
 pub fn end_of_closed(alloc: Global, closed: &Closed, config: &Config) -> End {
+    let (events, losses) = match step_counts(alloc, closed) {
+        Ok(counts) => counts,
+        Err(AllocError) => step_counts(alloc, closed).unwrap_or((0, 0)),
+    };
     End {
         nodes: closed.nodes.len(),
-        events: closed.schedule.len(),
-        losses: loss_count(closed.schedule.as_slice()),
+        events,
+        losses,
         agrees: asked!(closed.agrees(alloc)),
         survivors_agree: asked!(closed.survivors_agree(alloc)),
         replays: asked!(closed.replays(alloc, config)),
@@ -284,7 +294,7 @@ fn finished(closed: Result<Closed, Stopped>) -> Option<Closed> {
     }
 }
 
-/// Closes the cluster: how it ended; none where there is no schedule.
+/// Closes the cluster: how it ended; none where its logs have no order.
 pub fn end_of<R: Threads>(rt: &R, alloc: Global, started: Started) -> Option<End> {
     let (closed, config) = started.close(rt);
     let end = with!(

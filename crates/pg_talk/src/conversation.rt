@@ -74,12 +74,12 @@ pub struct Outcome {
     pub asked: u64,
     /// Whether the nodes agree: `Closed::agrees`.
     pub agree: bool,
-    /// Whether the schedule comes to the nodes as they ended: `Closed::replays`.
+    /// Whether the steps come to the nodes as they ended: `Closed::replays`.
     pub replay: bool,
 }
 
 impl Outcome {
-    /// Whether all was answered, the nodes agree, and the schedule replays.
+    /// Whether all was answered, the nodes agree, and the steps replay.
     ///
     /// Cost: no memory.
     pub fn is_good(&self) -> bool

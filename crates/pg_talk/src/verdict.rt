@@ -17,7 +17,7 @@ use std::thread::Threads;
 pub struct Verdict {
     /// Whether the nodes agree: `Closed::agrees`, or, where some were lost, `Closed::survivors_agree`.
     pub agree: bool,
-    /// Whether the schedule comes to the nodes as they ended: `Closed::replays`.
+    /// Whether the steps come to the nodes as they ended: `Closed::replays`.
     pub replay: bool,
 }
 

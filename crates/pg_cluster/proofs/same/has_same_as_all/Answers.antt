@@ -1,6 +1,5 @@
-use Rattle.std.proofs.Common.{◌≡◌, ◌<◌, ℕ, length, get_or, true, false, not, refl, sym, subst, ◌∙◌, arith}
-use Rattle.std.specs.List.{All}
-use Rattle.pg_cluster.specs.Survivors.{HasSame, survivors, was_lost}
+use Rattle.std.proofs.Common.{refl, sym, subst, ◌∙◌, arith}
+use Rattle.pg_cluster.specs.Survivors.{HasSame}
 use Rattle.pg_cluster.proofs.Surviving.{all_survivors, more_lost, more_nodes, survivors_all}
 use Rattle.pg_cluster.proofs.same.has_same_as_all.Goals as goal
 use Rattle.pg_cluster.proofs.same.has_same_as_all.Goals.{else-not-was_lost-via-then-not-was_lost+in_ok-has_same+else-not-branch}

@@ -1,7 +1,6 @@
 use Rattle.std.proofs.Common.{◌≡◌, ◌<◌, ℕ, get_or}
 use Rattle.std.specs.Prelude.{false}
-use Rattle.std.specs.List.{All}
-use Rattle.pg_cluster.specs.Survivors.{HasSame, survivors, was_lost}
+use Rattle.pg_cluster.specs.Survivors.{HasSame, was_lost}
 use Rattle.pg_cluster.proofs.same.has_same_as_all.Given as goal
 
 abbrev pub invariant-loop-place : goal.invariant-loop-place

@@ -1,6 +1,6 @@
-use Rattle.std.proofs.Common.{◌≡◌, ◌<◌, ℕ, length, get_or, true, false, not, refl, sym, subst, ◌∙◌, arith}
+use Rattle.std.proofs.Common.{refl, sym, subst, ◌∙◌, arith}
 use Rattle.std.specs.List.{All}
-use Rattle.pg_cluster.specs.Survivors.{HasSame, survivors, was_lost}
+use Rattle.pg_cluster.specs.Survivors.{HasSame, survivors}
 use Rattle.pg_cluster.specs.Threads.{NodeOf}
 use Rattle.pg_cluster.proofs.Surviving.{all_survivors, more_lost, more_nodes, survivors_all}
 use Rattle.pg_cluster.proofs.same.have_same.Goals as goal

@@ -1,9 +1,6 @@
 use Rattle.std.proofs.Common.{◌≡◌, ◌++◌, drop, map}
-use Rattle.pg_cluster.specs.Schedule.{losing_steps, losses_first, seen_step, steps_behind}
+use Rattle.pg_cluster.specs.Schedule.{losing_steps, seen_step, steps_behind}
 use Rattle.pg_cluster.proofs.schedule.steps_with_losses.Given as goal
-
-abbrev pub invariant-loop-node : goal.invariant-loop-node
-invariant-loop-node l = map seen_step l.steps.items ≡ losses_first (map (λ v. v.items) l.logs) l.lost l.order l.node
 
 -- what the entries that are left are goes behind the steps so far
 abbrev pub invariant-loop-place : goal.invariant-loop-place

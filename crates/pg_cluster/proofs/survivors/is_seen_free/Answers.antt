@@ -1,16 +1,9 @@
-use Rattle.std.proofs.Common.{rules, ◌≡◌, ◌<◌, ◌≤◌, ◌||◌, ℕ, length, get_or, true, false}
-use Rattle.std.proofs.Common.{not, refl, sym, ap, ap₂, subst, ◌∙◌, arith, take_all}
-use Rattle.std.specs.Prelude.{◌&&◌, is_none, Bool}
-use Rattle.std.specs.List.{All}
-use Rattle.std.proofs.lemmas.List.Elements.{All-more}
-use Rattle.pg_frame_world.specs.Views.{peer_place}
-use Rattle.pg_node_state.specs.States.{kept_by}
-use Rattle.pg_cluster.specs.Judges.{HasAs, formed_in, is_end_pending, state_in}
-use Rattle.pg_cluster.specs.Survivors.{has_event, is_change_of, is_compared, is_loss_of, is_loss_pending}
-use Rattle.pg_cluster.specs.Survivors.{is_missing, is_take_of, log_at, survivors, was_lost}
-use Rattle.pg_cluster.proofs.Surviving.{AreOneAmong, IsAgreed, IsAgreedOn, all_survivors, any_found, any_none}
-use Rattle.pg_cluster.proofs.Surviving.{any_survivor, each_survivor, log_here, missing_here, more_lost, more_nodes}
-use Rattle.pg_cluster.proofs.Surviving.{more_places, no_survivor, not_each, one_so, or_right, so_one, survivors_all}
+use Rattle.std.proofs.Common.{rules, ◌≡◌, true}
+use Rattle.std.proofs.Common.{sym, ap, ◌∙◌, arith}
+use Rattle.std.specs.Prelude.{is_none}
+use Rattle.pg_cluster.specs.Judges.{state_in}
+use Rattle.pg_cluster.proofs.Surviving.{any_survivor}
+use Rattle.pg_cluster.proofs.Surviving.{no_survivor}
 use Rattle.pg_cluster.proofs.survivors.is_seen_free.Goals as goal
 
 pub returns-then-is_none : goal.returns-then-is_none

@@ -1,9 +1,8 @@
-use Rattle.std.proofs.Common.{◌≡◌, ◌<◌, ℕ, get_or, length}
-use Rattle.std.specs.Prelude.{true, false, ◌&&◌, ◌||◌, not, is_none}
+use Rattle.std.proofs.Common.{◌≡◌, ◌<◌, ℕ}
+use Rattle.std.specs.Prelude.{false, ◌&&◌, not}
 use Rattle.pg_frame_world.specs.Views.{peer_place}
-use Rattle.pg_cluster.specs.Judges.{HasAs, formed_in, state_in}
-use Rattle.pg_cluster.specs.Survivors.{AgreesOf, has_event, is_change_of, is_compared, is_loss_of}
-use Rattle.pg_cluster.specs.Survivors.{is_missing, is_take_of, log_at, survivors, was_lost}
+use Rattle.pg_cluster.specs.Survivors.{has_event}
+use Rattle.pg_cluster.specs.Survivors.{is_take_of, log_at, was_lost}
 use Rattle.pg_cluster.proofs.survivors.misses_packets.Given as goal
 
 abbrev pub invariant-loop-place : goal.invariant-loop-place

@@ -1,4 +1,4 @@
-use Rattle.std.proofs.Common.{◌≡◌, ◌↔◌, Bool, List, subst}
+use Rattle.std.proofs.Common.{◌↔◌, Bool, List, subst}
 use Rattle.std.specs.Prelude.{IfOk, IsTrue}
 use Rattle.pg_cluster.specs.Survivors.{HaveSame, survivors}
 use Rattle.pg_cluster.specs.Threads.{NodeOf}

@@ -1,13 +1,11 @@
 use Rattle.pg_cluster.specs.Closed.{lost_of, threads_of}
 use Rattle.pg_cluster.proofs.Agreed.{closed_agree}
-use Rattle.pg_cluster.proofs.Finishing.{closed_survivors, finished_ended, finished_run, finished_clients}
-use Rattle.pg_cluster.proofs.Finishing.{finished_losing, finished_losing_run, finished_lost, finished_schedule}
+use Rattle.pg_cluster.proofs.Finishing.{closed_survivors, finished_clients, finished_ended, finished_losing_run, finished_lost, finished_run}
 use Rattle.pg_cluster.proofs.Finishing.{ended_merely, heard_merely, stopped_joins, stopped_joins_losing}
 use Rattle.pg_cluster.proofs.cluster.Cluster.close.Goals as goal
 
 pub returns-clause-ended : goal.returns-clause-ended
-returns-clause-ended g c =
-    ended_merely (lost_of c.args.self) (threads_of c.args.self) c.stop-stopped.result c.finish.result c.stop-stopped.ensures.ended c.finish.ensures.nodes c.finish.ensures.logs c.finish.ensures.turns c.finish.ensures.err
+returns-clause-ended g c = ended_merely (lost_of c.args.self) (threads_of c.args.self) c.stop-stopped.result c.finish.result c.stop-stopped.ensures.ended c.finish.ensures.nodes c.finish.ensures.logs c.finish.ensures.turns c.finish.ensures.err
 
 pub returns-clause-one_run : goal.returns-clause-one_run
 returns-clause-one_run g c =
@@ -15,7 +13,7 @@ returns-clause-one_run g c =
     let threads = threads_of c.args.self in
     finished_run c.threads_are_one_run.ensures lost threads c.finish.result
     (λ nobody. finished_ended lost threads c.stop-stopped.result c.finish.result (c.stop-stopped.ensures.alone nobody) c.finish.ensures.nodes c.finish.ensures.logs c.finish.ensures.turns c.finish.ensures.err)
-    (finished_schedule lost c.stop-stopped.result c.finish.result c.stop-stopped.ensures.lost c.finish.ensures.schedule)
+    c.finish.ensures.order (finished_lost lost c.stop-stopped.result c.finish.result c.stop-stopped.ensures.lost c.finish.ensures.lost c.finish.ensures.err)
 
 pub returns-clause-agree : goal.returns-clause-agree
 returns-clause-agree g c =
@@ -24,23 +22,19 @@ returns-clause-agree g c =
     closed_agree c.nodes_of_one_run_agree.ensures lost threads c.finish.result
     (finished_run c.threads_are_one_run.ensures lost threads c.finish.result
     (λ nobody. finished_ended lost threads c.stop-stopped.result c.finish.result (c.stop-stopped.ensures.alone nobody) c.finish.ensures.nodes c.finish.ensures.logs c.finish.ensures.turns c.finish.ensures.err)
-    (finished_schedule lost c.stop-stopped.result c.finish.result c.stop-stopped.ensures.lost c.finish.ensures.schedule))
+    c.finish.ensures.order (finished_lost lost c.stop-stopped.result c.finish.result c.stop-stopped.ensures.lost c.finish.ensures.lost c.finish.ensures.err))
 
 pub returns-clause-heard : goal.returns-clause-heard
 returns-clause-heard g c =
     heard_merely (threads_of c.args.self) c.args.clients.items c.stop-stopped.result c.finish.result c.stop-stopped.ensures.heard c.finish.ensures.nodes c.finish.ensures.logs c.finish.ensures.err
 
-pub returns-clause-schedule : goal.returns-clause-schedule
-returns-clause-schedule g c = finished_schedule (lost_of c.args.self) c.stop-stopped.result c.finish.result c.stop-stopped.ensures.lost c.finish.ensures.schedule
-
-pub returns-clause-events : goal.returns-clause-events
-returns-clause-events g c = finished_losing (lost_of c.args.self) c.stop-stopped.result c.finish.result c.stop-stopped.ensures.lost c.finish.ensures.events
-
 pub returns-clause-losing_run : goal.returns-clause-losing_run
 returns-clause-losing_run g c =
-    finished_losing_run c.threads_are_one_losing_run.ensures (lost_of c.args.self) (threads_of c.args.self) c.finish.result
-    (ended_merely (lost_of c.args.self) (threads_of c.args.self) c.stop-stopped.result c.finish.result c.stop-stopped.ensures.ended c.finish.ensures.nodes c.finish.ensures.logs c.finish.ensures.turns c.finish.ensures.err)
-    (finished_losing (lost_of c.args.self) c.stop-stopped.result c.finish.result c.stop-stopped.ensures.lost c.finish.ensures.events)
+    let lost = lost_of c.args.self in
+    let threads = threads_of c.args.self in
+    finished_losing_run c.threads_are_one_losing_run.ensures lost threads c.finish.result
+    (ended_merely lost threads c.stop-stopped.result c.finish.result c.stop-stopped.ensures.ended c.finish.ensures.nodes c.finish.ensures.logs c.finish.ensures.turns c.finish.ensures.err)
+    c.finish.ensures.order (finished_lost lost c.stop-stopped.result c.finish.result c.stop-stopped.ensures.lost c.finish.ensures.lost c.finish.ensures.err)
 
 pub returns-clause-lost : goal.returns-clause-lost
 returns-clause-lost g c = finished_lost (lost_of c.args.self) c.stop-stopped.result c.finish.result c.stop-stopped.ensures.lost c.finish.ensures.lost c.finish.ensures.err
@@ -58,7 +52,11 @@ returns-clause-joins_losing g c =
 
 pub returns-clause-survivors : goal.returns-clause-survivors
 returns-clause-survivors g c =
-    closed_survivors c.survivors_of_one_run_agree.ensures c.threads_are_one_losing_run.ensures (lost_of c.args.self) (threads_of c.args.self) c.finish.result
-    (ended_merely (lost_of c.args.self) (threads_of c.args.self) c.stop-stopped.result c.finish.result c.stop-stopped.ensures.ended c.finish.ensures.nodes c.finish.ensures.logs c.finish.ensures.turns c.finish.ensures.err)
-    (finished_losing (lost_of c.args.self) c.stop-stopped.result c.finish.result c.stop-stopped.ensures.lost c.finish.ensures.events)
-    (finished_lost (lost_of c.args.self) c.stop-stopped.result c.finish.result c.stop-stopped.ensures.lost c.finish.ensures.lost c.finish.ensures.err)
+    let lost = lost_of c.args.self in
+    let threads = threads_of c.args.self in
+    closed_survivors c.survivors_of_one_run_agree.ensures lost threads c.finish.result
+    (ended_merely lost threads c.stop-stopped.result c.finish.result c.stop-stopped.ensures.ended c.finish.ensures.nodes c.finish.ensures.logs c.finish.ensures.turns c.finish.ensures.err)
+    c.finish.ensures.order
+    (finished_losing_run c.threads_are_one_losing_run.ensures lost threads c.finish.result
+    (ended_merely lost threads c.stop-stopped.result c.finish.result c.stop-stopped.ensures.ended c.finish.ensures.nodes c.finish.ensures.logs c.finish.ensures.turns c.finish.ensures.err)
+    c.finish.ensures.order (finished_lost lost c.stop-stopped.result c.finish.result c.stop-stopped.ensures.lost c.finish.ensures.lost c.finish.ensures.err))

@@ -1,18 +1,17 @@
 use Rattle.std.proofs.Common.{map}
 use Rattle.pg_cluster.specs.Clients.{AllHeard}
-use Rattle.pg_cluster.specs.Closed.{JoinsToOneLosingRun, JoinsToOneRun, logs_of, nodes_of, threads_of, lost_of}
+use Rattle.pg_cluster.specs.Closed.{IsOneRun, JoinsToOneLosingRun, JoinsToOneRun, logs_of, nodes_of, threads_of, lost_of}
 use Rattle.pg_cluster.specs.Judges.{Agree}
 use Rattle.pg_cluster.specs.Notices.{NobodyLost}
 use Rattle.pg_cluster.specs.Survivors.{SurvivorsAgree}
 use Rattle.pg_cluster.specs.Threads.{AreMade, begun_by}
-use Rattle.pg_cluster.specs.Together.{AreOneLosingRun, AreOneRun}
-use Rattle.pg_cluster.proofs.Handing.{of_its_own, fact_of_its_own, fact_once, stopped_of_its_own, stopped_once}
+use Rattle.pg_cluster.proofs.Handing.{of_its_own, fact_of_its_own, fact_once, run_once, stopped_of_its_own, stopped_once}
 use Rattle.pg_cluster.proofs.running.Running.close.Goals as goal
 
 pub returns-clause-one_run : goal.returns-clause-one_run
 returns-clause-one_run g c =
     of_its_own (λ given. AreMade given (map begun_by (threads_of c.args.self.cluster))) c.args.self.config.starts.items c.args.self.made (NobodyLost (lost_of c.args.self.cluster))
-    (λ given closed. AreOneRun given closed.nodes.items (map (λ v. v.items) closed.logs.items) closed.schedule.items) c.close-closed.result c.close-closed.ensures.one_run
+    IsOneRun c.close-closed.result c.close-closed.ensures.one_run
 
 pub returns-clause-agree : goal.returns-clause-agree
 returns-clause-agree g c =
@@ -27,8 +26,7 @@ returns-clause-heard g c =
 
 pub returns-clause-losing_run : goal.returns-clause-losing_run
 returns-clause-losing_run g c =
-    fact_once (λ given. AreMade given (map begun_by (threads_of c.args.self.cluster))) c.args.self.config.starts.items c.args.self.made
-    (λ given closed. AreOneLosingRun given (lost_of c.args.self.cluster) closed.nodes.items closed.schedule.items) c.close-closed.result c.close-closed.ensures.losing_run
+    run_once (λ given. AreMade given (map begun_by (threads_of c.args.self.cluster))) c.args.self.config.starts.items c.args.self.made c.close-closed.result c.close-closed.ensures.losing_run
 
 pub returns-clause-joins : goal.returns-clause-joins
 returns-clause-joins g c =
