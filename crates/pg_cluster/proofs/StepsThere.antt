@@ -1,6 +1,7 @@
 -- A cluster that has ended has such steps.
 use Rattle.std.proofs.Common.{◌≡◌, ◌≤◌, ◌<◌, ◌^◌, ◌∙◌, ◌+◌, ℕ, zero, suc, Bool, true, false, List, [], ◌∷◌, ◌++◌, cond}
 use Rattle.std.proofs.Common.{length, map, nat_eq, refl, arith, length-append}
+use Rattle.std.specs.Prelude.{Result, Ok, Err, IfOk}
 use Rattle.std.specs.declared.alloc.Global.{Global}
 use Rattle.std.specs.declared.vec.Vec.{Vec}
 use Rattle.std.proofs.lemmas.List.{length-map, map-append}
@@ -11,7 +12,7 @@ use Rattle.pg_run.specs.declared.log.NodeEvent.TheVariants as events
 use Rattle.pg_frame_world.specs.declared.step.FrameStep.{FrameStep}
 use Rattle.pg_frame_world.specs.declared.step.FrameStep.TheVariants as steps
 use Rattle.pg_cluster.specs.declared.closed.Closed.{Closed}
-use Rattle.pg_cluster.specs.Closed.{AreStepsOf, logs_in}
+use Rattle.pg_cluster.specs.Closed.{AreStepsOf, HasSteps, logs_in}
 use Rattle.pg_cluster.specs.Schedule.{Turned, is_alone, is_last_of, keeps, loss_if, losses_first}
 use Rattle.pg_cluster.specs.Schedule.{seen_step, step_as, steps_behind}
 
@@ -71,3 +72,7 @@ steps_there closed =
     let first = first_there logs closed.lost.items closed.order small closed.order.items (length logs) in
     let behind = behind_there logs closed.lost.items closed.order small closed.order.items in
     (first.0 ++ behind.0, map-append seen_step first.0 behind.0 ∙ (λ j. first.1 j ++ behind.1 j))
+
+pub has_steps : {E : Type 0} (result : Result Closed E) → IfOk result HasSteps
+has_steps (Ok closed) = ∣ steps_there closed ∣₁
+has_steps (Err e) = tt

@@ -88,6 +88,10 @@ IsInOrder closed = Merges (length (logs_in closed)) (clocks_in (logs_in closed))
 abbrev pub AreStepsOf : Closed → List FrameStep → Type 0
 AreStepsOf closed steps = AreSteps (logs_in closed) closed.lost.items closed.order.items steps
 
+-- there are such steps
+abbrev pub HasSteps : Closed → Type 0
+HasSteps closed = ∥ ((steps : List FrameStep) × AreStepsOf closed steps) ∥₁
+
 -- they are one run of the configuration
 abbrev pub IsOneRun : Config → Closed → Type 0
 IsOneRun given closed = (steps : List FrameStep) → AreStepsOf closed steps → AreOneRun given closed.nodes.items (logs_in closed) steps

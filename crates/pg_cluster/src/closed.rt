@@ -60,7 +60,7 @@ pub struct Closed {
 }
 
 impl Stopped {
-    ghost use Rattle.pg_cluster.specs.Closed.{IsInOrder, IsOneLosingRun, IsOneRun, JoinsToOneLosingRun, JoinsToOneRun};
+    ghost use Rattle.pg_cluster.specs.Closed.{HasSteps, IsInOrder, IsOneLosingRun, IsOneRun, JoinsToOneLosingRun, JoinsToOneRun};
     ghost use Rattle.pg_cluster.specs.Closed.{nodes_of, logs_of, turns_of, losses_of, clients_of};
     ghost use Rattle.pg_cluster.specs.Judges.{Agree};
     ghost use Rattle.pg_cluster.specs.Survivors.{SurvivorsAgree};
@@ -102,6 +102,7 @@ impl Stopped {
         ensures nodes { IfOk result (λ closed. closed.nodes.items ≡ nodes_of self) }
         ensures logs { IfOk result (λ closed. map (λ v. v.items) closed.logs.items ≡ logs_of self) }
         ensures order { IfOk result IsInOrder }
+        ensures steps { IfOk result HasSteps }
         ensures one_run { IfOk result (λ closed. NobodyLost (losses_of self) → (given : Configuration) → JoinsToOneRun given (nodes_of self) (logs_of self)
             → IsOneRun given closed) }
         ensures agree { IfOk result (λ closed. NobodyLost (losses_of self) → (given : Configuration) → JoinsToOneRun given (nodes_of self) (logs_of self)

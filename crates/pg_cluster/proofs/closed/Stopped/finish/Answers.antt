@@ -1,4 +1,5 @@
 use Rattle.pg_cluster.proofs.Finishing.{joined_agree, joined_losing_run, joined_run, joined_survivors}
+use Rattle.pg_cluster.proofs.StepsThere.{has_steps}
 use Rattle.pg_cluster.proofs.closed.Stopped.finish.Goals as goal
 
 pub returns-clause-one_run : goal.returns-clause-one_run
@@ -16,3 +17,6 @@ pub returns-clause-survivors : goal.returns-clause-survivors
 returns-clause-survivors c =
     joined_survivors c.survivors_of_one_run_agree.ensures c.args.self c.in_order.result c.in_order.ensures.nodes c.in_order.ensures.logs c.in_order.ensures.order
     (joined_losing_run c.args.self c.in_order.result c.in_order.ensures.nodes c.in_order.ensures.logs c.in_order.ensures.lost c.in_order.ensures.order)
+
+pub returns-clause-steps : goal.returns-clause-steps
+returns-clause-steps c = has_steps c.in_order.result

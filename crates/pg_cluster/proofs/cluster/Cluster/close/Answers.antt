@@ -2,6 +2,7 @@ use Rattle.pg_cluster.specs.Closed.{lost_of, threads_of}
 use Rattle.pg_cluster.proofs.Agreed.{closed_agree}
 use Rattle.pg_cluster.proofs.Finishing.{closed_survivors, finished_clients, finished_ended, finished_losing_run, finished_lost, finished_run}
 use Rattle.pg_cluster.proofs.Finishing.{ended_merely, heard_merely, stopped_joins, stopped_joins_losing}
+use Rattle.pg_cluster.proofs.StepsThere.{has_steps}
 use Rattle.pg_cluster.proofs.cluster.Cluster.close.Goals as goal
 
 pub returns-clause-ended : goal.returns-clause-ended
@@ -60,3 +61,6 @@ returns-clause-survivors g c =
     (finished_losing_run c.threads_are_one_losing_run.ensures lost threads c.finish.result
     (ended_merely lost threads c.stop-stopped.result c.finish.result c.stop-stopped.ensures.ended c.finish.ensures.nodes c.finish.ensures.logs c.finish.ensures.turns c.finish.ensures.err)
     c.finish.ensures.order (finished_lost lost c.stop-stopped.result c.finish.result c.stop-stopped.ensures.lost c.finish.ensures.lost c.finish.ensures.err))
+
+pub returns-clause-steps : goal.returns-clause-steps
+returns-clause-steps g c = has_steps c.finish.result

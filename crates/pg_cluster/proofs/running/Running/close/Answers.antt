@@ -6,6 +6,7 @@ use Rattle.pg_cluster.specs.Notices.{NobodyLost}
 use Rattle.pg_cluster.specs.Survivors.{SurvivorsAgree}
 use Rattle.pg_cluster.specs.Threads.{AreMade, begun_by}
 use Rattle.pg_cluster.proofs.Handing.{of_its_own, fact_of_its_own, fact_once, run_once, stopped_of_its_own, stopped_once}
+use Rattle.pg_cluster.proofs.StepsThere.{has_steps}
 use Rattle.pg_cluster.proofs.running.Running.close.Goals as goal
 
 pub returns-clause-one_run : goal.returns-clause-one_run
@@ -42,3 +43,6 @@ pub returns-clause-survivors : goal.returns-clause-survivors
 returns-clause-survivors g c =
     fact_once (λ given. AreMade given (map begun_by (threads_of c.args.self.cluster))) c.args.self.config.starts.items c.args.self.made
     (λ given closed. SurvivorsAgree closed.nodes.items closed.lost.items closed.logs.items) c.close-closed.result c.close-closed.ensures.survivors
+
+pub returns-clause-steps : goal.returns-clause-steps
+returns-clause-steps g c = has_steps c.close-closed.result
