@@ -138,8 +138,14 @@ module _ (config : Config) (i : ℕ) (within : i < length config) (names others 
 
   -- all but its own name
   pub peers_here : length config ≤ 16 → length others ≤ 15
-  peers_here few = omega (arith, few, inside, length-map config (λ (s : Start). s.name), length-remove (names_of config) i inside,
-      ap (λ (ns : List Node). length ns) (rest ∙ ap (λ (ns : List Node). remove ns i) are))
+  peers_here few = omega (
+    arith,
+    few,
+    inside,
+    length-map config (λ (s : Start). s.name),
+    length-remove (names_of config) i inside,
+    ap (λ (ns : List Node). length ns) (rest ∙ ap (λ (ns : List Node). remove ns i) are),
+  )
 
   -- the node that was made
   pub seen_here : {T E : Type 0} {g : Ghosts T} (start : Start) (table : Table) (r : Result (NodeState T g) E) → start ≡ get_or config i start → table ≡ first_table start.groups
