@@ -218,7 +218,7 @@ module _ (ring : ℕ) (config slice : Config) (same : slice ≡ config) (none : 
   good_fault result cant = cant_begin ring config result none (subst (λ (c : Config). IfErr result (CantStart c)) same cant)
 
   pub ready_so : {X : Type 0} (result : Result X WorldFault) → OnOk result (have_few slice ≡ true) → OnOk result (AreReady config)
-  ready_so (Ok x) few = subst AreReady same (record { apart = good_apart; made = good_made; once = good_once; few = λ i. few_at slice i few; named = good_names })
+  ready_so (Ok x) few = subst AreReady same (record { nodes = good.few; apart = good_apart; made = good_made; once = good_once; few = λ i. few_at slice i few; named = good_names })
   ready_so (Err fault) few = tt
 
   pub few_fault : {X : Type 0} (result : Result X WorldFault) → IfErr result (λ fault. (fault ≡ TooLong) × (have_few slice ≡ false)) → IfErr result (CantBegin ring config)

@@ -54,9 +54,10 @@ SomeCantOpen nodes fault = ⊥
 abbrev pub AllFit : Config → Type 0
 AllFit config = (i : ℕ) → i < length config → Fits (seen_first config i)
 
--- The nodes of a configuration can start: their names differ, each has made as many processes as a node may and tells each group
--- once, by a name that can be sent, with at most 2^32 members.
+-- The nodes of a configuration can start: they are 16 at most, their names differ, each has made as many processes as a node may
+-- and tells each group once, by a name that can be sent, with at most 2^32 members.
 pub record AreReady (starts : Config) : Type 0 where
+  pub nodes : length starts ≤ 16
   pub apart : IsDistinct same_atom (names_of starts)
   pub made : (i : ℕ) → made_at starts i ≤ MAX_PROCESSES
   pub once : (i : ℕ) → IsDistinct same_term (announced_names (groups_at starts i))

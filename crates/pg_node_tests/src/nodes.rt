@@ -1,6 +1,6 @@
 //! Nodes that tests are made of, and what is seen of them.
 
-ghost use Rattle.std.specs.Prelude.{◌≡◌, ◌∷◌, ◌≤◌, [], false, IfOk};
+ghost use Rattle.std.specs.Prelude.{◌≡◌, ◌∷◌, ◌≤◌, [], false, length, IfOk};
 ghost use Rattle.std.specs.List.{IsDistinct};
 ghost use Rattle.pg_term.specs.Same.{same_atom};
 
@@ -64,6 +64,7 @@ pub fn atom(alloc: Global, text: &str) -> Option<Atom> {
 
 fn begun(alloc: Global, config: NodeConfig) -> Result<NodeState<IndexTable>, AllocError>
     requires apart { IsDistinct same_atom (config.own ∷ config.peers.items) }
+    requires peers { length config.peers.items ≤ 15 }
     requires made { config.made ≤ 268435455 }
 {
     let table = IndexTable::new(alloc);

@@ -41,7 +41,7 @@ over_none (Some v) = refl
 
 module _ (names : List Node) (made : ℕ) (os : List OpenCommand) (o' : OpenCommand) (known : AreKnown names made os) (waits : o'.phase ≡ phase.Waiting) (closed : stages_in os o'.op ≡ Closed) where
   no_use : (x : ℕ) → use_at names o' x ≡ None
-  no_use x = ap (λ ph. use_in names o'.op o'.update ph o'.marks.items x) waits
+  no_use x = ap (λ ph. use_in names o'.op o'.update ph o'.marks x) waits
 
   sought : (x : ℕ) → seek (use_at names) (os ++ o' ∷ []) x ≡ seek (use_at names) os x
   sought x = push_seek (use_at names) os o' x ∙ (ap (λ z. over (seek (use_at names) os x) (over z None)) (no_use x) ∙ over_none (seek (use_at names) os x))
@@ -53,13 +53,13 @@ module _ (names : List Node) (made : ℕ) (os : List OpenCommand) (o' : OpenComm
       one true h = refl
       one false h = h
 
-  pub add_known : length o'.marks.items ≡ length names → 0 < length names → AreKnown names made (os ++ o' ∷ [])
+  pub add_known : length o'.marks ≡ length names → 0 < length names → AreKnown names made (os ++ o' ∷ [])
   add_known same some = record {
     uses_alone = alone_of (use_at names) (os ++ o' ∷ []) (push_apart (use_at names) os o' (apart_of (use_at names) os known.uses_alone)
         (λ x h. absurd (clash (sym h ∙ ap answers (no_use x)))));
     stages_alone = alone_of stage_at (os ++ o' ∷ []) (push_apart stage_at os o' (apart_of stage_at os known.stages_alone) free);
     uses_made = λ x e. ap answers (sought x) ∙ known.uses_made x e;
-    marked = push_each stage_at (λ p. length p.marks.items ≡ length names) os o' known.marked same;
+    marked = push_each stage_at (λ p. length p.marks ≡ length names) os o' known.marked same;
     first = push_each stage_at (λ p. first_in p.phase < length names) os o' known.first (subst (λ ph. first_in ph < length names) (sym waits) some);
   }
 

@@ -215,22 +215,22 @@ stage_alike u (phase.Changing lock number) phase.Waiting ms ns e = absurd (clash
 stage_alike u (phase.Changing lock number) (phase.Asking lock' first') ms ns e = absurd (clash (sym e))
 
 module _ (o p : OpenCommand) (e : is_twin o p ≡ true) where
-  rest_so : (same_update o.update p.update && is_alike o.phase o.marks.items p.phase p.marks.items) ≡ true
-  rest_so = second_so _ (same_update o.update p.update && is_alike o.phase o.marks.items p.phase p.marks.items) e
+  rest_so : (same_update o.update p.update && is_alike o.phase o.marks p.phase p.marks) ≡ true
+  rest_so = second_so _ (same_update o.update p.update && is_alike o.phase o.marks p.phase p.marks) e
 
   same_ops : o.op ≡ p.op
-  same_ops = op_is o.op p.op (first_so _ (same_update o.update p.update && is_alike o.phase o.marks.items p.phase p.marks.items) e)
+  same_ops = op_is o.op p.op (first_so _ (same_update o.update p.update && is_alike o.phase o.marks p.phase p.marks) e)
 
   same_updates : o.update ≡ p.update
-  same_updates = update_is o.update p.update (first_so (same_update o.update p.update) (is_alike o.phase o.marks.items p.phase p.marks.items) rest_so)
+  same_updates = update_is o.update p.update (first_so (same_update o.update p.update) (is_alike o.phase o.marks p.phase p.marks) rest_so)
 
-  alike_so : is_alike o.phase o.marks.items p.phase p.marks.items ≡ true
-  alike_so = second_so (same_update o.update p.update) (is_alike o.phase o.marks.items p.phase p.marks.items) rest_so
+  alike_so : is_alike o.phase o.marks p.phase p.marks ≡ true
+  alike_so = second_so (same_update o.update p.update) (is_alike o.phase o.marks p.phase p.marks) rest_so
 
-  pub twin_use : (names : List Node) → IsDistinct same_atom names → length o.marks.items ≡ length names → length p.marks.items ≡ length names → (x : ℕ) → use_at names o x ≡ use_at names p x
-  twin_use names apart so sp x = (λ i. use_in names (same_ops i) (same_updates i) o.phase o.marks.items x)
-      ∙ use_alike names apart o.marks.items p.marks.items so sp p.op p.update o.phase p.phase x alike_so
+  pub twin_use : (names : List Node) → IsDistinct same_atom names → length o.marks ≡ length names → length p.marks ≡ length names → (x : ℕ) → use_at names o x ≡ use_at names p x
+  twin_use names apart so sp x = (λ i. use_in names (same_ops i) (same_updates i) o.phase o.marks x)
+      ∙ use_alike names apart o.marks p.marks so sp p.op p.update o.phase p.phase x alike_so
 
   pub twin_stage : (x : OpId) → stage_at o x ≡ stage_at p x
   twin_stage x = (λ i. cond (same_op (same_ops i) x) (Some (stage_in (same_updates i) o.phase)) None)
-      ∙ ap (λ z. cond (same_op p.op x) (Some z) None) (stage_alike p.update o.phase p.phase o.marks.items p.marks.items alike_so)
+      ∙ ap (λ z. cond (same_op p.op x) (Some z) None) (stage_alike p.update o.phase p.phase o.marks p.marks alike_so)

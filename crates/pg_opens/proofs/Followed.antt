@@ -92,30 +92,30 @@ pub record LocksAs (names : List Node) (o : OpenCommand) (x : ℕ) (op : OpId) (
   pub is_op : o.op ≡ op
   pub is_update : o.update ≡ update
   pub is_first : name_at names first ≡ f
-  pub marks : statuses names o.marks.items ≡ st
+  pub marks : statuses names o.marks ≡ st
 
 pub record UpdatesAs (names : List Node) (o : OpenCommand) (x : ℕ) (op : OpId) (update : Update) (lock : ℕ) (replied : Node → Bool) : Type 0 where
   pub phase : o.phase ≡ phase.Changing lock x
   pub is_op : o.op ≡ op
   pub is_update : o.update ≡ update
-  pub marks : replies names o.marks.items ≡ replied
+  pub marks : replies names o.marks ≡ replied
 
 module _ (names : List Node) (made : ℕ) (os : List OpenCommand) (k : ℕ) (o : OpenCommand) (known : AreKnown names made os) where
   pub locks_as : (x : ℕ) (op : OpId) (update : Update) (f : Node) (st : Node → Status) → Stands os k o x → uses_in names made os x ≡ Locking op update f st → (first : ℕ) × LocksAs names o x op update f st first
   locks_as x op update f st at e = go o.phase refl at.has (sym (was names made os k o known at.here x) ∙ e)
     where
-      go : (ph : Phase) → o.phase ≡ ph → has_in ph x ≡ true → or_as (over (use_in names o.op o.update ph o.marks.items x) (seek (use_at names) (others os k) x)) (unused made x) ≡ Locking op update f st
+      go : (ph : Phase) → o.phase ≡ ph → has_in ph x ≡ true → or_as (over (use_in names o.op o.update ph o.marks x) (seek (use_at names) (others os k) x)) (unused made x) ≡ Locking op update f st
           → (first : ℕ) × LocksAs names o x op update f st first
       go phase.Waiting p h e = absurd (clash (sym h))
       go (phase.Asking lock first) p h e = (first, let g = same (nat_eq lock x) h e in record { phase = p ∙ ap (λ z. phase.Asking z first) (eqb-true lock x h); is_op = g.0; is_update = g.1; is_first = g.2; marks = g.3 })
         where
-          same : (b : Bool) → b ≡ true → or_as (over (cond b (Some (Locking o.op o.update (name_at names first) (statuses names o.marks.items))) None) (seek (use_at names) (others os k) x)) (unused made x) ≡ Locking op update f st
-              → (o.op ≡ op) × (o.update ≡ update) × (name_at names first ≡ f) × (statuses names o.marks.items ≡ st)
+          same : (b : Bool) → b ≡ true → or_as (over (cond b (Some (Locking o.op o.update (name_at names first) (statuses names o.marks))) None) (seek (use_at names) (others os k) x)) (unused made x) ≡ Locking op update f st
+              → (o.op ≡ op) × (o.update ≡ update) × (name_at names first ≡ f) × (statuses names o.marks ≡ st)
           same true h e = (cc, cc, cc, cc)
           same false h e = absurd (clash (sym h))
       go (phase.Changing lock number) p h e = absurd (two (nat_eq number x) (nat_eq lock x) h e)
         where
-          two : (b c : Bool) → (b || c) ≡ true → or_as (over (cond b (Some (Updating o.op o.update lock (replies names o.marks.items))) (cond c (Some (Owning (name_of o.update) number)) None)) (seek (use_at names) (others os k) x)) (unused made x) ≡ Locking op update f st → ⊥
+          two : (b c : Bool) → (b || c) ≡ true → or_as (over (cond b (Some (Updating o.op o.update lock (replies names o.marks))) (cond c (Some (Owning (name_of o.update) number)) None)) (seek (use_at names) (others os k) x)) (unused made x) ≡ Locking op update f st → ⊥
           two true c h e = cc
           two false true h e = cc
           two false false h e = clash (sym h)
@@ -123,18 +123,18 @@ module _ (names : List Node) (made : ℕ) (os : List OpenCommand) (k : ℕ) (o :
   pub updates_as : (x : ℕ) (op : OpId) (update : Update) (l : ℕ) (replied : Node → Bool) → Stands os k o x → uses_in names made os x ≡ Updating op update l replied → UpdatesAs names o x op update l replied
   updates_as x op update l replied at e = go o.phase refl at.has (sym (was names made os k o known at.here x) ∙ e)
     where
-      go : (ph : Phase) → o.phase ≡ ph → has_in ph x ≡ true → or_as (over (use_in names o.op o.update ph o.marks.items x) (seek (use_at names) (others os k) x)) (unused made x) ≡ Updating op update l replied
+      go : (ph : Phase) → o.phase ≡ ph → has_in ph x ≡ true → or_as (over (use_in names o.op o.update ph o.marks x) (seek (use_at names) (others os k) x)) (unused made x) ≡ Updating op update l replied
           → UpdatesAs names o x op update l replied
       go phase.Waiting p h e = absurd (clash (sym h))
       go (phase.Asking lock first) p h e = absurd (one (nat_eq lock x) h e)
         where
-          one : (b : Bool) → b ≡ true → or_as (over (cond b (Some (Locking o.op o.update (name_at names first) (statuses names o.marks.items))) None) (seek (use_at names) (others os k) x)) (unused made x) ≡ Updating op update l replied → ⊥
+          one : (b : Bool) → b ≡ true → or_as (over (cond b (Some (Locking o.op o.update (name_at names first) (statuses names o.marks))) None) (seek (use_at names) (others os k) x)) (unused made x) ≡ Updating op update l replied → ⊥
           one true h e = cc
           one false h e = clash (sym h)
       go (phase.Changing lock number) p h e = let g = same (nat_eq number x) (nat_eq lock x) refl h e in record { phase = p ∙ ap (λ z. phase.Changing z number) g.2 ∙ ap (phase.Changing l) (eqb-true number x g.4); is_op = g.0; is_update = g.1; marks = g.3 }
         where
-          same : (b c : Bool) → nat_eq number x ≡ b → (b || c) ≡ true → or_as (over (cond b (Some (Updating o.op o.update lock (replies names o.marks.items))) (cond c (Some (Owning (name_of o.update) number)) None)) (seek (use_at names) (others os k) x)) (unused made x) ≡ Updating op update l replied
-              → (o.op ≡ op) × (o.update ≡ update) × (lock ≡ l) × (replies names o.marks.items ≡ replied) × (nat_eq number x ≡ true)
+          same : (b c : Bool) → nat_eq number x ≡ b → (b || c) ≡ true → or_as (over (cond b (Some (Updating o.op o.update lock (replies names o.marks))) (cond c (Some (Owning (name_of o.update) number)) None)) (seek (use_at names) (others os k) x)) (unused made x) ≡ Updating op update l replied
+              → (o.op ≡ op) × (o.update ≡ update) × (lock ≡ l) × (replies names o.marks ≡ replied) × (nat_eq number x ≡ true)
           same true c n h e = (cc, cc, cc, cc, n)
           same false true n h e = absurd (cc)
           same false false n h e = absurd (clash (sym h))
@@ -159,17 +159,17 @@ module _ (names : List Node) (made : ℕ) (os : List OpenCommand) (k : ℕ) (o :
 
 module _ (names : List Node) (lost : List Bool) (made : ℕ) (os : List OpenCommand) (k : ℕ) (o o' : OpenCommand) (apart : IsDistinct same_atom names) (places : ArePlaces names lost) (known : AreKnown names made os) where
   -- nobody but perhaps the own node has a mark
-  first_marks : (own : Mark) → length o'.marks.items ≡ length names → ((place : ℕ) → place < length o.marks.items → get_or o'.marks.items place mark.Unasked ≡ first_mark own place) → length o.marks.items ≡ length names
-      → (place : ℕ) → place < length names → get_or o'.marks.items place mark.Unasked ≡ first_mark own place
+  first_marks : (own : Mark) → length o'.marks ≡ length names → ((place : ℕ) → place < length o.marks → get_or o'.marks place mark.Unasked ≡ first_mark own place) → length o.marks ≡ length names
+      → (place : ℕ) → place < length names → get_or o'.marks place mark.Unasked ≡ first_mark own place
   first_marks own same' each same place l = each place (subst (λ z. place < z) (sym same) l)
 
   pub start_follows : (op : OpId) (first : ℕ) (update : Update) → StandsFor os k o op → stages_in os op ≡ Waiting update → Turns o o' (phase.Asking (made + 1) first) → first < length names
-      → ((place : ℕ) → place < length o.marks.items → get_or o'.marks.items place mark.Unasked ≡ first_mark mark.Unasked place)
+      → ((place : ℕ) → place < length o.marks → get_or o'.marks place mark.Unasked ≡ first_mark mark.Unasked place)
       → (s : State) → Says names lost made os s → Says names lost (made + 1) (slice_set os k o') (new_attempt (name_at names first) op update s).state
   start_follows op first update at waits t l each s h =
       let w = waits_as names made os k o known op update at waits in
       let is_op : op ≡ o.op = sym (op_is o.op op at.is) in
-      let none : (λ (q : Node). Unasked) ≡ statuses names o'.marks.items = fun_ext (λ q. sym (reads_all status_of Unasked names o'.marks.items mark.Unasked q
+      let none : (λ (q : Node). Unasked) ≡ statuses names o'.marks = fun_ext (λ q. sym (reads_all status_of Unasked names o'.marks mark.Unasked q
       (λ j lj. ap status_of (each j (subst (λ z. j < z) t.marks lj) ∙ both_same (j == 0) mark.Unasked)))) in
       record {
         references = ap (λ n. n + 1) h.references;
@@ -181,13 +181,13 @@ module _ (names : List Node) (lost : List Bool) (made : ℕ) (os : List OpenComm
       }
 
   pub ask_follows : (x : ℕ) (who : Whom) (granted : Bool) (op : OpId) (update : Update) (f : Node) (st : Node → Status) → Stands os k o x → uses_in names made os x ≡ Locking op update f st → Turns o o' o.phase → has_place who (length names) ≡ true
-      → ((place : ℕ) → place < length o.marks.items → get_or o'.marks.items place mark.Unasked ≡ mark_at (get_or o.marks.items place mark.Unasked) (get_or lost place false) who place granted)
+      → ((place : ℕ) → place < length o.marks → get_or o'.marks place mark.Unasked ≡ mark_at (get_or o.marks place mark.Unasked) (get_or lost place false) who place granted)
       → (s : State) → Says names lost made os s → would_grant (left_in names lost) s (name_of update) ≡ granted
       → Says names lost made (slice_set os k o') (ask (left_in names lost) (whom names who) x op update f st s).state
   ask_follows x who granted op update f st at e t p each s h grants =
       let w = locks_as names made os k o known x op update f st at e in
       let same = known.marked k o at.here in
-      let now = asked_statuses names lost apart places o.marks.items same o'.marks.items who granted (t.marks ∙ same) p each in
+      let now = asked_statuses names lost apart places o.marks same o'.marks who granted (t.marks ∙ same) p each in
       record {
         references = h.references;
         uses = (λ i. upd nat_eq (h.uses i) x (Locking (sym w.1.is_op i) (sym w.1.is_update i) (sym w.1.is_first i) (with_asked (left_in names lost) (whom names who) (sym w.1.marks i) (grants i))))
@@ -203,13 +203,13 @@ module _ (names : List Node) (lost : List Bool) (made : ℕ) (os : List OpenComm
 
   -- a mark of a request for the lock is set
   pub lock_mark_follows : (x place : ℕ) (mk : Mark) (op : OpId) (update : Update) (f : Node) (st : Node → Status) → Stands os k o x → uses_in names made os x ≡ Locking op update f st → Turns o o' o.phase → place < length names
-      → o'.marks.items ≡ slice_set o.marks.items place mk
+      → o'.marks ≡ slice_set o.marks place mk
       → (s : State) → Says names lost made os s → Says names lost made (slice_set os k o') (count_answer x op update f st (name_at names place) (status_of mk) s).state
   unfolding upd
   lock_mark_follows x place mk op update f st at e t l is s h =
       let w = locks_as names made os k o known x op update f st at e in
-      let now : statuses names o'.marks.items ≡ upd same_atom (statuses names o.marks.items) (name_at names place) (status_of mk) = fun_ext (λ q. ap (λ z. statuses names z q) is
-      ∙ reads_set status_of Unasked names o.marks.items place mk q apart (known.marked k o at.here) l) in
+      let now : statuses names o'.marks ≡ upd same_atom (statuses names o.marks) (name_at names place) (status_of mk) = fun_ext (λ q. ap (λ z. statuses names z q) is
+      ∙ reads_set status_of Unasked names o.marks place mk q apart (known.marked k o at.here) l) in
       record {
         references = h.references;
         uses = (λ i. upd nat_eq (h.uses i) x (Locking (sym w.1.is_op i) (sym w.1.is_update i) (sym w.1.is_first i) (upd same_atom (sym w.1.marks i) (name_at names place) (status_of mk))))
@@ -220,7 +220,7 @@ module _ (names : List Node) (lost : List Bool) (made : ℕ) (os : List OpenComm
       }
 
   pub count_answer_follows : (x place : ℕ) (granted : Bool) (op : OpId) (update : Update) (f : Node) (st : Node → Status) → Stands os k o x → uses_in names made os x ≡ Locking op update f st → Turns o o' o.phase → place < length names
-      → o'.marks.items ≡ slice_set o.marks.items place (verdict_mark granted)
+      → o'.marks ≡ slice_set o.marks place (verdict_mark granted)
       → (s : State) → Says names lost made os s → Says names lost made (slice_set os k o') (count_answer x op update f st (name_at names place) (own_verdict granted) s).state
   count_answer_follows x place granted op update f st at e t l is s h =
       subst (λ (status : Status). Says names lost made (slice_set os k o') (count_answer x op update f st (name_at names place) status s).state) (verdict_same granted)
@@ -228,13 +228,13 @@ module _ (names : List Node) (lost : List Bool) (made : ℕ) (os : List OpenComm
 
   -- a mark of an update is set
   pub update_mark_follows : (x place : ℕ) (mk : Mark) (op : OpId) (update : Update) (lock : ℕ) (replied : Node → Bool) → Stands os k o x → uses_in names made os x ≡ Updating op update lock replied → Turns o o' o.phase → place < length names
-      → o'.marks.items ≡ slice_set o.marks.items place mk
+      → o'.marks ≡ slice_set o.marks place mk
       → (s : State) → Says names lost made os s → Says names lost made (slice_set os k o') (record s { uses = upd nat_eq s.uses x (Updating op update lock (upd same_atom replied (name_at names place) (has_yes mk))) })
   unfolding upd
   update_mark_follows x place mk op update lock replied at e t l is s h =
       let w = updates_as names made os k o known x op update lock replied at e in
-      let now : replies names o'.marks.items ≡ upd same_atom (replies names o.marks.items) (name_at names place) (has_yes mk) = fun_ext (λ q. ap (λ z. replies names z q) is
-      ∙ reads_set has_yes false names o.marks.items place mk q apart (known.marked k o at.here) l) in
+      let now : replies names o'.marks ≡ upd same_atom (replies names o.marks) (name_at names place) (has_yes mk) = fun_ext (λ q. ap (λ z. replies names z q) is
+      ∙ reads_set has_yes false names o.marks place mk q apart (known.marked k o at.here) l) in
       record {
         references = h.references;
         uses = (λ i. upd nat_eq (h.uses i) x (Updating (sym w.is_op i) (sym w.is_update i) lock (upd same_atom (sym w.marks i) (name_at names place) (has_yes mk))))
@@ -258,15 +258,15 @@ module _ (names : List Node) (lost : List Bool) (made : ℕ) (os : List OpenComm
       }
 
   pub begin_follows : (m : Nodes) (x : ℕ) (op : OpId) (update : Update) (f : Node) (st : Node → Status) → Stands os k o x → uses_in names made os x ≡ Locking op update f st → Turns o o' (phase.Changing x (made + 1))
-      → ((place : ℕ) → place < length o.marks.items → get_or o'.marks.items place mark.Unasked ≡ first_mark mark.Yes place) → m.own ≡ name_at names 0
+      → ((place : ℕ) → place < length o.marks → get_or o'.marks place mark.Unasked ≡ first_mark mark.Yes place) → m.own ≡ name_at names 0
       → (s : State) → Says names lost made os s → Says names lost (made + 1) (slice_set os k o') (begin m x op update s).state
   begin_follows m x op update f st at e t each own s h =
       let w = locks_as names made os k o known x op update f st at e in
       let same = known.marked k o at.here in
-      let same' : length o'.marks.items ≡ length names = t.marks ∙ same in
-      let now : same_atom (name_at names 0) ≡ replies names o'.marks.items = by_places names (same_atom (name_at names 0)) (replies names o'.marks.items)
-      (λ j l. own_at names lost apart places j l ∙ sym (reads_at has_yes false names o'.marks.items j mark.Unasked apart same' l ∙ (ap has_yes (each j (subst (λ z. j < z) (sym same) l)) ∙ yes (j == 0))))
-      (λ q n. not_own q n ∙ sym (reads_nobody has_yes false names o'.marks.items q n)) in
+      let same' : length o'.marks ≡ length names = t.marks ∙ same in
+      let now : same_atom (name_at names 0) ≡ replies names o'.marks = by_places names (same_atom (name_at names 0)) (replies names o'.marks)
+      (λ j l. own_at names lost apart places j l ∙ sym (reads_at has_yes false names o'.marks j mark.Unasked apart same' l ∙ (ap has_yes (each j (subst (λ z. j < z) (sym same) l)) ∙ yes (j == 0))))
+      (λ q n. not_own q n ∙ sym (reads_nobody has_yes false names o'.marks q n)) in
       record {
         references = ap (λ n. n + 1) h.references;
         uses = (λ i. upd nat_eq (upd nat_eq (h.uses i) x (Owning (name_of (sym w.1.is_update i)) (h.references i + 1))) (h.references i + 1) (Updating (sym w.1.is_op i) (sym w.1.is_update i) x (same_atom (own i))))

@@ -1,8 +1,10 @@
 -- A loss is seen.
-use Rattle.std.proofs.Common.{◌≡◌, ◌≢◌, ℕ, ◌<◌, zero, suc, Bool, true, false, cond, nat_eq, length, List, [], ◌∷◌}
+use Rattle.std.proofs.Common.{◌≡◌, ◌≢◌, ℕ, ◌<◌, ◌≤◌, ◌+◌, ◌==◌, zero, suc, Bool, true, false, cond, nat_eq, get_or, length, List, [], ◌∷◌}
 use Rattle.std.proofs.Common.{Option, Some, None, refl, ap, sym, ◌∙◌, subst, arith, get_or-set_other, length-set}
 use Rattle.std.specs.Prelude.{slice_get, slice_set}
 use Rattle.std.specs.List.{IsDistinct}
+use Rattle.std.proofs.lemmas.Bool.{eqb-true, eq-eqb}
+use Rattle.std.proofs.lemmas.Option.{slice_get_read}
 use Rattle.std.proofs.Math.Path.{fun_ext}
 use Rattle.pg_term.specs.Same.{same_atom}
 use Rattle.pg_group.specs.Functions.{upd}
@@ -98,22 +100,22 @@ module _ (names : List Node) (place : ℕ) (apart : IsDistinct same_atom names) 
   unfolding upd
   replies_now marks same = fun_ext (λ q. reads_set has_yes false names marks place mark.Unasked q apart same l)
 
-  uses_forgot : (a b : OpenCommand) → Forgets place a b → length a.marks.items ≡ length names → (x : ℕ) → use_at names b x ≡ mapped (forgets (name_at names place)) (use_at names a x)
+  uses_forgot : (a b : OpenCommand) → Forgets place a b → length a.marks ≡ length names → (x : ℕ) → use_at names b x ≡ mapped (forgets (name_at names place)) (use_at names a x)
   unfolding upd
   uses_forgot a b f same x = use_as names a b a.phase x f.turns ∙ (ap (λ z. use_in names a.op a.update a.phase z x) f.items ∙ go a.phase)
     where
-      go : (ph : Phase) → use_in names a.op a.update ph (slice_set a.marks.items place mark.Unasked) x ≡ mapped (forgets (name_at names place)) (use_in names a.op a.update ph a.marks.items x)
+      go : (ph : Phase) → use_in names a.op a.update ph (slice_set a.marks place mark.Unasked) x ≡ mapped (forgets (name_at names place)) (use_in names a.op a.update ph a.marks x)
       go phase.Waiting = refl
-      go (phase.Asking lock first) = ap (λ z. cond (nat_eq lock x) (Some (Locking a.op a.update (name_at names first) z)) None) (statuses_now a.marks.items same) ∙ one (nat_eq lock x)
+      go (phase.Asking lock first) = ap (λ z. cond (nat_eq lock x) (Some (Locking a.op a.update (name_at names first) z)) None) (statuses_now a.marks same) ∙ one (nat_eq lock x)
         where
-          one : (b : Bool) → cond b (Some (Locking a.op a.update (name_at names first) (upd same_atom (statuses names a.marks.items) (name_at names place) Unasked))) None
-              ≡ mapped (forgets (name_at names place)) (cond b (Some (Locking a.op a.update (name_at names first) (statuses names a.marks.items))) None)
+          one : (b : Bool) → cond b (Some (Locking a.op a.update (name_at names first) (upd same_atom (statuses names a.marks) (name_at names place) Unasked))) None
+              ≡ mapped (forgets (name_at names place)) (cond b (Some (Locking a.op a.update (name_at names first) (statuses names a.marks))) None)
           one true = refl
           one false = refl
-      go (phase.Changing lock number) = ap (λ z. cond (nat_eq number x) (Some (Updating a.op a.update lock z)) (cond (nat_eq lock x) (Some (Owning (name_of a.update) number)) None)) (replies_now a.marks.items same) ∙ two (nat_eq number x) (nat_eq lock x)
+      go (phase.Changing lock number) = ap (λ z. cond (nat_eq number x) (Some (Updating a.op a.update lock z)) (cond (nat_eq lock x) (Some (Owning (name_of a.update) number)) None)) (replies_now a.marks same) ∙ two (nat_eq number x) (nat_eq lock x)
         where
-          two : (b c : Bool) → cond b (Some (Updating a.op a.update lock (upd same_atom (replies names a.marks.items) (name_at names place) false))) (cond c (Some (Owning (name_of a.update) number)) None)
-              ≡ mapped (forgets (name_at names place)) (cond b (Some (Updating a.op a.update lock (replies names a.marks.items))) (cond c (Some (Owning (name_of a.update) number)) None))
+          two : (b c : Bool) → cond b (Some (Updating a.op a.update lock (upd same_atom (replies names a.marks) (name_at names place) false))) (cond c (Some (Owning (name_of a.update) number)) None)
+              ≡ mapped (forgets (name_at names place)) (cond b (Some (Updating a.op a.update lock (replies names a.marks))) (cond c (Some (Owning (name_of a.update) number)) None))
           two true c = refl
           two false true = refl
           two false false = refl
@@ -122,7 +124,7 @@ module _ (names : List Node) (place : ℕ) (apart : IsDistinct same_atom names) 
       (each : (k : ℕ) (a b : OpenCommand) → slice_get os k ≡ Some a → slice_get os' k ≡ Some b → Forgets place a b) where
     -- each one forgets, and has a mark for each node
     Went : OpenCommand → OpenCommand → Type 0
-    Went a b = Forgets place a b × (length a.marks.items ≡ length names)
+    Went a b = Forgets place a b × (length a.marks ≡ length names)
 
     went : Zip Went os os'
     unfolding Went
@@ -130,7 +132,7 @@ module _ (names : List Node) (place : ℕ) (apart : IsDistinct same_atom names) 
 
     use_like : (a b : OpenCommand) → Went a b → (x : ℕ) → answers (use_at names b x) ≡ answers (use_at names a x)
     unfolding Went
-    use_like a b w x = ap answers (use_as names a b a.phase x w.0.turns) ∙ (has_is names a.op a.update a.phase b.marks.items x ∙ sym (has_is names a.op a.update a.phase a.marks.items x))
+    use_like a b w x = ap answers (use_as names a b a.phase x w.0.turns) ∙ (has_is names a.op a.update a.phase b.marks x ∙ sym (has_is names a.op a.update a.phase a.marks x))
 
     stage_like : (a b : OpenCommand) → Went a b → (x : OpId) → answers (stage_at b x) ≡ answers (stage_at a x)
     unfolding Went
@@ -160,7 +162,7 @@ module _ (names : List Node) (place : ℕ) (apart : IsDistinct same_atom names) 
       uses_alone = alone_of (use_at names) os' (apart_like (use_at names) Went use_like os os' went (apart_of (use_at names) os known.uses_alone));
       stages_alone = alone_of stage_at os' (apart_like stage_at Went stage_like os os' went (apart_of stage_at os known.stages_alone));
       uses_made = λ x e. seek_like (use_at names) Went use_like os os' went x ∙ known.uses_made x e;
-      marked = zip_get Went (λ p. length p.marks.items ≡ length names) (λ p. length p.marks.items ≡ length names) (λ a b w h. w.0.turns.marks ∙ h) os os' went known.marked;
+      marked = zip_get Went (λ p. length p.marks ≡ length names) (λ p. length p.marks ≡ length names) (λ a b w h. w.0.turns.marks ∙ h) os os' went known.marked;
       first = zip_get Went (λ p. first_in p.phase < length names) (λ p. first_in p.phase < length names) (λ a b w h. subst (λ ph. first_in ph < length names) (sym w.0.turns.phase) h) os os' went known.first;
     }
 
@@ -186,6 +188,7 @@ module _ (names : List Node) (place : ℕ) (apart : IsDistinct same_atom names) 
 pub lose_places : (names : List Node) (lost : List Bool) (place : ℕ) → ArePlaces names lost → 0 < place → ArePlaces names (slice_set lost place true)
 lose_places names lost place places l = record {
   some = places.some;
+  few = places.few;
   flags = length-set lost place true ∙ places.flags;
   own = let ne : 0 ≢ place = omega arith in rw get_or-set_other places.own;
 }
@@ -197,3 +200,39 @@ set_get_other (x ∷ xs) zero zero v n = absurd (n refl)
 set_get_other (x ∷ xs) zero (suc j) v n = refl
 set_get_other (x ∷ xs) (suc i) zero v n = refl
 set_get_other (x ∷ xs) (suc i) (suc j) v n = set_get_other xs i j v (λ e. n (ap suc e))
+
+set_get_same : (xs : List OpenCommand) (i : ℕ) (v : OpenCommand) → i < length xs → slice_get (slice_set xs i v) i ≡ Some v
+set_get_same [] i v l = absurd (none_less i l)
+  where
+    none_less : (i : ℕ) → i < 0 → ⊥
+    none_less i l = omega arith
+set_get_same (x ∷ xs) zero v l = refl
+set_get_same (x ∷ xs) (suc i) v l = set_get_same xs i v (less i (length xs) l)
+  where
+    less : (i n : ℕ) → suc i < suc n → i < n
+    less i n l = omega arith
+
+-- one more command forgets the node at a place
+module _ (place k : ℕ) (first before : List OpenCommand) (o o' : OpenCommand) (within : k < length before) (is : o ≡ get_or before k o) (forgot : Forgets place o o')
+    (done : (j : ℕ) (old new : OpenCommand) → j < k → slice_get first j ≡ Some old → slice_get before j ≡ Some new → Forgets place old new)
+    (left : (j : ℕ) → k ≤ j → slice_get before j ≡ slice_get first j) where
+  pub forgets_more : (j : ℕ) (old new : OpenCommand) → j < k + 1 → slice_get first j ≡ Some old → slice_get (slice_set before k o') j ≡ Some new → Forgets place old new
+  forgets_more j old new l was now = go (k == j) refl
+    where
+      here : slice_get before k ≡ Some o
+      here = slice_get_read before (length before) k o refl within is
+
+      same_one : k ≡ j → Forgets place old new
+      same_one e =
+          let was_o : o ≡ old = one_item o old (sym here ∙ (left k (omega arith) ∙ (ap (slice_get first) e ∙ was))) in
+          let now_o : o' ≡ new = one_item o' new (sym (set_get_same before k o' within) ∙ (ap (slice_get (slice_set before k o')) e ∙ now)) in
+          subst (λ a. Forgets place a new) was_o (subst (Forgets place o) now_o forgot)
+
+      go : (b : Bool) → (k == j) ≡ b → Forgets place old new
+      go true e = same_one (eqb-true k j e)
+      go false e =
+          let apart : k ≢ j = λ same. clash (sym (eq-eqb k j same) ∙ e) in
+          done j old new (omega (arith, l, apart)) was (sym (set_get_other before k j o' apart) ∙ now)
+
+  pub left_more : (j : ℕ) → k + 1 ≤ j → slice_get (slice_set before k o') j ≡ slice_get first j
+  left_more j l = let apart : k ≢ j = omega (arith, l) in set_get_other before k j o' apart ∙ left j (omega (arith, l))

@@ -48,7 +48,7 @@ use Rattle.pg_opens.proofs.Asking.{status_at, reply_at, same_at, every_nobody, e
 none_sought : (names : List Node) (os : List OpenCommand) (x : ℕ) → list_any (λ o. has_in o.phase x) os ≡ false → answers (seek (use_at names) os x) ≡ false
 none_sought names [] x e = refl
 none_sought names (o ∷ os) x e = quiet_both (use_at names o x) (seek (use_at names) os x)
-    (has_is names o.op o.update o.phase o.marks.items x ∙ first (has_in o.phase x) (list_any (λ o. has_in o.phase x) os) e)
+    (has_is names o.op o.update o.phase o.marks x ∙ first (has_in o.phase x) (list_any (λ o. has_in o.phase x) os) e)
     (none_sought names os x (second (has_in o.phase x) (list_any (λ o. has_in o.phase x) os) e))
   where
     first : (b c : Bool) → (b || c) ≡ false → b ≡ false
@@ -119,7 +119,7 @@ gathers names op u (phase.Changing lock number) marks x r d h = two (nat_eq numb
     two false false h = absurd (clash (sym h))
 
 pub gathering_here : (names : List Node) (made : ℕ) (os : List OpenCommand) (k : ℕ) (o : OpenCommand) (x : ℕ) → AreKnown names made os → Stands os k o x → gathering_in o.op o.phase x ≡ gathering_of (uses_in names made os x)
-gathering_here names made os k o x known at = sym (ap gathering_of (was names made os k o known at.here x) ∙ gathers names o.op o.update o.phase o.marks.items x _ _ at.has)
+gathering_here names made os k o x known at = sym (ap gathering_of (was names made os k o known at.here x) ∙ gathers names o.op o.update o.phase o.marks x _ _ at.has)
 
 pub standing_here : (names : List Node) (made : ℕ) (os : List OpenCommand) (k : ℕ) (o : OpenCommand) (op : OpId) → AreKnown names made os → StandsFor os k o op → standing_in o.phase ≡ standing_of (stages_in os op)
 standing_here names made os k o op known at = sym (ap standing_of (stage_was names made os k o known at.here op) ∙ (one (same_op o.op op) (seek stage_at (others os k) op) at.is ∙ which o.phase))
@@ -154,12 +154,12 @@ hears names op u (phase.Changing lock number) marks x place m r d h e f g = two 
     two false false h = absurd (clash (sym h))
 
 pub heard_here : (names : List Node) (lost : List Bool) (made : ℕ) (os : List OpenCommand) (k : ℕ) (o : OpenCommand) (x place : ℕ) → IsDistinct same_atom names → ArePlaces names lost → AreKnown names made os → Stands os k o x → place < length names
-    → heard_in o.phase (get_or o.marks.items place mark.Unasked) place x ≡ what_of true (gathered (uses_in names made os x) (name_at names place))
+    → heard_in o.phase (get_or o.marks place mark.Unasked) place x ≡ what_of true (gathered (uses_in names made os x) (name_at names place))
 heard_here names lost made os k o x place apart places known at l =
     sym (ap (λ z. what_of true (gathered z (name_at names place))) (was names made os k o known at.here x)
-    ∙ hears names o.op o.update o.phase o.marks.items x place (get_or o.marks.items place mark.Unasked) _ _ at.has
-    (status_at names lost apart places o.marks.items (known.marked k o at.here) place l)
-    (reply_at names lost apart places o.marks.items (known.marked k o at.here) place l)
+    ∙ hears names o.op o.update o.phase o.marks x place (get_or o.marks place mark.Unasked) _ _ at.has
+    (status_at names lost apart places o.marks (known.marked k o at.here) place l)
+    (reply_at names lost apart places o.marks (known.marked k o at.here) place l)
     (same_at names lost apart places (first_in o.phase) place (known.first k o at.here) l))
 
 module _ (names : List Node) (lost : List Bool) (made : ℕ) (os : List OpenCommand) (k : ℕ) (o : OpenCommand) (apart : IsDistinct same_atom names) (places : ArePlaces names lost) (known : AreKnown names made os) (x : ℕ) (at : Stands os k o x) where
@@ -178,8 +178,8 @@ module _ (names : List Node) (lost : List Bool) (made : ℕ) (os : List OpenComm
       two false true h = refl
       two false false h = absurd (clash (sym h))
 
-  pub complete_here : complete_in o.phase o.marks.items lost x ≡ is_complete (left_in names lost) (uses_in names made os x)
-  complete_here = sym (ap (is_complete (left_in names lost)) (was names made os k o known at.here x) ∙ completes o.op o.update o.phase o.marks.items _ _ at.has (known.marked k o at.here))
+  pub complete_here : complete_in o.phase o.marks lost x ≡ is_complete (left_in names lost) (uses_in names made os x)
+  complete_here = sym (ap (is_complete (left_in names lost)) (was names made os k o known at.here x) ∙ completes o.op o.update o.phase o.marks _ _ at.has (known.marked k o at.here))
 
   waits_not : (b c : Bool) → not (does_wait (after_round (cond b AskingRest AskingFirst) c)) ≡ c
   waits_not true true = refl
@@ -211,9 +211,9 @@ module _ (names : List Node) (lost : List Bool) (made : ℕ) (os : List OpenComm
       two false true h i = clash (sym i)
       two false false h i = clash (sym h)
 
-  pub outlook_here : (granted : Bool) → is_locking (uses_in names made os x) ≡ true → outlook_in o.marks.items lost granted ≡ outlook_of (left_in names lost) granted (uses_in names made os x)
+  pub outlook_here : (granted : Bool) → is_locking (uses_in names made os x) ≡ true → outlook_in o.marks lost granted ≡ outlook_of (left_in names lost) granted (uses_in names made os x)
   outlook_here granted i = sym (ap (outlook_of (left_in names lost) granted) (was names made os k o known at.here x)
-      ∙ looks o.op o.update o.phase o.marks.items _ _ granted at.has (ap is_locking (sym (was names made os k o known at.here x)) ∙ i) (known.marked k o at.here))
+      ∙ looks o.op o.update o.phase o.marks _ _ granted at.has (ap is_locking (sym (was names made os k o known at.here x)) ∙ i) (known.marked k o at.here))
 
 -- ---- what is asked of a command that is not there
 
@@ -240,12 +240,12 @@ module _ (names : List Node) (made : ℕ) (os : List OpenCommand) (k : ℕ) (o :
   pub locking_phase : (x : ℕ) → Stands os k o x → is_locking (uses_in names made os x) ≡ true → (first : ℕ) × (o.phase ≡ phase.Asking x first)
   locking_phase x at i = go o.phase refl at.has (ap is_locking (sym (was names made os k o known at.here x)) ∙ i)
     where
-      go : (ph : Phase) → o.phase ≡ ph → has_in ph x ≡ true → is_locking (or_as (over (use_in names o.op o.update ph o.marks.items x) (seek (use_at names) (others os k) x)) (unused made x)) ≡ true → (first : ℕ) × (o.phase ≡ phase.Asking x first)
+      go : (ph : Phase) → o.phase ≡ ph → has_in ph x ≡ true → is_locking (or_as (over (use_in names o.op o.update ph o.marks x) (seek (use_at names) (others os k) x)) (unused made x)) ≡ true → (first : ℕ) × (o.phase ≡ phase.Asking x first)
       go phase.Waiting p h i = absurd (clash (sym h))
       go (phase.Asking lock first) p h i = (first, p ∙ ap (λ z. phase.Asking z first) (eqb-true lock x h))
       go (phase.Changing lock number) p h i = absurd (two (nat_eq number x) (nat_eq lock x) h i)
         where
-          two : (b c : Bool) → (b || c) ≡ true → is_locking (or_as (over (cond b (Some (Updating o.op o.update lock (replies names o.marks.items))) (cond c (Some (Owning (name_of o.update) number)) None)) (seek (use_at names) (others os k) x)) (unused made x)) ≡ true → ⊥
+          two : (b c : Bool) → (b || c) ≡ true → is_locking (or_as (over (cond b (Some (Updating o.op o.update lock (replies names o.marks))) (cond c (Some (Owning (name_of o.update) number)) None)) (seek (use_at names) (others os k) x)) (unused made x)) ≡ true → ⊥
           two true c h i = clash (sym i)
           two false true h i = clash (sym i)
           two false false h i = clash (sym h)
@@ -267,7 +267,7 @@ update_looks names op u (phase.Changing lock number) marks x r d h = two (nat_eq
     two false false h = absurd (clash (sym h))
 
 pub update_here : (names : List Node) (made : ℕ) (os : List OpenCommand) (k : ℕ) (o : OpenCommand) (x : ℕ) → AreKnown names made os → Stands os k o x → update_in o.update o.phase x ≡ update_of (uses_in names made os x)
-update_here names made os k o x known at = sym (ap update_of (was names made os k o known at.here x) ∙ update_looks names o.op o.update o.phase o.marks.items x _ _ at.has)
+update_here names made os k o x known at = sym (ap update_of (was names made os k o known at.here x) ∙ update_looks names o.op o.update o.phase o.marks x _ _ at.has)
 
 pub waiting_here : (names : List Node) (made : ℕ) (os : List OpenCommand) (k : ℕ) (o : OpenCommand) (op : OpId) → AreKnown names made os → StandsFor os k o op → waiting_in o.update o.phase ≡ waiting_of (stages_in os op)
 waiting_here names made os k o op known at = sym (ap waiting_of (stage_was names made os k o known at.here op) ∙ (one (same_op o.op op) (seek stage_at (others os k) op) at.is ∙ which o.phase))

@@ -1,12 +1,13 @@
-pub mod Copied
 pub mod Added
 pub mod Alike
 pub mod Asking
+pub mod Copied
 pub mod Followed
 pub mod Forgotten
 pub mod Found
 pub mod Going
 pub mod Greatest
+pub mod Kept
 pub mod Layered
 pub mod Listed
 pub mod Named

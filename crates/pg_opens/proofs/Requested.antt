@@ -19,11 +19,11 @@ use Rattle.pg_opens.proofs.Found.{Stands}
 use Rattle.pg_opens.proofs.Followed.{locks_as}
 
 module _ (names : List Node) (lost : List Bool) (made : ℕ) (os : List OpenCommand) (k : ℕ) (o : OpenCommand) (apart : IsDistinct same_atom names) (places : ArePlaces names lost) (known : AreKnown names made os)
-    (x : ℕ) (who : Whom) (place : ℕ) (at : Stands os k o x) (p : has_place who (length names) ≡ true) (l : place < length names) (asked : Bool) (is : asked ≡ asked_in (get_or o.marks.items place mark.Unasked) (get_or lost place false) who place)
+    (x : ℕ) (who : Whom) (place : ℕ) (at : Stands os k o x) (p : has_place who (length names) ≡ true) (l : place < length names) (asked : Bool) (is : asked ≡ asked_in (get_or o.marks place mark.Unasked) (get_or lost place false) who place)
     (op : OpId) (update : Update) (first : Node) (st : Node → Status) (e : uses_in names made os x ≡ Locking op update first st) where
   pub asked_counts : asked ≡ (not (lost_in names lost (name_at names place)) && asks (whom names who) st (name_at names place))
   asked_counts = let w = locks_as names made os k o known x op update first st at e in
-      is ∙ (sym (asked_at names lost apart places o.marks.items (known.marked k o at.here) who place p l)
+      is ∙ (sym (asked_at names lost apart places o.marks (known.marked k o at.here) who place p l)
       ∙ (λ i. not (lost_in names lost (name_at names place)) && asks (whom names who) (w.1.marks i) (name_at names place)))
 
   pub asked_peer : 0 < place → asked ≡ (is_peer (left_in names lost) (name_at names place) && asks (whom names who) st (name_at names place))

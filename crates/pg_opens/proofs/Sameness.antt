@@ -42,13 +42,13 @@ module _ (names : List Node) (made : ℕ) (os : List OpenCommand) (k : ℕ) (o :
   used_here : (x : ℕ) (u : Use) → use_at names o x ≡ Some u → uses_in names made os x ≡ u
   used_here x u e = was names made os k o known here x ∙ ap (λ z. or_as (over z (seek (use_at names) (others os k) x)) (unused made x)) e
 
-  lock_here : (lock first : ℕ) → o.phase ≡ phase.Asking lock first → uses_in names made os lock ≡ Locking o.op o.update (name_at names first) (statuses names o.marks.items)
-  lock_here lock first e = used_here lock (Locking o.op o.update (name_at names first) (statuses names o.marks.items)) (use_was names o (phase.Asking lock first) lock e
-      ∙ ap (λ b. cond b (Some (Locking o.op o.update (name_at names first) (statuses names o.marks.items))) None) (eq-eqb lock lock refl))
+  lock_here : (lock first : ℕ) → o.phase ≡ phase.Asking lock first → uses_in names made os lock ≡ Locking o.op o.update (name_at names first) (statuses names o.marks)
+  lock_here lock first e = used_here lock (Locking o.op o.update (name_at names first) (statuses names o.marks)) (use_was names o (phase.Asking lock first) lock e
+      ∙ ap (λ b. cond b (Some (Locking o.op o.update (name_at names first) (statuses names o.marks))) None) (eq-eqb lock lock refl))
 
-  update_here : (lock number : ℕ) → o.phase ≡ phase.Changing lock number → uses_in names made os number ≡ Updating o.op o.update lock (replies names o.marks.items)
-  update_here lock number e = used_here number (Updating o.op o.update lock (replies names o.marks.items)) (use_was names o (phase.Changing lock number) number e
-      ∙ ap (λ b. cond b (Some (Updating o.op o.update lock (replies names o.marks.items))) (cond (nat_eq lock number) (Some (Owning (name_of o.update) number)) None)) (eq-eqb number number refl))
+  update_here : (lock number : ℕ) → o.phase ≡ phase.Changing lock number → uses_in names made os number ≡ Updating o.op o.update lock (replies names o.marks)
+  update_here lock number e = used_here number (Updating o.op o.update lock (replies names o.marks)) (use_was names o (phase.Changing lock number) number e
+      ∙ ap (λ b. cond b (Some (Updating o.op o.update lock (replies names o.marks))) (cond (nat_eq lock number) (Some (Owning (name_of o.update) number)) None)) (eq-eqb number number refl))
 
   stage_here : stages_in os o.op ≡ stage_in o.update o.phase
   stage_here = stage_was names made os k o known here o.op
@@ -75,41 +75,41 @@ not_closed u (phase.Changing lock number) e = cc
 module _ (names : List Node) (lost : List Bool) (made : ℕ) (os ps : List OpenCommand) (apart : IsDistinct same_atom names) (places : ArePlaces names lost) (known : AreKnown names made os) (known' : AreKnown names made ps)
     (uses : uses_in names made os ≡ uses_in names made ps) (stages : stages_in os ≡ stages_in ps) where
   module _ (k j : ℕ) (o p : OpenCommand) (here : slice_get os k ≡ Some o) (there : slice_get ps j ≡ Some p) where
-    len : length o.marks.items ≡ length names
+    len : length o.marks ≡ length names
     len = known.marked k o here
 
-    len' : length p.marks.items ≡ length names
+    len' : length p.marks ≡ length names
     len' = known'.marked j p there
 
-    marks_so : statuses names o.marks.items ≡ statuses names p.marks.items → same_marks o.marks.items p.marks.items ≡ true
-    marks_so e = both_true (nat_eq (length o.marks.items) (length p.marks.items)) _ (eq-eqb (length o.marks.items) (length p.marks.items) (len ∙ sym len'))
-        (all_below_true (length o.marks.items) (λ n. same_mark (get_or o.marks.items n mark.Unasked) (get_or p.marks.items n mark.Unasked))
-        (λ n l. mark_by_status (get_or o.marks.items n mark.Unasked) (get_or p.marks.items n mark.Unasked)
-        (sym (status_at names lost apart places o.marks.items len n (subst (λ z. n < z) len l))
-        ∙ (ap (λ f. f (name_at names n)) e ∙ status_at names lost apart places p.marks.items len' n (subst (λ z. n < z) len l)))))
+    marks_so : statuses names o.marks ≡ statuses names p.marks → same_marks o.marks p.marks ≡ true
+    marks_so e = both_true (nat_eq (length o.marks) (length p.marks)) _ (eq-eqb (length o.marks) (length p.marks) (len ∙ sym len'))
+        (all_below_true (length o.marks) (λ n. same_mark (get_or o.marks n mark.Unasked) (get_or p.marks n mark.Unasked))
+        (λ n l. mark_by_status (get_or o.marks n mark.Unasked) (get_or p.marks n mark.Unasked)
+        (sym (status_at names lost apart places o.marks len n (subst (λ z. n < z) len l))
+        ∙ (ap (λ f. f (name_at names n)) e ∙ status_at names lost apart places p.marks len' n (subst (λ z. n < z) len l)))))
 
-    replies_so : replies names o.marks.items ≡ replies names p.marks.items → same_replies o.marks.items p.marks.items ≡ true
-    replies_so e = both_true (nat_eq (length o.marks.items) (length p.marks.items)) _ (eq-eqb (length o.marks.items) (length p.marks.items) (len ∙ sym len'))
-        (all_below_true (length o.marks.items) (λ n. same_test (has_yes (get_or o.marks.items n mark.Unasked)) (has_yes (get_or p.marks.items n mark.Unasked)))
-        (λ n l. test_same (has_yes (get_or o.marks.items n mark.Unasked)) (has_yes (get_or p.marks.items n mark.Unasked))
-        (sym (reply_at names lost apart places o.marks.items len n (subst (λ z. n < z) len l))
-        ∙ (ap (λ f. f (name_at names n)) e ∙ reply_at names lost apart places p.marks.items len' n (subst (λ z. n < z) len l)))))
+    replies_so : replies names o.marks ≡ replies names p.marks → same_replies o.marks p.marks ≡ true
+    replies_so e = both_true (nat_eq (length o.marks) (length p.marks)) _ (eq-eqb (length o.marks) (length p.marks) (len ∙ sym len'))
+        (all_below_true (length o.marks) (λ n. same_test (has_yes (get_or o.marks n mark.Unasked)) (has_yes (get_or p.marks n mark.Unasked)))
+        (λ n l. test_same (has_yes (get_or o.marks n mark.Unasked)) (has_yes (get_or p.marks n mark.Unasked))
+        (sym (reply_at names lost apart places o.marks len n (subst (λ z. n < z) len l))
+        ∙ (ap (λ f. f (name_at names n)) e ∙ reply_at names lost apart places p.marks len' n (subst (λ z. n < z) len l)))))
 
-    alike_so : (ph ph' : Phase) → o.phase ≡ ph → p.phase ≡ ph' → stage_in o.update ph ≡ stage_in p.update ph' → (o.update ≡ p.update) × (is_alike ph o.marks.items ph' p.marks.items ≡ true)
+    alike_so : (ph ph' : Phase) → o.phase ≡ ph → p.phase ≡ ph' → stage_in o.update ph ≡ stage_in p.update ph' → (o.update ≡ p.update) × (is_alike ph o.marks ph' p.marks ≡ true)
     alike_so phase.Waiting phase.Waiting e e' s = (cc, refl)
     alike_so (phase.Asking lock first) (phase.Asking lock' first') e e' s =
         let l : lock ≡ lock' = cc in
-        let parts = lock_parts o.op p.op o.update p.update (name_at names first) (name_at names first') (statuses names o.marks.items) (statuses names p.marks.items)
+        let parts = lock_parts o.op p.op o.update p.update (name_at names first) (name_at names first') (statuses names o.marks) (statuses names p.marks)
         (sym (lock_here names made os k o known here lock first e) ∙ (ap (λ f. f lock) uses ∙ (ap (uses_in names made ps) l ∙ lock_here names made ps j p known' there lock' first' e'))) in
         let f : nat_eq first first' ≡ true = sym (same_at names lost apart places first first'
         (subst (λ ph. first_in ph < length names) e (known.first k o here)) (subst (λ ph. first_in ph < length names) e' (known'.first j p there)))
         ∙ atom_same (name_at names first) (name_at names first') parts.1 in
-        (parts.0, both_true (nat_eq lock lock') _ (eq-eqb lock lock' l) (both_true (nat_eq first first') (same_marks o.marks.items p.marks.items) f (marks_so parts.2)))
+        (parts.0, both_true (nat_eq lock lock') _ (eq-eqb lock lock' l) (both_true (nat_eq first first') (same_marks o.marks p.marks) f (marks_so parts.2)))
     alike_so (phase.Changing lock number) (phase.Changing lock' number') e e' s =
         let n : number ≡ number' = cc in
-        let parts = update_parts o.op p.op o.update p.update lock lock' (replies names o.marks.items) (replies names p.marks.items)
+        let parts = update_parts o.op p.op o.update p.update lock lock' (replies names o.marks) (replies names p.marks)
         (sym (update_here names made os k o known here lock number e) ∙ (ap (λ f. f number) uses ∙ (ap (uses_in names made ps) n ∙ update_here names made ps j p known' there lock' number' e'))) in
-        (parts.0, both_true (nat_eq lock lock') _ (eq-eqb lock lock' parts.1) (both_true (nat_eq number number') (same_replies o.marks.items p.marks.items) (eq-eqb number number' n) (replies_so parts.2)))
+        (parts.0, both_true (nat_eq lock lock') _ (eq-eqb lock lock' parts.1) (both_true (nat_eq number number') (same_replies o.marks p.marks) (eq-eqb number number' n) (replies_so parts.2)))
     alike_so phase.Waiting (phase.Asking lock' first') e e' s = absurd (cc)
     alike_so phase.Waiting (phase.Changing lock' number') e e' s = absurd (cc)
     alike_so (phase.Asking lock first) phase.Waiting e e' s = absurd (cc)
@@ -122,7 +122,7 @@ module _ (names : List Node) (lost : List Bool) (made : ℕ) (os ps : List OpenC
         let stage : stage_in o.update o.phase ≡ stage_in p.update p.phase = sym (stage_here names made os k o known here) ∙ (ap (λ f. f o.op) stages ∙ (ap (stages_in ps) (sym same) ∙ stage_here names made ps j p known' there)) in
         let parts = alike_so o.phase p.phase refl refl stage in
         both_true (same_op o.op p.op) _ (ap (same_op o.op) same ∙ op_same o.op)
-        (both_true (same_update o.update p.update) (is_alike o.phase o.marks.items p.phase p.marks.items) (ap (same_update o.update) (sym parts.0) ∙ update_self o.update) parts.1)
+        (both_true (same_update o.update p.update) (is_alike o.phase o.marks p.phase p.marks) (ap (same_update o.update) (sym parts.0) ∙ update_self o.update) parts.1)
 
   pub twins_so : have_twins os ps ≡ true
   twins_so = all_true (λ o. list_any (is_twin o) ps) os (λ k o here. go k o here (seek_finds stage_at ps o.op))

@@ -26,13 +26,13 @@ use Rattle.pg_opens.proofs.Layered.{quiet_is, quiet_left, quiet_right, quiet_bot
 use Rattle.pg_opens.proofs.Layered.{alone, others_quiet, apart_of, alone_of, apart_others, set_each, others_each}
 use Rattle.pg_opens.proofs.Named.{clash, split}
 
-pub use_as : (names : List Node) (o o' : OpenCommand) (ph : Phase) (x : ℕ) → Turns o o' ph → use_at names o' x ≡ use_in names o.op o.update ph o'.marks.items x
-use_as names o o' ph x t = ap (λ z. use_in names z o'.update o'.phase o'.marks.items x) t.op
-    ∙ (ap (λ z. use_in names o.op z o'.phase o'.marks.items x) t.update
-    ∙ ap (λ z. use_in names o.op o.update z o'.marks.items x) t.phase)
+pub use_as : (names : List Node) (o o' : OpenCommand) (ph : Phase) (x : ℕ) → Turns o o' ph → use_at names o' x ≡ use_in names o.op o.update ph o'.marks x
+use_as names o o' ph x t = ap (λ z. use_in names z o'.update o'.phase o'.marks x) t.op
+    ∙ (ap (λ z. use_in names o.op z o'.phase o'.marks x) t.update
+    ∙ ap (λ z. use_in names o.op o.update z o'.marks x) t.phase)
 
-pub use_was : (names : List Node) (o : OpenCommand) (ph : Phase) (x : ℕ) → o.phase ≡ ph → use_at names o x ≡ use_in names o.op o.update ph o.marks.items x
-use_was names o ph x e = ap (λ z. use_in names o.op o.update z o.marks.items x) e
+pub use_was : (names : List Node) (o : OpenCommand) (ph : Phase) (x : ℕ) → o.phase ≡ ph → use_at names o x ≡ use_in names o.op o.update ph o.marks x
+use_was names o ph x e = ap (λ z. use_in names o.op o.update z o.marks x) e
 
 -- whose reference it is does not depend on the marks
 pub has_is : (names : List Node) (op : OpId) (update : Update) (ph : Phase) (marks : List Mark) (x : ℕ) → answers (use_in names op update ph marks x) ≡ has_in ph x
@@ -55,7 +55,7 @@ pub record Fits (names : List Node) (made made' : ℕ) (os : List OpenCommand) (
   pub free : (x : ℕ) → answers (use_at names o' x) ≡ true → answers (seek (use_at names) (others os k) x) ≡ false
   pub grows : (x : ℕ) → is_made made' x ≡ false → is_made made x ≡ false
   pub own : (x : ℕ) → is_made made' x ≡ false → answers (use_at names o' x) ≡ false
-  pub marks : length o'.marks.items ≡ length o.marks.items
+  pub marks : length o'.marks ≡ length o.marks
   pub first : first_in o'.phase < length names
 
 module _ (names : List Node) (made : ℕ) (os : List OpenCommand) (k : ℕ) (o : OpenCommand) (known : AreKnown names made os) (here : slice_get os k ≡ Some o) where
@@ -132,7 +132,7 @@ module _ (names : List Node) (made : ℕ) (os : List OpenCommand) (k : ℕ) (o :
     stages_alone = alone_of stage_at (slice_set os k o') (set_apart stage_at os k o' (apart_of stage_at os known.stages_alone) (stage_free o' f.op));
     uses_made = λ x e. ap answers (pull_set (use_at names) os k o o' here (apart_of (use_at names) os known.uses_alone) f.free x)
         ∙ quiet_both (use_at names o' x) (rest x) (f.own x e) (unmade_rest x (f.grows x e));
-    marked = set_each stage_at (λ p. length p.marks.items ≡ length names) os k o' known.marked (f.marks ∙ known.marked k o here);
+    marked = set_each stage_at (λ p. length p.marks ≡ length names) os k o' known.marked (f.marks ∙ known.marked k o here);
     first = set_each stage_at (λ p. first_in p.phase < length names) os k o' known.first f.first;
   }
 
@@ -152,33 +152,33 @@ module _ (names : List Node) (made : ℕ) (os : List OpenCommand) (k : ℕ) (o :
   }
     where
       same : (x : ℕ) → answers (use_at names o x) ≡ answers (use_at names o' x)
-      same x = has_is names o.op o.update o.phase o.marks.items x ∙ (sym (has_is names o.op o.update o.phase o'.marks.items x) ∙ ap answers (sym (use_as names o o' o.phase x t)))
+      same x = has_is names o.op o.update o.phase o.marks x ∙ (sym (has_is names o.op o.update o.phase o'.marks x) ∙ ap answers (sym (use_as names o o' o.phase x t)))
 
   pub marked_lock : (o' : OpenCommand) (lock first : ℕ) → o.phase ≡ phase.Asking lock first → Turns o o' o.phase
-      → uses_in names made (slice_set os k o') ≡ upd nat_eq (uses_in names made os) lock (Locking o.op o.update (name_at names first) (statuses names o'.marks.items))
+      → uses_in names made (slice_set os k o') ≡ upd nat_eq (uses_in names made os) lock (Locking o.op o.update (name_at names first) (statuses names o'.marks))
   unfolding upd
   marked_lock o' lock first e t = fun_ext (λ x. is made o' (fits_same o' t) x
-      ∙ (ap (λ z. or_as (over z (rest x)) (unused made x)) (use_as names o o' o.phase x t ∙ ap (λ ph. use_in names o.op o.update ph o'.marks.items x) e)
+      ∙ (ap (λ z. or_as (over z (rest x)) (unused made x)) (use_as names o o' o.phase x t ∙ ap (λ ph. use_in names o.op o.update ph o'.marks x) e)
       ∙ (one (nat_eq lock x) (rest x) (unused made x)
-      ∙ ap (cond (nat_eq lock x) (Locking o.op o.update (name_at names first) (statuses names o'.marks.items)))
+      ∙ ap (cond (nat_eq lock x) (Locking o.op o.update (name_at names first) (statuses names o'.marks)))
       (sym (was x ∙ ap (λ z. or_as (over z (rest x)) (unused made x)) (use_was names o (phase.Asking lock first) x e))))))
     where
-      one : (b : Bool) (r : Option Use) (d : Use) → or_as (over (cond b (Some (Locking o.op o.update (name_at names first) (statuses names o'.marks.items))) None) r) d
-          ≡ cond b (Locking o.op o.update (name_at names first) (statuses names o'.marks.items)) (or_as (over (cond b (Some (Locking o.op o.update (name_at names first) (statuses names o.marks.items))) None) r) d)
+      one : (b : Bool) (r : Option Use) (d : Use) → or_as (over (cond b (Some (Locking o.op o.update (name_at names first) (statuses names o'.marks))) None) r) d
+          ≡ cond b (Locking o.op o.update (name_at names first) (statuses names o'.marks)) (or_as (over (cond b (Some (Locking o.op o.update (name_at names first) (statuses names o.marks))) None) r) d)
       one true r d = refl
       one false r d = refl
 
   pub marked_update : (o' : OpenCommand) (lock number : ℕ) → o.phase ≡ phase.Changing lock number → Turns o o' o.phase
-      → uses_in names made (slice_set os k o') ≡ upd nat_eq (uses_in names made os) number (Updating o.op o.update lock (replies names o'.marks.items))
+      → uses_in names made (slice_set os k o') ≡ upd nat_eq (uses_in names made os) number (Updating o.op o.update lock (replies names o'.marks))
   unfolding upd
   marked_update o' lock number e t = fun_ext (λ x. is made o' (fits_same o' t) x
-      ∙ (ap (λ z. or_as (over z (rest x)) (unused made x)) (use_as names o o' o.phase x t ∙ ap (λ ph. use_in names o.op o.update ph o'.marks.items x) e)
+      ∙ (ap (λ z. or_as (over z (rest x)) (unused made x)) (use_as names o o' o.phase x t ∙ ap (λ ph. use_in names o.op o.update ph o'.marks x) e)
       ∙ (one (nat_eq number x) (cond (nat_eq lock x) (Some (Owning (name_of o.update) number)) None) (rest x) (unused made x)
-      ∙ ap (cond (nat_eq number x) (Updating o.op o.update lock (replies names o'.marks.items)))
+      ∙ ap (cond (nat_eq number x) (Updating o.op o.update lock (replies names o'.marks)))
       (sym (was x ∙ ap (λ z. or_as (over z (rest x)) (unused made x)) (use_was names o (phase.Changing lock number) x e))))))
     where
-      one : (b : Bool) (own r : Option Use) (d : Use) → or_as (over (cond b (Some (Updating o.op o.update lock (replies names o'.marks.items))) own) r) d
-          ≡ cond b (Updating o.op o.update lock (replies names o'.marks.items)) (or_as (over (cond b (Some (Updating o.op o.update lock (replies names o.marks.items))) own) r) d)
+      one : (b : Bool) (own r : Option Use) (d : Use) → or_as (over (cond b (Some (Updating o.op o.update lock (replies names o'.marks))) own) r) d
+          ≡ cond b (Updating o.op o.update lock (replies names o'.marks)) (or_as (over (cond b (Some (Updating o.op o.update lock (replies names o.marks))) own) r) d)
       one true own r d = refl
       one false own r d = refl
 
@@ -220,19 +220,19 @@ module _ (names : List Node) (made : ℕ) (os : List OpenCommand) (k : ℕ) (o :
   }
     where
       has : (x : ℕ) → answers (use_at names o' x) ≡ nat_eq (made + 1) x
-      has x = ap answers (use_as names o o' (phase.Asking (made + 1) first) x t) ∙ has_is names o.op o.update (phase.Asking (made + 1) first) o'.marks.items x
+      has x = ap answers (use_as names o o' (phase.Asking (made + 1) first) x t) ∙ has_is names o.op o.update (phase.Asking (made + 1) first) o'.marks x
 
   pub started : (o' : OpenCommand) (first : ℕ) → o.phase ≡ phase.Waiting → Turns o o' (phase.Asking (made + 1) first) → first < length names
-      → uses_in names (made + 1) (slice_set os k o') ≡ upd nat_eq (uses_in names made os) (made + 1) (Locking o.op o.update (name_at names first) (statuses names o'.marks.items))
+      → uses_in names (made + 1) (slice_set os k o') ≡ upd nat_eq (uses_in names made os) (made + 1) (Locking o.op o.update (name_at names first) (statuses names o'.marks))
   unfolding upd
   started o' first e t l = fun_ext (λ x. is (made + 1) o' (fits_started o' first e t l) x
       ∙ (ap (λ z. or_as (over z (rest x)) (unused (made + 1) x)) (use_as names o o' (phase.Asking (made + 1) first) x t)
       ∙ (one (nat_eq (made + 1) x) (rest x) (unused (made + 1) x) (unused made x) (unused_more x)
-      ∙ ap (cond (nat_eq (made + 1) x) (Locking o.op o.update (name_at names first) (statuses names o'.marks.items)))
+      ∙ ap (cond (nat_eq (made + 1) x) (Locking o.op o.update (name_at names first) (statuses names o'.marks)))
       (sym (was x ∙ ap (λ z. or_as (over z (rest x)) (unused made x)) (use_was names o phase.Waiting x e))))))
     where
-      one : (b : Bool) (r : Option Use) (d d' : Use) → (b ≡ false → d ≡ d') → or_as (over (cond b (Some (Locking o.op o.update (name_at names first) (statuses names o'.marks.items))) None) r) d
-          ≡ cond b (Locking o.op o.update (name_at names first) (statuses names o'.marks.items)) (or_as (over None r) d')
+      one : (b : Bool) (r : Option Use) (d d' : Use) → (b ≡ false → d ≡ d') → or_as (over (cond b (Some (Locking o.op o.update (name_at names first) (statuses names o'.marks))) None) r) d
+          ≡ cond b (Locking o.op o.update (name_at names first) (statuses names o'.marks)) (or_as (over None r) d')
       one true r d d' h = refl
       one false r d d' h = ap (or_as r) (h refl)
 
@@ -249,10 +249,10 @@ module _ (names : List Node) (made : ℕ) (os : List OpenCommand) (k : ℕ) (o :
   }
     where
       has : (x : ℕ) → answers (use_at names o' x) ≡ (nat_eq (made + 1) x || nat_eq lock x)
-      has x = ap answers (use_as names o o' (phase.Changing lock (made + 1)) x t) ∙ has_is names o.op o.update (phase.Changing lock (made + 1)) o'.marks.items x
+      has x = ap answers (use_as names o o' (phase.Changing lock (made + 1)) x t) ∙ has_is names o.op o.update (phase.Changing lock (made + 1)) o'.marks x
 
       had : (x : ℕ) → answers (use_at names o x) ≡ nat_eq lock x
-      had x = ap answers (use_was names o (phase.Asking lock first) x e) ∙ has_is names o.op o.update (phase.Asking lock first) o.marks.items x
+      had x = ap answers (use_was names o (phase.Asking lock first) x e) ∙ has_is names o.op o.update (phase.Asking lock first) o.marks x
 
       free : (x : ℕ) (b : Bool) → nat_eq (made + 1) x ≡ b → (nat_eq (made + 1) x || nat_eq lock x) ≡ true → answers (rest x) ≡ false
       free x true f h = unmade_rest x (is_next x f)
@@ -260,18 +260,18 @@ module _ (names : List Node) (made : ℕ) (os : List OpenCommand) (k : ℕ) (o :
 
   pub begun : (o' : OpenCommand) (lock first : ℕ) → o.phase ≡ phase.Asking lock first → Turns o o' (phase.Changing lock (made + 1)) → 0 < length names
       → uses_in names (made + 1) (slice_set os k o')
-      ≡ upd nat_eq (upd nat_eq (uses_in names made os) lock (Owning (name_of o.update) (made + 1))) (made + 1) (Updating o.op o.update lock (replies names o'.marks.items))
+      ≡ upd nat_eq (upd nat_eq (uses_in names made os) lock (Owning (name_of o.update) (made + 1))) (made + 1) (Updating o.op o.update lock (replies names o'.marks))
   unfolding upd
   begun o' lock first e t l = fun_ext (λ x. is (made + 1) o' (fits_begun o' lock first e t l) x
       ∙ (ap (λ z. or_as (over z (rest x)) (unused (made + 1) x)) (use_as names o o' (phase.Changing lock (made + 1)) x t)
       ∙ (one (nat_eq (made + 1) x) (nat_eq lock x) (rest x) (unused (made + 1) x) (unused made x) (unused_more x)
-      ∙ ap (λ z. cond (nat_eq (made + 1) x) (Updating o.op o.update lock (replies names o'.marks.items)) (cond (nat_eq lock x) (Owning (name_of o.update) (made + 1)) z))
+      ∙ ap (λ z. cond (nat_eq (made + 1) x) (Updating o.op o.update lock (replies names o'.marks)) (cond (nat_eq lock x) (Owning (name_of o.update) (made + 1)) z))
       (sym (was x ∙ ap (λ z. or_as (over z (rest x)) (unused made x)) (use_was names o (phase.Asking lock first) x e))))))
     where
       one : (b c : Bool) (r : Option Use) (d d' : Use) → (b ≡ false → d ≡ d')
-          → or_as (over (cond b (Some (Updating o.op o.update lock (replies names o'.marks.items))) (cond c (Some (Owning (name_of o.update) (made + 1))) None)) r) d
-          ≡ cond b (Updating o.op o.update lock (replies names o'.marks.items)) (cond c (Owning (name_of o.update) (made + 1))
-          (or_as (over (cond c (Some (Locking o.op o.update (name_at names first) (statuses names o.marks.items))) None) r) d'))
+          → or_as (over (cond b (Some (Updating o.op o.update lock (replies names o'.marks))) (cond c (Some (Owning (name_of o.update) (made + 1))) None)) r) d
+          ≡ cond b (Updating o.op o.update lock (replies names o'.marks)) (cond c (Owning (name_of o.update) (made + 1))
+          (or_as (over (cond c (Some (Locking o.op o.update (name_at names first) (statuses names o.marks))) None) r) d'))
       one true c r d d' h = refl
       one false true r d d' h = refl
       one false false r d d' h = ap (or_as r) (h refl)
@@ -300,10 +300,10 @@ module _ (names : List Node) (made : ℕ) (os : List OpenCommand) (k : ℕ) (o :
       ∙ ap (cond (nat_eq lock x) Spent) (sym (was x ∙ ap (λ z. or_as (over z (rest x)) (unused made x)) (use_was names o (phase.Asking lock first) x e))))))
     where
       had : (x : ℕ) → answers (use_at names o x) ≡ nat_eq lock x
-      had x = ap answers (use_was names o (phase.Asking lock first) x e) ∙ has_is names o.op o.update (phase.Asking lock first) o.marks.items x
+      had x = ap answers (use_was names o (phase.Asking lock first) x e) ∙ has_is names o.op o.update (phase.Asking lock first) o.marks x
 
       one : (b : Bool) (r : Option Use) (d : Use) → (b ≡ true → or_as r d ≡ Spent)
-          → or_as r d ≡ cond b Spent (or_as (over (cond b (Some (Locking o.op o.update (name_at names first) (statuses names o.marks.items))) None) r) d)
+          → or_as r d ≡ cond b Spent (or_as (over (cond b (Some (Locking o.op o.update (name_at names first) (statuses names o.marks))) None) r) d)
       one true r d h = h refl
       one false r d h = refl
 
@@ -316,10 +316,10 @@ module _ (names : List Node) (made : ℕ) (os : List OpenCommand) (k : ℕ) (o :
       ∙ ap (λ z. cond (nat_eq number x) Spent (cond (nat_eq lock x) Spent z)) (sym (was x ∙ ap (λ z. or_as (over z (rest x)) (unused made x)) (use_was names o (phase.Changing lock number) x e))))
     where
       had : (x : ℕ) → answers (use_at names o x) ≡ (nat_eq number x || nat_eq lock x)
-      had x = ap answers (use_was names o (phase.Changing lock number) x e) ∙ has_is names o.op o.update (phase.Changing lock number) o.marks.items x
+      had x = ap answers (use_was names o (phase.Changing lock number) x e) ∙ has_is names o.op o.update (phase.Changing lock number) o.marks x
 
       one : (b c : Bool) (r : Option Use) (d : Use) → ((b || c) ≡ true → or_as r d ≡ Spent)
-          → or_as r d ≡ cond b Spent (cond c Spent (or_as (over (cond b (Some (Updating o.op o.update lock (replies names o.marks.items))) (cond c (Some (Owning (name_of o.update) number)) None)) r) d))
+          → or_as r d ≡ cond b Spent (cond c Spent (or_as (over (cond b (Some (Updating o.op o.update lock (replies names o.marks))) (cond c (Some (Owning (name_of o.update) number)) None)) r) d))
       one true c r d h = h refl
       one false true r d h = h refl
       one false false r d h = refl
@@ -342,6 +342,6 @@ module _ (names : List Node) (made : ℕ) (os : List OpenCommand) (k : ℕ) (o :
     uses_alone = alone_of (use_at names) (others os k) (apart_others (use_at names) os k (apart_of (use_at names) os known.uses_alone));
     stages_alone = alone_of stage_at (others os k) (apart_others stage_at os k (apart_of stage_at os known.stages_alone));
     uses_made = λ x e. others_quiet (use_at names) os k x (known.uses_made x e);
-    marked = others_each stage_at (λ p. length p.marks.items ≡ length names) os k known.marked;
+    marked = others_each stage_at (λ p. length p.marks ≡ length names) os k known.marked;
     first = others_each stage_at (λ p. first_in p.phase < length names) os k known.first;
   }

@@ -26,7 +26,7 @@ use_in names op update (phase.Changing lock number) marks x = cond (nat_eq numbe
     (cond (nat_eq lock x) (Some (Owning (name_of update) number)) None)
 
 abbrev pub use_at : List Node → OpenCommand → ℕ → Option Use
-use_at names o x = use_in names o.op o.update o.phase o.marks.items x
+use_at names o x = use_in names o.op o.update o.phase o.marks x
 
 -- whether a command in this phase uses a reference
 abbrev pub has_in : Phase → ℕ → Bool
@@ -66,7 +66,7 @@ pub record AreKnown (names : List Node) (made : ℕ) (os : List OpenCommand) : T
   pub uses_alone : AllAlone (use_at names) os
   pub stages_alone : AllAlone stage_at os
   pub uses_made : (x : ℕ) → is_made made x ≡ false → answers (seek (use_at names) os x) ≡ false
-  pub marked : (k : ℕ) (o : OpenCommand) → slice_get os k ≡ Some o → length o.marks.items ≡ length names
+  pub marked : (k : ℕ) (o : OpenCommand) → slice_get os k ≡ Some o → length o.marks ≡ length names
   pub first : (k : ℕ) (o : OpenCommand) → slice_get os k ≡ Some o → first_in o.phase < length names
 
 -- a command got another phase and other marks
@@ -74,9 +74,9 @@ pub record Turns (old new : OpenCommand) (ph : Phase) : Type 0 where
   pub op : new.op ≡ old.op
   pub update : new.update ≡ old.update
   pub phase : new.phase ≡ ph
-  pub marks : length new.marks.items ≡ length old.marks.items
+  pub marks : length new.marks ≡ length old.marks
 
 -- a command forgets the node at a place
 pub record Forgets (place : ℕ) (old new : OpenCommand) : Type 0 where
   pub turns : Turns old new old.phase
-  pub items : new.marks.items ≡ slice_set old.marks.items place mark.Unasked
+  pub items : new.marks ≡ slice_set old.marks place mark.Unasked

@@ -1,5 +1,5 @@
 pub mod Commands
-pub mod Copies
+pub mod Kept
 pub mod Layers
 pub mod Marks
 pub mod Opens

@@ -34,6 +34,18 @@ abbrev pub verdict_mark : Bool → Mark
 verdict_mark true = mark.Yes
 verdict_mark false = mark.No
 
+abbrev pub has_replied : Mark → Bool
+has_replied mark.Unasked = false
+has_replied mark.Asked = false
+has_replied mark.Yes = true
+has_replied mark.No = true
+
+-- by whether a node was asked, has replied, and has granted
+abbrev pub mark_by : (asked replied granted : Bool) → Mark
+mark_by false replied granted = mark.Unasked
+mark_by true false granted = mark.Asked
+mark_by true true granted = verdict_mark granted
+
 -- a node is asked, where that is wanted and it was not: the own one answers at once
 abbrev pub asked_mark : Mark → (wanted is_own granted : Bool) → Mark
 asked_mark mark.Unasked true true granted = verdict_mark granted

@@ -8,7 +8,6 @@ use Rattle.pg_step.specs.Turns.{NodeTurn}
 use Rattle.pg_step.specs.Attempts.{same_op}
 use Rattle.pg_opens.specs.declared.command.OpenCommand.{OpenCommand}
 use Rattle.pg_opens.specs.declared.opens.Opens.{Opens}
-use Rattle.pg_opens.specs.declared.opens.Room.{Room}
 use Rattle.pg_opens.specs.Places.{lost_in, left_in, whole_in}
 use Rattle.pg_opens.specs.Commands.{uses_in, stages_in}
 use Rattle.pg_opens.specs.Readings.{standing_of, is_closed}
@@ -82,7 +81,3 @@ Follows old new turn = (s : State) → Shows old s → Shows new (turn s).state
 -- one more command needs no memory
 abbrev pub has_room : Opens → Type 0
 has_room opens = vec_len opens.commands < vec_capacity opens.commands
-
--- how many nodes room was made for
-abbrev pub places_of : Room → ℕ
-places_of room = length room.marks.items

@@ -1,5 +1,5 @@
 -- What a list says of nodes that another list names, place by place.
-use Rattle.std.specs.Prelude.{◌≡◌, ℕ, ◌<◌, suc, zero, Bool, true, false, not}
+use Rattle.std.specs.Prelude.{◌≡◌, ℕ, ◌<◌, ◌≤◌, suc, zero, Bool, true, false, not}
 use Rattle.std.specs.Prelude.{◌&&◌, cond, length, get_or, drop, List, [], ◌∷◌}
 use Rattle.std.specs.List.{filter}
 use Rattle.pg_term.specs.Same.{same_atom}
@@ -31,8 +31,9 @@ whole_in names = record { own = name_at names 0; peers = drop 1 names }
 abbrev pub left_in : List Node → List Bool → Nodes
 left_in names lost = record { own = name_at names 0; peers = filter (λ q. not (lost_in names lost q)) (drop 1 names) }
 
--- each node has a place, and the own one counts
+-- each node has a place, of 16 at most, and the own one counts
 pub record ArePlaces (names : List Node) (lost : List Bool) : Type 0 where
   pub some : 0 < length names
+  pub few : length names ≤ 16
   pub flags : length lost ≡ length names
   pub own : get_or lost 0 false ≡ false

@@ -50,7 +50,7 @@ is_alike (phase.Changing lock number) ms (phase.Changing other next) ns = nat_eq
 is_alike ph ms other ns = false
 
 abbrev pub is_twin : OpenCommand → OpenCommand → Bool
-is_twin o p = same_op o.op p.op && (same_update o.update p.update && is_alike o.phase o.marks.items p.phase p.marks.items)
+is_twin o p = same_op o.op p.op && (same_update o.update p.update && is_alike o.phase o.marks p.phase p.marks)
 
 -- each command of the one has its twin in the other
 abbrev pub have_twins : List OpenCommand → List OpenCommand → Bool

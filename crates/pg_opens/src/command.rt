@@ -1,15 +1,16 @@
-ghost use Rattle.std.specs.Prelude.{◌≡◌, ◌<◌, false, true, length, get_or, IfSome, IfNone, slice_get};
+ghost use Rattle.std.specs.Prelude.{◌≡◌, ◌<◌, false, true, length, get_or, IfOk, IfSome, IfNone, slice_get};
 ghost use Rattle.std.specs.List.{list_any};
 ghost use Rattle.pg_step.specs.Attempts.{same_op};
 ghost use Rattle.pg_opens.specs.declared.mark.Mark.TheVariants.{Unasked};
 ghost use Rattle.pg_opens.specs.Commands.{has_in};
 
-use crate::mark::{Asked, Mark, Wanted, all_pass, ask_all, reset_all};
+use crate::mark::{Asked, Mark, Wanted};
+use crate::marks::Marks;
 use crate::outlook::Outlook;
 use pg_group::Update;
 use pg_multicall::Taken;
 use pg_step::OpId;
-use std::alloc::AllocError;
+use std::alloc::{AllocError, Global};
 
 /// How far an open command is, with the numbers of its references.
 #[derive(Clone, Copy, Debug, PartialEq, Eq)]
@@ -29,7 +30,7 @@ pub struct OpenCommand {
     pub update: Update,
     pub phase: Phase,
     // What has come of each node, by the places of the nodes: of the lock or of the update, whichever it asks for.
-    pub marks: Vec<Mark>,
+    pub marks: Marks,
 }
 
 /// What an open command gathers under a reference.
@@ -100,23 +101,6 @@ impl Gathering {
     }
 }
 
-impl Clone for OpenCommand {
-    ghost use Rattle.pg_opens.specs.Copies.{IsCopy};
-
-    ghost is_clone = { IsCopy };
-
-    fn clone(&self) -> Result<OpenCommand, AllocError> {
-        let marks = self.marks.clone()?;
-        let update = self.update.copy(*marks.allocator())?;
-        Ok(OpenCommand {
-            op: self.op,
-            update,
-            phase: self.phase,
-            marks,
-        })
-    }
-}
-
 impl OpenCommand {
     ghost use Rattle.std.specs.Prelude.{ℕ, slice_set};
     ghost use Rattle.pg_opens.specs.declared.mark.Mark.TheVariants.{Yes};
@@ -127,6 +111,20 @@ impl OpenCommand {
     ghost use Rattle.pg_opens.specs.Readings.{complete_in, update_in, waiting_in, gathers_in};
     ghost use Rattle.std.specs.Option.{option_copied};
     ghost use Rattle.pg_opens.specs.Outlooks.{outlook_in};
+
+    /// An equal command.
+    ///
+    /// Errors: `AllocError`.
+    pub fn copy(&self, alloc: Global) -> Result<OpenCommand, AllocError>
+        ensures { IfOk result (λ copy. copy ≡ self.now) }
+    {
+        Ok(OpenCommand {
+            op: self.op,
+            update: self.update.copy(alloc)?,
+            phase: self.phase,
+            marks: self.marks.copy(),
+        })
+    }
 
     /// Whether it has a reference.
     fn has(&self, number: u32) -> bool
@@ -212,57 +210,57 @@ impl OpenCommand {
 
     /// Whether the node at a place has granted the lock, or applied the update.
     pub fn has_yes(&self, place: usize) -> bool
-        requires { place < length self.now.marks.items }
-        ensures { result ≡ has_yes (get_or self.now.marks.items place Unasked) }
+        requires { place < length self.now.marks }
+        ensures { result ≡ has_yes (get_or self.now.marks place Unasked) }
     {
-        self.marks[place].is_yes()
+        self.marks.at(place).is_yes()
     }
 
     /// A new attempt: nobody was asked.
     pub fn start(&mut self, lock: u32, first: usize)
         ensures turns { Turns self.old self.new (Asking lock first) }
-        ensures marks { (place : ℕ) → place < length self.old.marks.items → get_or self.new.marks.items place Unasked ≡ first_mark Unasked place }
+        ensures marks { (place : ℕ) → place < length self.old.marks → get_or self.new.marks place Unasked ≡ first_mark Unasked place }
     {
         self.phase = Phase::Asking(lock, first);
-        reset_all(&mut self.marks, Mark::Unasked);
+        self.marks = Marks::new(self.marks.len(), Mark::Unasked);
     }
 
     /// Asks these nodes for the lock.
     pub fn ask(&mut self, lost: &[bool], who: Asked, granted: bool)
-        requires { length lost.now ≡ length self.old.marks.items }
+        requires { length lost.now ≡ length self.old.marks }
         ensures turns { Turns self.old self.new self.old.phase }
-        ensures marks { (place : ℕ) → place < length self.old.marks.items
-            → get_or self.new.marks.items place Unasked
-            ≡ mark_at (get_or self.old.marks.items place Unasked) (get_or lost.now place false) who place granted }
+        ensures marks { (place : ℕ) → place < length self.old.marks
+            → get_or self.new.marks place Unasked
+            ≡ mark_at (get_or self.old.marks place Unasked) (get_or lost.now place false) who place granted }
     {
-        ask_all(&mut self.marks, lost, who, granted);
+        self.marks.ask(lost, who, granted);
     }
 
     /// Whether the node at a place is asked for the lock, where these are.
     pub fn is_asked_by(&self, lost: &[bool], who: Asked, place: usize) -> bool
-        requires place { place < length self.now.marks.items }
-        requires flags { length lost.now ≡ length self.now.marks.items }
-        ensures { result ≡ asked_in (get_or self.now.marks.items place Unasked) (get_or lost.now place false) who place }
+        requires place { place < length self.now.marks }
+        requires flags { length lost.now ≡ length self.now.marks }
+        ensures { result ≡ asked_in (get_or self.now.marks place Unasked) (get_or lost.now place false) who place }
     {
-        !lost[place] && who.is_wanted(place) && self.marks[place].is_unasked()
+        !lost[place] && who.is_wanted(place) && self.marks.at(place).is_unasked()
     }
 
     /// What has come of the node at a place.
     pub fn mark(&mut self, place: usize, mark: Mark)
-        requires { place < length self.old.marks.items }
+        requires { place < length self.old.marks }
         ensures turns { Turns self.old self.new self.old.phase }
-        ensures marks { self.new.marks.items ≡ slice_set self.old.marks.items place mark }
+        ensures marks { self.new.marks ≡ slice_set self.old.marks place mark }
     {
-        self.marks[place] = mark;
+        self.marks.set(place, mark);
     }
 
     /// Its update goes out: the own node has applied it.
     pub fn begin(&mut self, lock: u32, update: u32)
         ensures turns { Turns self.old self.new (Changing lock update) }
-        ensures marks { (place : ℕ) → place < length self.old.marks.items → get_or self.new.marks.items place Unasked ≡ first_mark Yes place }
+        ensures marks { (place : ℕ) → place < length self.old.marks → get_or self.new.marks place Unasked ≡ first_mark Yes place }
     {
         self.phase = Phase::Changing(lock, update);
-        reset_all(&mut self.marks, Mark::Yes);
+        self.marks = Marks::new(self.marks.len(), Mark::Yes);
     }
 
     /// It waits for its retry.
@@ -274,40 +272,40 @@ impl OpenCommand {
 
     /// Whether all has come that it gathers under a reference.
     pub fn is_complete(&self, lost: &[bool], number: u32) -> bool
-        requires { length lost.now ≡ length self.now.marks.items }
-        ensures { result ≡ complete_in self.now.phase self.now.marks.items lost.now number }
+        requires { length lost.now ≡ length self.now.marks }
+        ensures { result ≡ complete_in self.now.phase self.now.marks lost.now number }
     {
+        let marks = &self.marks;
         match self.phase {
             Phase::Waiting => false,
             Phase::Asking(lock, _) => {
-                lock == number
-                    && all_pass(&self.marks, lost, Wanted::Answered, Asked::Nobody, false)
+                lock == number && marks.all_pass(lost, Wanted::Answered, Asked::Nobody, false)
             }
             Phase::Changing(_, update) => {
-                update == number
-                    && all_pass(&self.marks, lost, Wanted::Granted, Asked::Nobody, false)
+                update == number && marks.all_pass(lost, Wanted::Granted, Asked::Nobody, false)
             }
         }
     }
 
     /// What follows for its request for the lock. `granted`: what the own node would answer.
     pub fn outlook(&self, lost: &[bool], granted: bool) -> Outlook
-        requires { length lost.now ≡ length self.now.marks.items }
-        ensures { result ≡ outlook_in self.now.marks.items lost.now granted }
+        requires { length lost.now ≡ length self.now.marks }
+        ensures { result ≡ outlook_in self.now.marks lost.now granted }
     {
-        let answered = all_pass(&self.marks, lost, Wanted::Answered, Asked::Nobody, granted);
-        let none_denied = all_pass(&self.marks, lost, Wanted::NotDenied, Asked::Nobody, granted);
-        let all_granted = all_pass(&self.marks, lost, Wanted::Granted, Asked::All, granted);
-        let none_missing = all_pass(&self.marks, lost, Wanted::Answered, Asked::All, granted);
+        let marks = &self.marks;
+        let answered = marks.all_pass(lost, Wanted::Answered, Asked::Nobody, granted);
+        let none_denied = marks.all_pass(lost, Wanted::NotDenied, Asked::Nobody, granted);
+        let all_granted = marks.all_pass(lost, Wanted::Granted, Asked::All, granted);
+        let none_missing = marks.all_pass(lost, Wanted::Answered, Asked::All, granted);
         Outlook::of(answered, none_denied, all_granted, none_missing)
     }
 
     /// What a reply under a reference is to it, by the place of the node.
     pub fn heard(&self, number: u32, place: usize) -> Taken
-        requires { place < length self.now.marks.items }
-        ensures { result ≡ heard_in self.now.phase (get_or self.now.marks.items place Unasked) place number }
+        requires { place < length self.now.marks }
+        ensures { result ≡ heard_in self.now.phase (get_or self.now.marks place Unasked) place number }
     {
-        let mark = self.marks[place];
+        let mark = self.marks.at(place);
         match self.phase {
             Phase::Waiting => Taken::Stranger,
             Phase::Asking(lock, first) => {

@@ -6,6 +6,7 @@
 mod command;
 mod laws;
 mod mark;
+mod marks;
 mod nodes;
 mod opens;
 mod outlook;
@@ -14,5 +15,5 @@ mod twin;
 pub use command::{Gathering, Standing};
 pub use laws::steps_go_by_outlook;
 pub use mark::Asked;
-pub use opens::{Opens, Room};
+pub use opens::Opens;
 pub use outlook::Outlook;

@@ -1,4 +1,4 @@
-ghost use Rattle.std.specs.Prelude.{◌≡◌, ◌↔◌, IsTrue, ℕ, ◌<◌, ◌+◌, ◌^◌, true, false, not};
+ghost use Rattle.std.specs.Prelude.{◌≡◌, ◌↔◌, IsTrue, ℕ, ◌<◌, ◌≤◌, ◌+◌, ◌^◌, true, false, not};
 ghost use Rattle.std.specs.Prelude.{◌&&◌, length, IfOk, IfSome, OnOk, OnErr, vec_len};
 ghost use Rattle.std.specs.List.{IsDistinct, IsDistinct-prop};
 ghost use Rattle.std.specs.Option.{option_copied};
@@ -8,7 +8,8 @@ ghost use Rattle.pg_opens.specs.declared.command.OpenCommand.{OpenCommand};
 ghost use Rattle.pg_opens.specs.Commands.{AreKnown};
 
 use crate::command::{Gathering, OpenCommand, Phase, Standing, place_of, place_of_op};
-use crate::mark::{Asked, Mark, Wanted, all_pass};
+use crate::mark::{Asked, Mark};
+use crate::marks::Marks;
 use crate::nodes::{greatest_place, place_of_atom};
 use crate::outlook::Outlook;
 use crate::twin::have_twins;
@@ -33,12 +34,6 @@ pub struct Opens {
     ghost known: { AreKnown names.items references commands.items },
 }
 
-/// Room for the marks of a command that is to be opened.
-#[derive(Debug, Drop)]
-pub struct Room {
-    marks: Vec<Mark>,
-}
-
 impl Opens {
     ghost use Rattle.pg_multicall.specs.Gathered.{what_of};
     ghost use Rattle.pg_group.specs.Table.{Table};
@@ -57,7 +52,7 @@ impl Opens {
     ghost use Rattle.pg_step.specs.Losses.{see_loss};
     ghost use Rattle.pg_opens.specs.Opens.{names_of, whole_of, left_of, ops_of, AreListed};
     ghost use Rattle.pg_opens.specs.Opens.{AreSame, lost_of, references_of, uses_of, opened_of};
-    ghost use Rattle.pg_opens.specs.Opens.{stages_of, Shows, Follows, has_room, places_of};
+    ghost use Rattle.pg_opens.specs.Opens.{stages_of, Shows, Follows, has_room};
     ghost use Rattle.pg_opens.specs.Marks.{whom, has_place};
     ghost use Rattle.pg_opens.specs.Readings.{gathering_of, standing_of, is_locking};
     ghost use Rattle.pg_opens.specs.Readings.{is_updating, update_of, waiting_of, waits_by};
@@ -66,13 +61,14 @@ impl Opens {
     ghost use Rattle.pg_opens.specs.TakenBack.{command_taken_back, ok_taken_back};
     ghost use Rattle.pg_opens.specs.Twins.{same_commands};
 
-    /// No command is open, no reference was made and no loss was seen.
+    /// No command is open, no reference was made and no loss was seen. `names`: at most 16.
     ///
     /// Errors: `AllocError`.
     ///
     /// Cost: two allocations.
     pub fn new(alloc: Global, names: Vec<Atom>) -> Result<Opens, AllocError>
         requires some { 0 < length names.items }
+        requires few { length names.items ≤ 16 }
         requires apart { IsDistinct same_atom names.items }
         ensures names { IfOk result (λ opens. names_of opens ≡ names.items) }
         ensures none { IfOk result (λ opens. (table : Table) (made : ℕ) → Shows opens (new_state table made)) }
@@ -96,7 +92,7 @@ impl Opens {
     {
         let names = copy_names(&self.names)?;
         let lost = self.lost.clone()?;
-        let commands = self.commands.clone()?;
+        let commands = copy_commands(&self.commands)?;
         Ok(Opens {
             names,
             lost,
@@ -594,24 +590,21 @@ impl Opens {
     ///
     /// Errors: `AllocError`, which changes nothing.
     ///
-    /// Cost: two allocations at most.
-    pub fn reserve(&mut self, alloc: Global) -> Result<Room, AllocError>
+    /// Cost: one allocation at most.
+    pub fn reserve(&mut self) -> Result<(), AllocError>
         ensures same { Follows self.old self.new becomes }
         ensures nodes { names_of self.new ≡ names_of self.old }
         ensures ok { OnOk result (has_room self.new) }
-        ensures room { IfOk result (λ room. places_of room ≡ length (names_of self.old)) }
     {
         self.commands.reserve(1)?;
-        let marks = Vec::from_elem(alloc, Mark::Unasked, self.names.len())?;
-        Ok(Room { marks })
+        Ok(())
     }
 
     /// Opens a command, for which room was made.
     ///
     /// Cost: no memory.
-    pub fn add(&mut self, op: OpId, update: Update, room: Room)
+    pub fn add(&mut self, op: OpId, update: Update)
         requires room { has_room self.old }
-        requires places { places_of room ≡ length (names_of self.old) }
         requires closed { stages_of self.old op ≡ Closed }
         ensures turned { Follows self.old self.new (open_command op update) }
         ensures nodes { names_of self.new ≡ names_of self.old }
@@ -620,7 +613,7 @@ impl Opens {
             op,
             update,
             phase: Phase::Waiting,
-            marks: room.marks,
+            marks: Marks::new(self.names.len(), Mark::Unasked),
         });
     }
 
@@ -662,6 +655,17 @@ fn copy_names(names: &Vec<Atom>) -> Result<Vec<Atom>, AllocError>
     Ok(copies)
 }
 
+fn copy_commands(commands: &Vec<OpenCommand>) -> Result<Vec<OpenCommand>, AllocError>
+    ensures { IfOk result (λ copies. copies.items ≡ commands.now.items) }
+{
+    let alloc = *commands.allocator();
+    let mut copies = Vec::with_capacity(alloc, commands.len())?;
+    for command in commands {
+        copies.push(command.copy(alloc)?)?;
+    }
+    Ok(copies)
+}
+
 fn set_lost(lost: &mut Vec<bool>, place: usize)
     requires { place < length lost.old.items }
     ensures { lost.new.items ≡ slice_set lost.old.items place true }
@@ -674,7 +678,7 @@ ghost use Rattle.pg_opens.specs.Commands.{Forgets};
 
 /// What each command gathers forgets the node at a place.
 fn forget(commands: &mut Vec<OpenCommand>, place: usize)
-    requires { (k : ℕ) (command : OpenCommand) → slice_get commands.old.items k ≡ Some command → place < length command.marks.items }
+    requires { (k : ℕ) (command : OpenCommand) → slice_get commands.old.items k ≡ Some command → place < length command.marks }
     ensures len { length commands.new.items ≡ length commands.old.items }
     ensures each { (k : ℕ) (old new : OpenCommand) → slice_get commands.old.items k ≡ Some old
         → slice_get commands.new.items k ≡ Some new → Forgets place old new }

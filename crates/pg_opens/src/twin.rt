@@ -3,7 +3,6 @@ ghost use Rattle.std.specs.List.{list_any};
 ghost use Rattle.pg_opens.specs.Twins.{same_update, is_alike, is_twin, have_twins};
 
 use crate::command::{OpenCommand, Phase};
-use crate::mark::{same_marks, same_replies};
 use pg_group::Update;
 
 /// Whether each command of the one list has its twin in the other: a command that is seen as the same.
@@ -36,15 +35,15 @@ fn is_twin(one: &OpenCommand, other: &OpenCommand) -> bool
 }
 
 fn is_alike(one: &OpenCommand, other: &OpenCommand) -> bool
-    ensures { result ≡ is_alike one.now.phase one.now.marks.items other.now.phase other.now.marks.items }
+    ensures { result ≡ is_alike one.now.phase one.now.marks other.now.phase other.now.marks }
 {
     match (one.phase, other.phase) {
         (Phase::Waiting, Phase::Waiting) => true,
         (Phase::Asking(lock, first), Phase::Asking(other_lock, other_first)) => {
-            lock == other_lock && first == other_first && same_marks(&one.marks, &other.marks)
+            lock == other_lock && first == other_first && one.marks.same(&other.marks)
         }
         (Phase::Changing(lock, update), Phase::Changing(other_lock, other_update)) => {
-            lock == other_lock && update == other_update && same_replies(&one.marks, &other.marks)
+            lock == other_lock && update == other_update && one.marks.same_replies(&other.marks)
         }
         _ => false,
     }

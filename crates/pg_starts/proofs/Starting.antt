@@ -4,6 +4,7 @@ use Rattle.std.proofs.Common.{map, get_or, take, length, replicate, List, [], �
 use Rattle.std.proofs.Common.{Some, None, refl, sym, ap, ◌∙◌, inl, inr, ◌⊎◌, arith, subst}
 use Rattle.std.specs.Prelude.{slice_get, option_map, Result, Ok, Err, IfOk}
 use Rattle.std.specs.List.{All, AllByRecursion, IsDistinct, remove}
+use Rattle.std.proofs.lemmas.List.Edits.{length-remove}
 use Rattle.std.proofs.lemmas.Map.Keys.{IsDistinct-head, IsDistinct-tail}
 use Rattle.std.proofs.lemmas.List.{get_or-map, get_or-replicate, length-replicate, length-map}
 use Rattle.std.proofs.lemmas.List.{length-append, map-append, take_more, get_or_default}
@@ -134,6 +135,17 @@ module _ (config : Config) (i : ℕ) (within : i < length config) (names others 
 
   pub apart_here : IsDistinct same_atom (names_of config) → IsDistinct same_atom (own ∷ others)
   apart_here apart = subst (IsDistinct same_atom) (sym names_here) (apart_from (names_of config) i inside apart)
+
+  -- all but its own name
+  pub peers_here : length config ≤ 16 → length others ≤ 15
+  peers_here few = omega (
+    arith,
+    few,
+    inside,
+    length-map config (λ (s : Start). s.name),
+    length-remove (names_of config) i inside,
+    ap (λ (ns : List Node). length ns) (rest ∙ ap (λ (ns : List Node). remove ns i) are),
+  )
 
   -- the node that was made
   pub seen_here : {T E : Type 0} {g : Ghosts T} (start : Start) (table : Table) (r : Result (NodeState T g) E) → start ≡ get_or config i start → table ≡ first_table start.groups

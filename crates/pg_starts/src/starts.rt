@@ -17,13 +17,14 @@ use pg_step::Start;
 use pg_term::{Atom, Items, Pid, Term};
 use std::alloc::{AllocError, Global};
 
-/// The nodes of a configuration as they start, by their places.
+/// The nodes of a configuration, at most 16, as they start, by their places.
 ///
 /// Errors: `AllocError`.
 ///
 /// Cost: that of the groups and, for each node, of all names.
 pub fn nodes_of(alloc: Global, starts: &[Start]) -> Result<Vec<NodeState<IndexTable>>, AllocError>
     requires apart { IsDistinct same_atom (names_of starts.now) }
+    requires nodes { length starts.now ≤ 16 }
     requires made { (i : ℕ) → made_at starts.now i ≤ MAX_PROCESSES }
     requires few { (i : ℕ) → HasFewMembers (2 ^ 32) (groups_at starts.now i) }
     ensures { IfOk result (λ nodes. map seen_of nodes.items ≡ firsts starts.now (length starts.now)) }
@@ -35,7 +36,7 @@ pub fn nodes_of(alloc: Global, starts: &[Start]) -> Result<Vec<NodeState<IndexTa
     Ok(nodes)
 }
 
-/// The node at a place of a configuration as it starts.
+/// The node at a place of a configuration of at most 16 nodes, as it starts.
 ///
 /// Errors: `AllocError`.
 ///
@@ -47,6 +48,7 @@ pub fn node_at(
 ) -> Result<NodeState<IndexTable>, AllocError>
     requires place { place < length starts.now }
     requires apart { IsDistinct same_atom (names_of starts.now) }
+    requires nodes { length starts.now ≤ 16 }
     requires made { made_at starts.now place ≤ MAX_PROCESSES }
     requires few { HasFewMembers (2 ^ 32) (groups_at starts.now place) }
     ensures { IfOk result (λ node. seen_of node ≡ seen_first starts.now place) }

@@ -22,7 +22,7 @@ fn turns_of_commands(rt: HostRuntime) {
 fn run(rt: &impl Abort, alloc: Global, rows: &[Row]) {
     let mut opens = opens_of_a(rt, alloc);
     for (row, (steps, sights)) in rows.iter().enumerate() {
-        go_all(rt, alloc, &mut opens, steps);
+        go_all(rt, &mut opens, steps);
         for sight in *sights {
             row_holds(rt, see(rt, alloc, &opens, *sight), row);
         }
@@ -42,7 +42,7 @@ fn run_both(rt: &impl Abort, alloc: Global, rows: &[Both]) {
     row_holds(rt, (one.same(&other), other.same(&one)) == (true, true), 0);
     for (row, (is_first, steps, sights, same)) in rows.iter().enumerate() {
         let opens = if *is_first { &mut one } else { &mut other };
-        go_all(rt, alloc, opens, steps);
+        go_all(rt, opens, steps);
         for sight in *sights {
             row_holds(rt, see(rt, alloc, opens, *sight), row);
         }

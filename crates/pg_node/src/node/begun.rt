@@ -41,6 +41,7 @@ impl<T: GroupTable + Drop> Node<T> {
     /// Cost: that of `snapshot`, and of the frame for each peer.
     pub fn new(alloc: Global, config: NodeConfig, table: T) -> Result<Node<T>, NodeFault>
         requires apart { IsDistinct same_atom (config.own ∷ config.peers.items) }
+        requires peers { length config.peers.items ≤ 15 }
         requires made { config.made ≤ MAX_PROCESSES }
         requires few { (name : Term) (pid : Pid) → count_in (T.contents table name) pid ≤ 2 ^ 32 }
         ensures names { IfOk result (λ node. names_of (held_by node) ≡ config.own ∷ config.peers.items) }

@@ -1,40 +1,31 @@
 //! What a command that is to be opened needs, made before anything changes.
 
-ghost use Rattle.std.specs.Prelude.{◌≡◌, true, is_some, Some, IfOk, OnOk, length};
-ghost use Rattle.pg_opens.specs.Opens.{names_of, has_room, places_of, Follows};
+ghost use Rattle.std.specs.Prelude.{◌≡◌, true, is_some, Some, IfOk, OnOk};
+ghost use Rattle.pg_opens.specs.Opens.{names_of, has_room, Follows};
 ghost use Rattle.pg_step.specs.Commands.{change_of};
 ghost use Rattle.pg_step.specs.Turns.{becomes};
 
 use pg_group::Update;
-use pg_opens::{Opens, Room};
+use pg_opens::Opens;
 use pg_step::Command;
 use std::alloc::{AllocError, Global};
 
-/// The update of a command, and the room for it among the open ones.
-#[derive(Drop)]
-pub(crate) struct Fresh {
-    pub(crate) update: Update,
-    pub(crate) room: Room,
-}
-
-/// Makes the update of a command, a copy of what it names, and room for it.
+/// Makes the update of a command, a copy of what it names, and room for it among the open ones.
 ///
 /// Errors: `AllocError`, which changes nothing.
 pub(crate) fn prepared(
     alloc: Global,
     opens: &mut Opens,
     command: &Command,
-) -> Result<Fresh, AllocError>
+) -> Result<Update, AllocError>
     requires change { is_some (change_of command.now) ≡ true }
     ensures same { Follows opens.old opens.new becomes }
     ensures nodes { names_of opens.new ≡ names_of opens.old }
     ensures ok { OnOk result (has_room opens.new) }
-    ensures places { IfOk result (λ fresh. places_of fresh.room ≡ length (names_of opens.old)) }
-    ensures update { IfOk result (λ fresh. change_of command.now ≡ Some fresh.update) }
+    ensures update { IfOk result (λ update. change_of command.now ≡ Some update) }
 {
-    let room = opens.reserve(alloc)?;
-    let update = update_of(alloc, command)?;
-    Ok(Fresh { update, room })
+    opens.reserve()?;
+    update_of(alloc, command)
 }
 
 /// The change that a command asks for: a copy of what it names.

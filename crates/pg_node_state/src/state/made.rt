@@ -29,7 +29,7 @@ use std::alloc::{AllocError, Global};
 pub struct NodeConfig {
     /// Its name.
     pub own: Atom,
-    /// The names of the other nodes of the set.
+    /// The names of the other nodes of the set, at most 15.
     pub peers: Vec<Atom>,
     /// How many processes it has made.
     pub made: u32,
@@ -58,6 +58,7 @@ impl<T: GroupTable + Drop> NodeState<T> {
         table: T,
     ) -> Result<(NodeState<T>, Vec<(usize, Packet)>), AllocError>
         requires apart { IsDistinct same_atom (config.own ∷ config.peers.items) }
+        requires peers { length config.peers.items ≤ 15 }
         requires made { config.made ≤ MAX_PROCESSES }
         requires few { (name : Term) (pid : Pid) → count_in (T.contents table name) pid ≤ 2 ^ 32 }
         ensures names { IfOk result (λ begun. names_of begun.0 ≡ config.own ∷ config.peers.items) }
@@ -83,6 +84,7 @@ impl<T: GroupTable + Drop> NodeState<T> {
     /// Cost: that of the names.
     pub fn started(alloc: Global, config: NodeConfig, table: T) -> Result<NodeState<T>, AllocError>
         requires apart { IsDistinct same_atom (config.own ∷ config.peers.items) }
+        requires peers { length config.peers.items ≤ 15 }
         requires made { config.made ≤ MAX_PROCESSES }
         requires few { (name : Term) (pid : Pid) → count_in (T.contents table name) pid ≤ 2 ^ 32 }
         ensures names { IfOk result (λ node. names_of node ≡ config.own ∷ config.peers.items) }
@@ -247,6 +249,7 @@ pub fn started<T: GroupTable + Drop>(
     table: T,
 ) -> Result<NodeState<T>, AllocError>
     requires apart { IsDistinct same_atom (config.own ∷ config.peers.items) }
+    requires peers { length config.peers.items ≤ 15 }
     requires made { config.made ≤ MAX_PROCESSES }
     requires few { (name : Term) (pid : Pid) → count_in (T.contents table name) pid ≤ 2 ^ 32 }
     ensures names { IfOk result (λ node. names_of node ≡ config.own ∷ config.peers.items) }

@@ -71,10 +71,10 @@ impl<T: GroupTable + Drop> NodeState<T> {
         ensures fits { IfOk result (λ done. AreSendable (names_of self.old) done.sends.items) }
     {
         let before = self.clock;
-        let fresh = prepared(self.alloc, &mut self.opens, command)?;
+        let update = prepared(self.alloc, &mut self.opens, command)?;
         let op = next_op(&self.ports, port);
         count(&mut self.ports, port);
-        self.opens.add(op, fresh.update, fresh.room);
+        self.opens.add(op, update);
         self.clock = clock;
         match self.attempt(clock, op) {
             Ok(done) => Ok(done),

@@ -40,15 +40,15 @@ pub const fn op(number: u32) -> OpId {
 }
 
 /// Makes steps, one after another.
-pub fn go_all(rt: &impl Abort, alloc: Global, opens: &mut Opens, steps: &[Step]) {
+pub fn go_all(rt: &impl Abort, opens: &mut Opens, steps: &[Step]) {
     for step in steps {
-        go(rt, alloc, opens, *step);
+        go(rt, opens, *step);
     }
 }
 
-fn go(rt: &impl Abort, alloc: Global, opens: &mut Opens, step: Step) {
+fn go(rt: &impl Abort, opens: &mut Opens, step: Step) {
     match step {
-        Step::Opens(number) => open(rt, alloc, opens, op(number)),
+        Step::Opens(number) => open(rt, opens, op(number)),
         Step::Starts(number, first) => start(rt, opens, op(number), first),
         Step::Asks(number, asked, granted) => ask(rt, opens, number, asked, granted),
         Step::Answers(number, place, granted) => answer(rt, opens, number, place, Some(granted)),
@@ -63,21 +63,20 @@ fn go(rt: &impl Abort, alloc: Global, opens: &mut Opens, step: Step) {
 }
 
 /// A refused growth is asked for once more.
-fn open(rt: &impl Abort, alloc: Global, opens: &mut Opens, op: OpId) {
+fn open(rt: &impl Abort, opens: &mut Opens, op: OpId) {
     assert!(rt; opens.is_closed(op));
-    if open_once(alloc, opens, op).is_err() {
+    if open_once(opens, op).is_err() {
         assert!(rt; opens.is_closed(op));
-        open_once(alloc, opens, op).expect(rt, "opened");
+        open_once(opens, op).expect(rt, "opened");
     }
 }
 
-fn open_once(alloc: Global, opens: &mut Opens, op: OpId) -> Result<(), AllocError> {
-    let room = opens.reserve(alloc)?;
+fn open_once(opens: &mut Opens, op: OpId) -> Result<(), AllocError> {
+    opens.reserve()?;
     if opens.is_closed(op) {
-        opens.add(op, Update::Create(Term::Int(1)), room);
+        opens.add(op, Update::Create(Term::Int(1)));
         return Ok(());
     }
-    drop(room);
     Err(AllocError)
 }
 

@@ -2,12 +2,16 @@ use Rattle.std.proofs.Common.{◌≤◌, ◌^◌, ◌∙◌, false, subst}
 use Rattle.pg_ends.specs.declared.processes.TheConstants.{MAX_PROCESSES}
 use Rattle.pg_exchange.specs.GroupList.{all_merged}
 use Rattle.pg_message.specs.Members.{HasFewMembers}
-use Rattle.pg_starts.proofs.Starting.{groups_here, made_here, apart_here, seen_here, few_here}
+use Rattle.pg_starts.proofs.Starting.{groups_here, made_here, apart_here, peers_here, seen_here, few_here}
 use Rattle.pg_starts.proofs.starts.node_at.Goals as goal
 
 pub started-requires-clause-apart : goal.started-requires-clause-apart
 started-requires-clause-apart c =
     apart_here c.args.starts.now c.args.place c.requires.place c.in_ok-peers.peers.items c.remove-own.new.self.items c.remove-own.result c.in_ok-peers.ensures c.remove-own.ensures.value c.remove-own.ensures.items c.requires.apart
+
+pub started-requires-clause-peers : goal.started-requires-clause-peers
+started-requires-clause-peers c =
+    peers_here c.args.starts.now c.args.place c.requires.place c.in_ok-peers.peers.items c.remove-own.new.self.items c.remove-own.result c.in_ok-peers.ensures c.remove-own.ensures.value c.remove-own.ensures.items c.requires.nodes
 
 pub started-requires-clause-made : goal.started-requires-clause-made
 started-requires-clause-made c = subst (λ n. n ≤ MAX_PROCESSES) (made_here c.args.starts.now c.args.place c.index-starts-place.result c.requires.place c.index-starts-place.is) c.requires.made

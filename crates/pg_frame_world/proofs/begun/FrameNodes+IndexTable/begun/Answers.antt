@@ -8,6 +8,9 @@ use Rattle.pg_frame_world.proofs.begun.FrameNodes+IndexTable.begun.Goals as goal
 pub nodes_of-requires-clause-apart : goal.nodes_of-requires-clause-apart
 nodes_of-requires-clause-apart c = c.requires.ready.apart
 
+pub nodes_of-requires-clause-nodes : goal.nodes_of-requires-clause-nodes
+nodes_of-requires-clause-nodes c = c.requires.ready.nodes
+
 pub nodes_of-requires-clause-made : goal.nodes_of-requires-clause-made
 nodes_of-requires-clause-made c = c.requires.ready.made
 

@@ -50,8 +50,8 @@ invariant_of-self g c =
       few = old.few;
     }
 
-pub returns-in_err-fresh-clause-err : goal.returns-in_err-fresh-clause-err
-returns-in_err-fresh-clause-err g c =
+pub returns-in_err-update-clause-err : goal.returns-in_err-update-clause-err
+returns-in_err-update-clause-err g c =
     let old = c.args.self.now in
     let new = c.prepared.new.opens in
     let turned : Shows new (kept_by old) = c.prepared.ensures.same (kept_by old) (shows old) in
@@ -66,8 +66,7 @@ add-requires g c =
     let old = c.args.self.now in
     let between : Shows c.prepared.new.opens (kept_by old) = c.prepared.ensures.same (kept_by old) (shows old) in
     record {
-      room = c.in_ok-fresh.ensures.ok;
-      places = c.in_ok-fresh.ensures.places ∙ sym (ap (λ (ns : List Node). length ns) c.prepared.ensures.nodes);
+      room = c.in_ok-update.ensures.ok;
       closed = ap (λ (op : OpId). stages_of c.prepared.new.opens op) c.next_op-op.ensures
           ∙ (ap (λ (stages : OpId → Stage). stages (record { port = c.args.port; number = counts_in old.ports.items c.args.port + 1 })) (sym between.stages)
           ∙ next_closed (length old.ports.items) c.args.port (counts_in old.ports.items) old.given);
@@ -78,13 +77,13 @@ invariant_of-self-2 g c =
     let old = c.args.self.now in
     let port : ℕ = c.args.port in
     let op : OpId = c.next_op-op.result in
-    let update : Update = c.in_ok-fresh.fresh.update in
+    let update : Update = c.in_ok-update.update in
     let s : State = opened_state port op update (kept_by old) in
     let new = c.add.new.self in
     let nodes = c.add.ensures.nodes ∙ c.prepared.ensures.nodes in
     let turned : Shows new s = c.add.ensures.turned (counted_state port (kept_by old)) (shows_counted c.prepared.new.opens port (kept_by old) (c.prepared.ensures.same (kept_by old) (shows old))) in
     let ports = c.count.new.ports.items in
-    let came : CameIn (length ports) (counts_in ports) op (Some update) = subst (λ (o : OpId). CameIn (length ports) (counts_in ports) o (Some update)) (sym c.next_op-op.ensures) (next_came old.ports.items ports port c.count.ensures.len c.count.ensures.counts update (c.requires.named update c.in_ok-fresh.ensures.update) c.requires.place) in
+    let came : CameIn (length ports) (counts_in ports) op (Some update) = subst (λ (o : OpId). CameIn (length ports) (counts_in ports) o (Some update)) (sym c.next_op-op.ensures) (next_came old.ports.items ports port c.count.ensures.len c.count.ensures.counts update (c.requires.named update c.in_ok-update.ensures.update) c.requires.place) in
     record {
       peers = peers_stay old.opens new s turned nodes old.formation old.peers;
       own = own_stays old.opens new s turned nodes (node_of old.processes) old.own;
@@ -101,7 +100,7 @@ attempt-requires g c =
     let old = c.args.self.now in
     let port : ℕ = c.args.port in
     let op : OpId = c.next_op-op.result in
-    let update : Update = c.in_ok-fresh.fresh.update in
+    let update : Update = c.in_ok-update.update in
     let turned : Shows c.add.new.self (opened_state port op update (kept_by old)) = c.add.ensures.turned (counted_state port (kept_by old)) (shows_counted c.prepared.new.opens port (kept_by old) (c.prepared.ensures.same (kept_by old) (shows old))) in
     record {
       later = omega arith;
@@ -117,7 +116,7 @@ returns-in-Ok-clause-happens g c = λ update0 asked.
     let names = names_of old in
     let port : ℕ = c.args.port in
     let op : OpId = c.next_op-op.result in
-    let update : Update = c.in_ok-fresh.fresh.update in
+    let update : Update = c.in_ok-update.update in
     let s : State = opened_state port op update (kept_by old) in
     let new = c.add.new.self in
     let nodes = c.add.ensures.nodes ∙ c.prepared.ensures.nodes in
@@ -127,7 +126,7 @@ returns-in-Ok-clause-happens g c = λ update0 asked.
     let left = left_stays old.opens new s turned nodes refl in
     let waits = ap (λ (stages : OpId → Stage). stages op) (sym turned.stages) ∙ upd_at same_op (kept_by old).stages op (Waiting update) (op_same op) in
     let next : OpId = record { port = port; number = counts_in old.ports.items port + 1 } in
-    let same : update ≡ update0 = update_is update update0 (sym c.in_ok-fresh.ensures.update ∙ asked) in
+    let same : update ≡ update0 = update_is update update0 (sym c.in_ok-update.ensures.update ∙ asked) in
     let turns : NodeTurn = attempt (left_of old) next update0 (opened_state port next update0 (kept_by old)) in
     let kept : State = record {
       table = (kept_by old).table;
@@ -152,7 +151,7 @@ take_back-requires g c =
     let old = c.args.self.now in
     let port : ℕ = c.args.port in
     let op : OpId = c.next_op-op.result in
-    let update : Update = c.in_ok-fresh.fresh.update in
+    let update : Update = c.in_ok-update.update in
     let turned : Shows c.add.new.self (opened_state port op update (kept_by old)) = c.add.ensures.turned (counted_state port (kept_by old)) (shows_counted c.prepared.new.opens port (kept_by old) (c.prepared.ensures.same (kept_by old) (shows old))) in
     record {
       waits = ap (λ (x : Timed State). standing_of (x.state.stages op)) c.in-Err.ensures.err
@@ -173,7 +172,7 @@ invariant_of-self-in-Err g c =
     let old = c.args.self.now in
     let port : ℕ = c.args.port in
     let op : OpId = c.next_op-op.result in
-    let update : Update = c.in_ok-fresh.fresh.update in
+    let update : Update = c.in_ok-update.update in
     let s : State = opened_state port op update (kept_by old) in
     let new = c.add.new.self in
     let turned : Shows new s = c.add.ensures.turned (counted_state port (kept_by old)) (shows_counted c.prepared.new.opens port (kept_by old) (c.prepared.ensures.same (kept_by old) (shows old))) in
@@ -205,7 +204,7 @@ returns-in-Err-clause-err g c =
     let old = c.args.self.now in
     let port : ℕ = c.args.port in
     let op : OpId = c.next_op-op.result in
-    let update : Update = c.in_ok-fresh.fresh.update in
+    let update : Update = c.in_ok-update.update in
     let s : State = opened_state port op update (kept_by old) in
     let new = c.add.new.self in
     let turned : Shows new s = c.add.ensures.turned (counted_state port (kept_by old)) (shows_counted c.prepared.new.opens port (kept_by old) (c.prepared.ensures.same (kept_by old) (shows old))) in

@@ -14,7 +14,7 @@ invariant_of-self c = record {
 pub returns-in-Some-clause-turned : goal.returns-in-Some-clause-turned
 returns-in-Some-clause-turned c op update f st e = count_answer_follows c.args.self.now.names.items c.args.self.now.lost.items c.args.self.now.references c.args.self.now.commands.items c.in-Some.found c.index_mut-command.result.now c.mark.new.self c.args.self.now.apart c.args.self.now.places c.args.self.now.known c.args.number c.args.place c.args.granted op update f st
     (stands c.args.self.now.commands.items c.deref.result.now c.in-Some.found c.index_mut-command.result.now c.args.number c.deref.ensures.value c.in-Some.ensures.within c.in-Some.ensures.some c.index_mut-command.ensures.value) e c.mark.ensures.turns c.requires.place
-    (c.mark.ensures.marks ∙ ap (slice_set c.index_mut-command.result.now.marks.items c.args.place) c.of_answer.ensures)
+    (c.mark.ensures.marks ∙ ap (slice_set c.index_mut-command.result.now.marks c.args.place) c.of_answer.ensures)
 
 pub returns-in_default-clause-turned : goal.returns-in_default-clause-turned
 returns-in_default-clause-turned c = absurd (no_locking c.args.self.now.names.items c.args.self.now.references c.args.self.now.commands.items c.deref.result.now c.args.number c.deref.ensures.value c.in_default.ensures.none c.requires.locking)

@@ -12,7 +12,7 @@ pub returns-in-Some : goal.returns-in-Some
 returns-in-Some c =
     let at = stands c.args.self.now.commands.items c.deref.result.now c.in-Some.found c.index-command.result.now c.args.number c.deref.ensures.value c.in-Some.ensures.within c.in-Some.ensures.some c.index-command.ensures in
     let is = c.is_asked_by.ensures
-    ∙ ap (λ z. asked_in (get_or c.index-command.result.now.marks.items c.args.place Unasked) (get_or z c.args.place false) c.args.who c.args.place) c.deref-in-Some.ensures.value in
+    ∙ ap (λ z. asked_in (get_or c.index-command.result.now.marks c.args.place Unasked) (get_or z c.args.place false) c.args.who c.args.place) c.deref-in-Some.ensures.value in
     record {
       counts = asked_counts c.args.self.now.names.items c.args.self.now.lost.items c.args.self.now.references c.args.self.now.commands.items c.in-Some.found c.index-command.result.now c.args.self.now.apart c.args.self.now.places c.args.self.now.known
           c.args.number c.args.who c.args.place at c.requires.who c.requires.place c.is_asked_by.result is;

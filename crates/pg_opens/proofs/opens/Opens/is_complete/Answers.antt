@@ -10,6 +10,6 @@ returns-in-None c = sym (nothing_of (is_complete (left_in c.args.self.now.names.
 
 pub returns-in-Some : goal.returns-in-Some
 returns-in-Some c = c.is_complete.ensures
-    ∙ (ap (λ z. complete_in c.index-command.result.now.phase c.index-command.result.now.marks.items z c.args.number) c.deref-in-Some.ensures.value
+    ∙ (ap (λ z. complete_in c.index-command.result.now.phase c.index-command.result.now.marks z c.args.number) c.deref-in-Some.ensures.value
     ∙ complete_here _ _ _ _ _ _ c.args.self.now.apart c.args.self.now.places c.args.self.now.known c.args.number
     (stands c.args.self.now.commands.items c.deref.result.now c.in-Some.place c.index-command.result.now c.args.number c.deref.ensures.value c.in-Some.ensures.within c.in-Some.ensures.some c.index-command.ensures))
