@@ -13,6 +13,7 @@ use std::alloc::{AllocError, Global};
 const RING: usize = 65_536;
 
 type Row = Vec<Peer<RingOut, RingIn>>;
+
 type Run = NodeRun<IndexTable, RingOut, RingIn, Pcg32>;
 
 // The rings to a peer and back, whose other ends are gone.
@@ -73,8 +74,7 @@ fn first_node(alloc: Global, config: &Config) -> Option<Node<IndexTable>> {
 
 // The node with these links and ports, if they are as many as it has.
 fn run_with(alloc: Global, node: Node<IndexTable>, row: Row, ports: Vec<Port>) -> Option<Run> {
-    let fits =
-        node.state().peer_count() == row.len() && node.state().port_count() == ports.len();
+    let fits = node.state().peer_count() == row.len() && node.state().port_count() == ports.len();
     match silence(alloc) {
         Ok((stop, notices)) if fits => {
             let linked = LinkedNode::new(alloc, node, row);
