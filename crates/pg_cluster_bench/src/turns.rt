@@ -42,8 +42,9 @@ fn silent_row(alloc: Global, peers: usize) -> Option<Row> {
 
 // Ports of which the clients are gone.
 fn silent_ports(alloc: Global, count: usize) -> Result<Vec<Port>, AllocError> {
-    let mut ports = Vec::with_capacity(alloc, count)?;
+    let mut ports = Vec::new(alloc);
     for _ in 0..count {
+        ports.reserve(1)?;
         let (client, port) = port_pair(alloc)?;
         drop(client);
         ports.push_reserved(port);
