@@ -9,9 +9,6 @@ use Rattle.std.proofs.Props.{props}
 pub told_so : (F : Type 0) (told : Bool) → ∥ F ∥₁ → (F → told ≡ true) → told ≡ true
 told_so F told fact tells = ∥∥₁_elim fact (hlevel props) (λ (f : F). tells f)
 
-pub told_of_two : (F G : Type 0) (told : Bool) → ∥ F ∥₁ → ∥ G ∥₁ → (F → G → told ≡ true) → told ≡ true
-told_of_two F G told first second tells = ∥∥₁_elim first (hlevel props) (λ (f : F). ∥∥₁_elim second (hlevel props) (λ (g : G). tells f g))
-
 -- where none is lost each is not
 none_lost : (lost : List Bool) → list_any (λ one. one) lost ≡ false → NobodyLost lost
 none_lost [] e i d low = absurd (omega (arith, low))

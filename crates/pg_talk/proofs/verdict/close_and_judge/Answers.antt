@@ -1,10 +1,12 @@
-use Rattle.std.proofs.Common.{◌≡◌, true, map}
+use Rattle.std.proofs.Common.{◌≡◌, true, map, subst}
+use mathlib.Core.Logic.{∥∥₁_map}
+use Rattle.pg_cluster.specs.Closed.{IsOneRun, IsReplayed}
 use Rattle.pg_cluster.specs.Judges.{Agree}
 use Rattle.pg_frame_world.specs.Openings.{CanBegin}
-use Rattle.pg_cluster.specs.Running.{config_in, losses_in}
+use Rattle.pg_cluster.specs.Running.{config_in}
 use Rattle.pg_cluster.specs.Survivors.{SurvivorsAgree}
 use Rattle.pg_cluster.specs.Together.{AreOneLosingRun}
-use Rattle.pg_talk.proofs.Judging.{told_by_losses, told_of_two}
+use Rattle.pg_talk.proofs.Judging.{told_by_losses, told_so}
 use Rattle.pg_talk.proofs.verdict.close_and_judge.Goals as goal
 
 pub returns : goal.returns
@@ -22,20 +24,19 @@ returns g c =
     let told = c.in_ok-agree.ensures in
     let replay = rw c.close-closed.ensures.config at c.in_ok-replay.ensures.losing_run in
     let replays = rw c.close-closed.ensures.config at c.in_ok-replay.ensures.replays in
-    let losing = rw c.close-closed.ensures.config at c.in_ok-replay.ensures.losing in
     let is : c.in_ok-replay.field-0 ≡ true =
-    told_of_two (CanBegin config.ring given) (AreOneLosingRun given (losses_in c.args.running) closed.nodes.items closed.schedule.items) c.in_ok-replay.field-0 c.close-closed.ensures.can losing_run
-    (λ can run. replay (losses_in c.args.running) can run) in record {
+    told_so (CanBegin config.ring given) c.in_ok-replay.field-0 c.close-closed.ensures.can (λ can. replay can losing_run) in
+    let replayed : IsReplayed given closed = replays is in record {
       nodes = closed.nodes.items;
       logs = logs;
-      schedule = closed.schedule.items;
+      schedule = replayed.steps;
       made = c.close-closed.ensures.made;
       heard = heard;
-      one_run = one_run;
-      losing_run = losing_run;
+      one_run = λ nobody. ∥∥₁_map (one_run nobody) (λ (run : IsOneRun given closed). run replayed.steps replayed.are);
+      losing_run = subst (λ marks. ∥ AreOneLosingRun given marks closed.nodes.items replayed.steps ∥₁) lost (losing_run replayed.steps replayed.are);
       agree = told_by_losses (Agree closed.nodes.items closed.logs.items) (SurvivorsAgree closed.nodes.items closed.lost.items closed.logs.items) closed.lost.items c.in_ok-agree.field-0
           (rw lost agree) survivors (λ nobody holds. (told.nobody nobody).1 holds) (λ some holds. (told.some some).1 holds);
       replay = is;
-      replays = replays is;
-      replays_past_losses = losing is;
+      replays = replayed.unlost;
+      replays_past_losses = replayed.losing;
     }
