@@ -23,6 +23,10 @@ after Double replies place granted other = replies other
 abbrev pub forgotten : Replies → ℕ → Replies
 forgotten replies place other = cond (nat_eq place other) None (replies other)
 
+-- what is gathered once a node is asked, whatever came of it before: it has not replied
+abbrev pub asked_anew : Replies → ℕ → Replies
+asked_anew replies place other = cond (nat_eq place other) (Some None) (replies other)
+
 -- by whether it was asked, has replied, and has granted
 abbrev pub entry_by : (asked replied granted : Bool) → Option (Option Bool)
 entry_by false replied granted = None

@@ -1,6 +1,6 @@
-ghost use Rattle.std.specs.Prelude.{◌≡◌, ◌≢◌, ◌↔◌, ℕ, Bool, Option, true, Some, None};
+ghost use Rattle.std.specs.Prelude.{◌≡◌, ◌≢◌, ◌↔◌, ◌<◌, ℕ, Bool, Option, true, Some, None};
 
-use crate::places::Places;
+use crate::places::{MAX_PLACES, Places};
 
 /// What became of a reply.
 #[derive(Clone, Copy, Debug, PartialEq, Eq)]
@@ -25,7 +25,7 @@ pub struct Gather {
 impl Gather {
     ghost use Rattle.pg_multicall.specs.Gathered.{what_of};
     ghost use Rattle.pg_multicall.specs.Places.{has_of};
-    ghost use Rattle.pg_multicall.specs.Replies.{asked_of, after, forgotten, replies_of};
+    ghost use Rattle.pg_multicall.specs.Replies.{asked_of, after, asked_anew, forgotten, replies_of};
 
     /// These were asked, and none has replied.
     ///
@@ -37,6 +37,32 @@ impl Gather {
             asked,
             replied: Places::none(),
             granted: Places::none(),
+        }
+    }
+
+    /// Asks the node at a place, whatever came of it before: it has not replied then, and a reply that it gave is taken back. All else stays
+    /// as it was.
+    ///
+    /// Cost: no memory.
+    pub fn ask(&mut self, place: usize)
+        requires { place < MAX_PLACES }
+        ensures { (other : ℕ) → replies_of self.new other ≡ asked_anew (replies_of self.old) place other }
+    {
+        self.asked = self.asked.with(place);
+        self.replied = self.replied.without(place);
+        self.granted = self.granted.without(place);
+    }
+
+    /// What a reply of the node at a place would be, were it taken now.
+    ///
+    /// Cost: no memory.
+    pub fn what(&self, place: usize) -> Taken
+        ensures { result ≡ what_of true (replies_of self.now place) }
+    {
+        match self.reply(place) {
+            None => Taken::Stranger,
+            Some(None) => Taken::Counted,
+            Some(Some(_)) => Taken::Double,
         }
     }
 

@@ -11,6 +11,8 @@ use std::process::Abort;
 enum Step {
     /// It replies: whether it grants, and what that reply is.
     Replies(usize, bool, Taken),
+    /// It is asked, once more where it has replied.
+    Asked(usize),
     /// It is lost.
     Lost(usize),
 }
@@ -61,6 +63,18 @@ const SCRIPTS: &[Script] = &[
         ],
         [Some(Some(true)), None],
     ),
+    // A denial is taken back, and the node replies again. One more is asked, which is lost.
+    (
+        &[
+            (Replies(0, false, Counted), false, false),
+            (Replies(15, true, Counted), true, false),
+            (Asked(0), false, false),
+            (Asked(1), false, false),
+            (Replies(0, true, Counted), false, false),
+            (Lost(1), true, true),
+        ],
+        [Some(Some(true)), Some(Some(true))],
+    ),
 ];
 
 #[test]
@@ -72,7 +86,7 @@ fn gather_over_two(rt: HostRuntime) {
 
 fn run(rt: &impl Abort, script: &Script) {
     let mut gather = Gather::new(Places::none().with(0).with(15));
-    for ((step, is_complete, is_granted), row) in script.0.iter().zip(0..5) {
+    for (row, (step, is_complete, is_granted)) in script.0.iter().enumerate() {
         row_holds(rt, went(&mut gather, *step), row);
         row_holds(rt, gather.complete() == *is_complete, row);
         row_holds(rt, gather.is_granted() == *is_granted, row);
@@ -86,7 +100,16 @@ fn run(rt: &impl Abort, script: &Script) {
 /// Whether a reply is what the step says.
 fn went(gather: &mut Gather, step: Step) -> bool {
     match step {
-        Step::Replies(place, granted, taken) => gather.take(place, granted) == taken,
+        Step::Replies(place, granted, taken) => {
+            gather.what(place) == taken && gather.take(place, granted) == taken
+        }
+        Step::Asked(place) => {
+            if place >= MAX_PLACES {
+                return false;
+            }
+            gather.ask(place);
+            true
+        }
         Step::Lost(place) => {
             gather.forget(place);
             true
