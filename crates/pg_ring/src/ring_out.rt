@@ -27,6 +27,9 @@ impl Link for RingOut {
         ensures free { bytes_free self.old ≤ bytes_free self.new + result }
         ensures full { result < length bytes.now → bytes_free self.new ≡ 0 }
     {
+        if bytes.is_empty() {
+            return 0;
+        }
         let (sent, _) = self.producer.push_partial_slice(bytes);
         sent.len()
     }
