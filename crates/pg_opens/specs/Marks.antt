@@ -1,5 +1,5 @@
 -- What has come of the nodes that a command asks.
-use Rattle.std.specs.Prelude.{ℕ, Bool, true, false, not, ◌&&◌, ◌||◌, ◌==◌, cond, nat_lt, get_or, length, List}
+use Rattle.std.specs.Prelude.{ℕ, Bool, true, false, not, ◌&&◌, ◌||◌, ◌==◌, cond, nat_lt, get_or, length, List, Option, Some, None}
 use Rattle.pg_term.specs.Same.{same_atom}
 use Rattle.pg_step.specs.State.{Status}
 use Rattle.pg_step.specs.State.Status.{Unasked, Asked, Yes, No}
@@ -34,17 +34,11 @@ abbrev pub verdict_mark : Bool → Mark
 verdict_mark true = mark.Yes
 verdict_mark false = mark.No
 
-abbrev pub has_replied : Mark → Bool
-has_replied mark.Unasked = false
-has_replied mark.Asked = false
-has_replied mark.Yes = true
-has_replied mark.No = true
-
--- by whether a node was asked, has replied, and has granted
-abbrev pub mark_by : (asked replied granted : Bool) → Mark
-mark_by false replied granted = mark.Unasked
-mark_by true false granted = mark.Asked
-mark_by true true granted = verdict_mark granted
+-- by what is gathered of a node: whether it was asked, has replied, and has granted
+abbrev pub mark_of : Option (Option Bool) → Mark
+mark_of None = mark.Unasked
+mark_of (Some None) = mark.Asked
+mark_of (Some (Some granted)) = verdict_mark granted
 
 -- a node is asked, where that is wanted and it was not: the own one answers at once
 abbrev pub asked_mark : Mark → (wanted is_own granted : Bool) → Mark

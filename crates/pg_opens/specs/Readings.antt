@@ -75,6 +75,13 @@ standing_in phase.Waiting = standing.Waiting
 standing_in (phase.Asking lock first) = standing.Asking lock
 standing_in (phase.Changing lock number) = standing.Changing number
 
+-- in the second round the node that was asked first is not asked
+abbrev pub heard_by : Taken → Bool → Taken
+heard_by Double true = Stranger
+heard_by Double false = Double
+heard_by Counted is_first = Counted
+heard_by Stranger is_first = Stranger
+
 abbrev pub lock_heard : Mark → Bool → Taken
 lock_heard mark is_first = what_of true (lock_entry (status_of mark) is_first)
 

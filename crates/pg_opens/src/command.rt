@@ -4,7 +4,7 @@ ghost use Rattle.pg_step.specs.Attempts.{same_op};
 ghost use Rattle.pg_opens.specs.declared.mark.Mark.TheVariants.{Unasked};
 ghost use Rattle.pg_opens.specs.Commands.{has_in};
 
-use crate::mark::{Asked, Mark, Wanted};
+use crate::mark::{Asked, Wanted};
 use crate::marks::Marks;
 use crate::outlook::Outlook;
 use pg_group::Update;
@@ -103,10 +103,10 @@ impl Gathering {
 
 impl OpenCommand {
     ghost use Rattle.std.specs.Prelude.{ℕ, slice_set};
-    ghost use Rattle.pg_opens.specs.declared.mark.Mark.TheVariants.{Yes};
+    ghost use Rattle.pg_opens.specs.declared.mark.Mark.TheVariants.{Yes, Asked as AskedYet};
     ghost use Rattle.pg_opens.specs.declared.command.Phase.TheVariants.{Waiting, Asking, Changing};
-    ghost use Rattle.pg_opens.specs.Marks.{first_mark, mark_at, asked_in, has_yes};
-    ghost use Rattle.pg_opens.specs.Commands.{Turns};
+    ghost use Rattle.pg_opens.specs.Marks.{first_mark, mark_at, asked_in, has_yes, verdict_mark};
+    ghost use Rattle.pg_opens.specs.Commands.{Turns, Forgets};
     ghost use Rattle.pg_opens.specs.Readings.{gathering_in, standing_in, heard_in};
     ghost use Rattle.pg_opens.specs.Readings.{complete_in, update_in, waiting_in, gathers_in};
     ghost use Rattle.std.specs.Option.{option_copied};
@@ -222,7 +222,7 @@ impl OpenCommand {
         ensures marks { (place : ℕ) → place < length self.old.marks → get_or self.new.marks place Unasked ≡ first_mark Unasked place }
     {
         self.phase = Phase::Asking(lock, first);
-        self.marks = Marks::new(self.marks.len(), Mark::Unasked);
+        self.marks = Marks::none(self.marks.len());
     }
 
     /// Asks these nodes for the lock.
@@ -242,16 +242,33 @@ impl OpenCommand {
         requires flags { length lost.now ≡ length self.now.marks }
         ensures { result ≡ asked_in (get_or self.now.marks place Unasked) (get_or lost.now place false) who place }
     {
-        !lost[place] && who.is_wanted(place) && self.marks.at(place).is_unasked()
+        self.marks.is_asked_by(lost[place], who, place)
     }
 
-    /// What has come of the node at a place.
-    pub fn mark(&mut self, place: usize, mark: Mark)
+    /// The answer of the node at a place is counted.
+    pub fn count(&mut self, place: usize, granted: bool)
         requires { place < length self.old.marks }
         ensures turns { Turns self.old self.new self.old.phase }
-        ensures marks { self.new.marks ≡ slice_set self.old.marks place mark }
+        ensures marks { self.new.marks ≡ slice_set self.old.marks place (verdict_mark granted) }
     {
-        self.marks.set(place, mark);
+        self.marks.count(place, granted);
+    }
+
+    /// The answer of the node at a place is taken back.
+    pub fn take_back(&mut self, place: usize)
+        requires { place < length self.old.marks }
+        ensures turns { Turns self.old self.new self.old.phase }
+        ensures marks { self.new.marks ≡ slice_set self.old.marks place AskedYet }
+    {
+        self.marks.ask_one(place);
+    }
+
+    /// The node at a place is forgotten.
+    pub fn forget(&mut self, place: usize)
+        requires { place < length self.old.marks }
+        ensures { Forgets place self.old self.new }
+    {
+        self.marks.forget(place);
     }
 
     /// Its update goes out: the own node has applied it.
@@ -260,7 +277,7 @@ impl OpenCommand {
         ensures marks { (place : ℕ) → place < length self.old.marks → get_or self.new.marks place Unasked ≡ first_mark Yes place }
     {
         self.phase = Phase::Changing(lock, update);
-        self.marks = Marks::new(self.marks.len(), Mark::Yes);
+        self.marks = Marks::of_own(self.marks.len());
     }
 
     /// It waits for its retry.
@@ -305,12 +322,11 @@ impl OpenCommand {
         requires { place < length self.now.marks }
         ensures { result ≡ heard_in self.now.phase (get_or self.now.marks place Unasked) place number }
     {
-        let mark = self.marks.at(place);
         match self.phase {
             Phase::Waiting => Taken::Stranger,
             Phase::Asking(lock, first) => {
                 if lock == number {
-                    heard_lock(mark, first == place)
+                    self.marks.heard(place, first == place)
                 } else {
                     Taken::Stranger
                 }
@@ -318,30 +334,11 @@ impl OpenCommand {
             Phase::Changing(_, update) => {
                 if update != number {
                     Taken::Stranger
-                } else if mark.is_yes() {
+                } else if self.has_yes(place) {
                     Taken::Double
                 } else {
                     Taken::Counted
                 }
-            }
-        }
-    }
-}
-
-ghost use Rattle.pg_opens.specs.Readings.{lock_heard};
-
-/// An answer to a request for the lock: in the second round the one that was asked first is not asked.
-fn heard_lock(mark: Mark, is_first: bool) -> Taken
-    ensures { result ≡ lock_heard mark is_first }
-{
-    match mark {
-        Mark::Unasked => Taken::Stranger,
-        Mark::Asked => Taken::Counted,
-        Mark::Yes | Mark::No => {
-            if is_first {
-                Taken::Stranger
-            } else {
-                Taken::Double
             }
         }
     }

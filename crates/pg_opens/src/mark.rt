@@ -1,5 +1,5 @@
 ghost use Rattle.std.specs.Prelude.{◌≡◌};
-ghost use Rattle.pg_opens.specs.Marks.{status_of, has_yes, has_replied, verdict_mark, mark_by, asked_mark};
+ghost use Rattle.pg_opens.specs.Marks.{status_of, has_yes, verdict_mark, mark_of, asked_mark};
 ghost use Rattle.pg_opens.specs.Marks.{passes, is_wanted, mark_at};
 ghost use Rattle.pg_step.specs.Attempts.{is_unasked};
 ghost use Rattle.pg_opens.specs.Twins.{same_mark};
@@ -56,22 +56,20 @@ impl Asked {
 
 impl Mark {
     /// The answer of a node.
-    pub fn of_answer(granted: bool) -> Mark
+    fn of_answer(granted: bool) -> Mark
         ensures { result ≡ verdict_mark granted }
     {
         if granted { Mark::Yes } else { Mark::No }
     }
 
-    /// The mark of a node, by whether it was asked, has replied, and has granted.
-    pub fn of(asked: bool, replied: bool, granted: bool) -> Mark
-        ensures { result ≡ mark_by asked replied granted }
+    /// The mark of a node, by what is gathered of it.
+    pub fn of(reply: Option<Option<bool>>) -> Mark
+        ensures { result ≡ mark_of reply }
     {
-        if !asked {
-            Mark::Unasked
-        } else if !replied {
-            Mark::Asked
-        } else {
-            Mark::of_answer(granted)
+        match reply {
+            None => Mark::Unasked,
+            Some(None) => Mark::Asked,
+            Some(Some(granted)) => Mark::of_answer(granted),
         }
     }
 
@@ -102,15 +100,6 @@ impl Mark {
         match self {
             Mark::Unasked => true,
             Mark::Asked | Mark::Yes | Mark::No => false,
-        }
-    }
-
-    pub fn has_replied(self) -> bool
-        ensures { result ≡ has_replied self }
-    {
-        match self {
-            Mark::Yes | Mark::No => true,
-            Mark::Unasked | Mark::Asked => false,
         }
     }
 

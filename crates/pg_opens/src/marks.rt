@@ -1,21 +1,21 @@
-ghost use Rattle.std.specs.Prelude.{◌≡◌, ℕ, ◌<◌, ◌≤◌, false, length, get_or, slice_set};
-ghost use Rattle.pg_opens.specs.Marks.{has_yes, first_mark, mark_at, all_marks};
+ghost use Rattle.std.specs.Prelude.{◌≡◌, ℕ, ◌<◌, ◌≤◌, false, Some, cond, nat_eq, length, get_or, slice_set};
+ghost use Rattle.pg_multicall.specs.Replies.{replies_of};
+ghost use Rattle.pg_opens.specs.Marks.{has_yes, first_mark, mark_at, all_marks, verdict_mark, asked_in};
+ghost use Rattle.pg_opens.specs.Readings.{lock_heard, heard_by};
 ghost use Rattle.pg_opens.specs.Places.{all_below};
 ghost use Rattle.pg_opens.specs.Twins.{same_mark, same_test, same_marks, same_replies};
-ghost use Rattle.pg_opens.specs.declared.mark.Mark.TheVariants.{Unasked};
+ghost use Rattle.pg_opens.specs.declared.mark.Mark.TheVariants.{Unasked, Asked as AskedYet, Yes};
 
 use crate::mark::{Asked, Mark, Wanted};
-use pg_multicall::Places;
+use pg_multicall::{Gather, Places, Taken};
 use std::marker::Model;
 
-/// The mark of each node that a command asks, of at most 16: four words, without memory. Contracts see the list of the
-/// marks, by the places of the nodes.
+/// What is gathered of the nodes that a command asks, of at most 16: four words, without memory. Contracts see the list of
+/// the nodes' marks, by their places.
 #[derive(Debug, Drop)]
 pub struct Marks {
-    asked: Places,
-    replied: Places,
-    // Which have granted the lock, or applied the update.
-    granted: Places,
+    // A node grants that has granted the lock, or applied the update.
+    gather: Gather,
     // How many nodes there are.
     count: usize,
 }
@@ -34,19 +34,27 @@ impl Model for Marks {
 }
 
 impl Marks {
-    /// Nobody was asked, of so many nodes, but that the own one may have a mark.
-    pub fn new(count: usize, own: Mark) -> Marks
+    /// Nobody was asked, of so many nodes.
+    pub fn none(count: usize) -> Marks
         requires few { count ≤ 16 }
-        ensures marks { (place : ℕ) → place < count → get_or result place Unasked ≡ first_mark own place }
+        ensures marks { (place : ℕ) → place < count → get_or result place Unasked ≡ first_mark Unasked place }
         ensures len { length result ≡ count }
     {
-        let none = Places::none();
         Marks {
-            asked: none.with_or_without(0, !own.is_unasked()),
-            replied: none.with_or_without(0, own.has_replied()),
-            granted: none.with_or_without(0, own.is_yes()),
+            gather: Gather::new(Places::none()),
             count,
         }
+    }
+
+    /// The own node alone was asked, and has granted or applied, of so many nodes.
+    pub fn of_own(count: usize) -> Marks
+        requires few { count ≤ 16 }
+        ensures marks { (place : ℕ) → place < count → get_or result place Unasked ≡ first_mark Yes place }
+        ensures len { length result ≡ count }
+    {
+        let mut gather = Gather::new(Places::none());
+        count_reply(&mut gather, 0, true);
+        Marks { gather, count }
     }
 
     /// How many nodes there are.
@@ -62,9 +70,7 @@ impl Marks {
         ensures { result ≡ self.now }
     {
         Marks {
-            asked: self.asked,
-            replied: self.replied,
-            granted: self.granted,
+            gather: self.gather,
             count: self.count,
         }
     }
@@ -74,21 +80,63 @@ impl Marks {
         requires { place < length self.now }
         ensures { result ≡ get_or self.now place Unasked }
     {
-        Mark::of(
-            self.asked.has(place),
-            self.replied.has(place),
-            self.granted.has(place),
-        )
+        Mark::of(self.gather.reply(place))
     }
 
-    /// The node at a place has this mark.
-    pub fn set(&mut self, place: usize, mark: Mark)
-        requires { place < length self.old }
-        ensures { self.new ≡ slice_set self.old place mark }
+    /// What an answer of the node at a place would be to the request for the lock. In the second round the one that was
+    /// asked first is not asked.
+    pub fn heard(&self, place: usize, is_first: bool) -> Taken
+        requires { place < length self.now }
+        ensures { result ≡ lock_heard (get_or self.now place Unasked) is_first }
     {
-        self.asked = self.asked.with_or_without(place, !mark.is_unasked());
-        self.replied = self.replied.with_or_without(place, mark.has_replied());
-        self.granted = self.granted.with_or_without(place, mark.is_yes());
+        heard_by(self.gather.what(place), is_first)
+    }
+
+    /// The node at a place was asked, and has not answered, whatever came of it before.
+    pub fn ask_one(&mut self, place: usize)
+        requires { place < length self.old }
+        ensures { self.new ≡ slice_set self.old place AskedYet }
+    {
+        self.gather.ask(place);
+    }
+
+    /// The answer of the node at a place is counted, whatever came of it before.
+    pub fn count(&mut self, place: usize, granted: bool)
+        requires { place < length self.old }
+        ensures { self.new ≡ slice_set self.old place (verdict_mark granted) }
+    {
+        count_reply(&mut self.gather, place, granted);
+    }
+
+    /// The node at a place is forgotten: it was not asked.
+    pub fn forget(&mut self, place: usize)
+        requires { place < length self.old }
+        ensures { self.new ≡ slice_set self.old place Unasked }
+    {
+        self.gather.forget(place);
+    }
+
+    /// Whether the node at a place is asked, where these are.
+    pub fn is_asked_by(&self, is_lost: bool, who: Asked, place: usize) -> bool
+        requires { place < length self.now }
+        ensures { result ≡ asked_in (get_or self.now place Unasked) is_lost who place }
+    {
+        !is_lost && who.is_wanted(place) && self.at(place).is_unasked()
+    }
+
+    /// Asks the node at a place, where these are asked: the own one answers at once.
+    fn ask_at(&mut self, is_lost: bool, who: Asked, place: usize, granted: bool)
+        requires { place < length self.old }
+        ensures { self.new ≡ slice_set self.old place (mark_at (get_or self.old place Unasked) is_lost who place granted) }
+    {
+        if !self.is_asked_by(is_lost, who, place) {
+            return;
+        }
+        if place == 0 {
+            self.count(place, granted);
+        } else {
+            self.ask_one(place);
+        }
     }
 
     /// Asks these nodes, of those that are live.
@@ -100,8 +148,7 @@ impl Marks {
         ensures len { length self.new ≡ length self.old }
     {
         for place in 0..lost.len() {
-            let mark = self.at(place).asked_at(lost[place], who, place, granted);
-            self.set(place, mark);
+            self.ask_at(lost[place], who, place, granted);
         }
     }
 
@@ -153,6 +200,24 @@ impl Marks {
             all = same_test(self.at(place).is_yes(), other.at(place).is_yes()) && all;
         }
         all
+    }
+}
+
+/// The reply of the node at a place is counted, whatever came of it before.
+fn count_reply(gather: &mut Gather, place: usize, granted: bool)
+    requires { place < 16 }
+    ensures { (other : ℕ) → replies_of gather.new other ≡ cond (nat_eq place other) (Some (Some granted)) (replies_of gather.old other) }
+{
+    gather.ask(place);
+    gather.take(place, granted);
+}
+
+fn heard_by(taken: Taken, is_first: bool) -> Taken
+    ensures { result ≡ heard_by taken is_first }
+{
+    match taken {
+        Taken::Double if is_first => Taken::Stranger,
+        Taken::Counted | Taken::Stranger | Taken::Double => taken,
     }
 }
 

@@ -8,7 +8,7 @@ ghost use Rattle.pg_opens.specs.declared.command.OpenCommand.{OpenCommand};
 ghost use Rattle.pg_opens.specs.Commands.{AreKnown};
 
 use crate::command::{Gathering, OpenCommand, Phase, Standing, place_of, place_of_op};
-use crate::mark::{Asked, Mark};
+use crate::mark::Asked;
 use crate::marks::Marks;
 use crate::nodes::{greatest_place, place_of_atom};
 use crate::outlook::Outlook;
@@ -480,7 +480,7 @@ impl Opens {
     {
         if let Some(found) = place_of(&self.commands, number) {
             let command = &mut self.commands[found];
-            command.mark(place, Mark::of_answer(granted));
+            command.count(place, granted);
         }
     }
 
@@ -497,7 +497,7 @@ impl Opens {
     {
         if let Some(found) = place_of(&self.commands, number) {
             let command = &mut self.commands[found];
-            command.mark(place, Mark::Yes);
+            command.count(place, true);
         }
     }
 
@@ -515,7 +515,7 @@ impl Opens {
     {
         if let Some(found) = place_of(&self.commands, number) {
             let command = &mut self.commands[found];
-            command.mark(place, Mark::Asked);
+            command.take_back(place);
         }
     }
 
@@ -532,7 +532,7 @@ impl Opens {
     {
         if let Some(found) = place_of(&self.commands, number) {
             let command = &mut self.commands[found];
-            command.mark(place, Mark::Asked);
+            command.take_back(place);
         }
     }
 
@@ -613,7 +613,7 @@ impl Opens {
             op,
             update,
             phase: Phase::Waiting,
-            marks: Marks::new(self.names.len(), Mark::Unasked),
+            marks: Marks::none(self.names.len()),
         });
     }
 
@@ -684,6 +684,6 @@ fn forget(commands: &mut Vec<OpenCommand>, place: usize)
         → slice_get commands.new.items k ≡ Some new → Forgets place old new }
 {
     for k in 0..commands.len() {
-        commands[k].mark(place, Mark::Unasked);
+        commands[k].forget(place);
     }
 }

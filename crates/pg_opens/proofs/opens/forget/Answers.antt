@@ -9,11 +9,11 @@ loop-k-preserved c =
     let was = c.loop-k.invariant in
     let before = c.loop-k.commands.items in
     let within : c.loop-k.k < length before = omega (arith, c.loop-k-test.true, c.len-k-end.ensures, was.len) in
-    let forgot : Forgets c.args.place c.index_mut.result.now c.mark.new.self = record { turns = c.mark.ensures.turns; items = c.mark.ensures.marks } in
+    let forgot : Forgets c.args.place c.index_mut.result.now c.forget.new.self = c.forget.ensures in
     record {
-      len = length-set before c.loop-k.k c.mark.new.self ∙ was.len;
-      done = forgets_more c.args.place c.loop-k.k c.args.commands.now.items before c.index_mut.result.now c.mark.new.self within c.index_mut.ensures.value forgot was.done was.left;
-      left = left_more c.args.place c.loop-k.k c.args.commands.now.items before c.index_mut.result.now c.mark.new.self within c.index_mut.ensures.value forgot was.done was.left;
+      len = length-set before c.loop-k.k c.forget.new.self ∙ was.len;
+      done = forgets_more c.args.place c.loop-k.k c.args.commands.now.items before c.index_mut.result.now c.forget.new.self within c.index_mut.ensures.value forgot was.done was.left;
+      left = left_more c.args.place c.loop-k.k c.args.commands.now.items before c.index_mut.result.now c.forget.new.self within c.index_mut.ensures.value forgot was.done was.left;
     }
 
 pub returns-clause-each : goal.returns-clause-each

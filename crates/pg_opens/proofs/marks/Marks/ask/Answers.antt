@@ -9,14 +9,15 @@ pub loop-place-preserved : goal.loop-place-preserved
 loop-place-preserved c =
     let was = c.loop-place.invariant in
     let below : c.loop-place.place < length c.loop-place.self = omega (arith, was.len, c.requires, c.loop-place-test.true) in
+    let done = mark_at (get_or c.loop-place.self c.loop-place.place Unasked) (get_or c.args.lost.now c.loop-place.place false) c.args.who c.loop-place.place c.args.granted in
     record {
-      len = ap (λ (ms : List Mark). length ms) c.set.ensures ∙ (length-set c.loop-place.self c.loop-place.place c.asked_at-mark.result ∙ was.len);
+      len = ap (λ (ms : List Mark). length ms) c.ask_at.ensures ∙ (length-set c.loop-place.self c.loop-place.place done ∙ was.len);
       done = below_more _ _
           (λ k h. let ne : k ≢ c.loop-place.place = omega arith in
-          ap (λ (ms : List Mark). get_or ms k Unasked) c.set.ensures ∙ (get_or-set_other c.loop-place.self c.loop-place.place k c.asked_at-mark.result Unasked ne ∙ was.done k h))
-          (ap (λ (ms : List Mark). get_or ms c.loop-place.place Unasked) c.set.ensures
-          ∙ (get_or-set_same c.loop-place.self c.loop-place.place c.asked_at-mark.result Unasked below
-          ∙ (c.asked_at-mark.ensures ∙ ap (λ m. mark_at m (get_or c.args.lost.now c.loop-place.place false) c.args.who c.loop-place.place c.args.granted) (c.at.ensures ∙ was.left c.loop-place.place (omega arith)))));
+          ap (λ (ms : List Mark). get_or ms k Unasked) c.ask_at.ensures ∙ (get_or-set_other c.loop-place.self c.loop-place.place k done Unasked ne ∙ was.done k h))
+          (ap (λ (ms : List Mark). get_or ms c.loop-place.place Unasked) c.ask_at.ensures
+          ∙ (get_or-set_same c.loop-place.self c.loop-place.place done Unasked below
+          ∙ ap (λ m. mark_at m (get_or c.args.lost.now c.loop-place.place false) c.args.who c.loop-place.place c.args.granted) (was.left c.loop-place.place (omega arith))));
       left = λ k h. let ne : k ≢ c.loop-place.place = omega arith in
-          ap (λ (ms : List Mark). get_or ms k Unasked) c.set.ensures ∙ (get_or-set_other c.loop-place.self c.loop-place.place k c.asked_at-mark.result Unasked ne ∙ was.left k (omega arith));
+          ap (λ (ms : List Mark). get_or ms k Unasked) c.ask_at.ensures ∙ (get_or-set_other c.loop-place.self c.loop-place.place k done Unasked ne ∙ was.left k (omega arith));
     }
