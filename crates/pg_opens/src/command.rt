@@ -344,12 +344,15 @@ impl OpenCommand {
     }
 }
 
-/// Where the command is that has a reference.
-pub fn place_of(commands: &[OpenCommand], number: u32) -> Option<usize>
+/// Where the command is that has a reference. `recent`: the place that is looked at first.
+pub fn place_of(commands: &[OpenCommand], recent: usize, number: u32) -> Option<usize>
     ensures none { IfNone result (list_any (λ command. has_in command.phase number) commands.now ≡ false) }
     ensures within { IfSome result (λ place. place < length commands.now) }
     ensures some { IfSome result (λ place. IfSome (slice_get commands.now place) (λ command. has_in command.phase number ≡ true)) }
 {
+    if recent < commands.len() && commands[recent].has(number) {
+        return Some(recent);
+    }
     for (place, command) in commands.iter().enumerate() {
         if command.has(number) {
             return Some(place);
@@ -358,12 +361,15 @@ pub fn place_of(commands: &[OpenCommand], number: u32) -> Option<usize>
     None
 }
 
-/// Where a command is.
-pub fn place_of_op(commands: &[OpenCommand], op: OpId) -> Option<usize>
+/// Where a command is. `recent`: the place that is looked at first.
+pub fn place_of_op(commands: &[OpenCommand], recent: usize, op: OpId) -> Option<usize>
     ensures none { IfNone result (list_any (λ command. same_op command.op op) commands.now ≡ false) }
     ensures within { IfSome result (λ place. place < length commands.now) }
     ensures some { IfSome result (λ place. IfSome (slice_get commands.now place) (λ command. same_op command.op op ≡ true)) }
 {
+    if recent < commands.len() && commands[recent].is(op) {
+        return Some(recent);
+    }
     for (place, command) in commands.iter().enumerate() {
         if command.is(op) {
             return Some(place);

@@ -29,6 +29,8 @@ pub struct Opens {
     // How many references were made.
     references: u32,
     commands: Vec<OpenCommand>,
+    // Where a change was last, if that command is still there: each call looks at that place first.
+    recent: usize,
     ghost apart: { IsDistinct same_atom names.items } by { IsDistinct-prop same_atom names.items },
     ghost places: { ArePlaces names.items lost.items },
     ghost known: { AreKnown names.items references commands.items },
@@ -79,6 +81,7 @@ impl Opens {
             lost,
             references: 0,
             commands: Vec::new(alloc),
+            recent: 0,
         })
     }
 
@@ -98,6 +101,7 @@ impl Opens {
             lost,
             references: self.references,
             commands,
+            recent: self.recent,
         })
     }
 
@@ -125,7 +129,7 @@ impl Opens {
     pub fn gathering(&self, number: u32) -> Gathering
         ensures { result ≡ gathering_of (uses_of self.now number) }
     {
-        match place_of(&self.commands, number) {
+        match place_of(&self.commands, self.recent, number) {
             None => Gathering::Nothing,
             Some(place) => {
                 let command = &self.commands[place];
@@ -246,7 +250,7 @@ impl Opens {
     pub fn standing(&self, op: OpId) -> Standing
         ensures { result ≡ standing_of (stages_of self.now op) }
     {
-        match place_of_op(&self.commands, op) {
+        match place_of_op(&self.commands, self.recent, op) {
             None => Standing::Closed,
             Some(place) => {
                 let command = &self.commands[place];
@@ -290,7 +294,7 @@ impl Opens {
         requires { place < length (names_of self.now) }
         ensures { result ≡ what_of true (gathered (uses_of self.now number) (name_at (names_of self.now) place)) }
     {
-        match place_of(&self.commands, number) {
+        match place_of(&self.commands, self.recent, number) {
             None => Taken::Stranger,
             Some(found) => {
                 let command = &self.commands[found];
@@ -305,7 +309,7 @@ impl Opens {
     pub fn update(&self, number: u32) -> Option<&Update>
         ensures { option_copied result ≡ update_of (uses_of self.now number) }
     {
-        match place_of(&self.commands, number) {
+        match place_of(&self.commands, self.recent, number) {
             None => None,
             Some(place) => {
                 let command = &self.commands[place];
@@ -320,7 +324,7 @@ impl Opens {
     pub fn waiting_update(&self, op: OpId) -> Option<&Update>
         ensures { option_copied result ≡ waiting_of (stages_of self.now op) }
     {
-        match place_of_op(&self.commands, op) {
+        match place_of_op(&self.commands, self.recent, op) {
             None => None,
             Some(place) => {
                 let command = &self.commands[place];
@@ -340,7 +344,7 @@ impl Opens {
             → uses_of self.now number ≡ Locking op update first st
             → result ≡ is_yes (st (name_at (names_of self.now) place)) }
     {
-        match place_of(&self.commands, number) {
+        match place_of(&self.commands, self.recent, number) {
             None => false,
             Some(found) => {
                 let command = &self.commands[found];
@@ -368,7 +372,7 @@ impl Opens {
             → uses_of self.now number ≡ Locking op update first st → 0 < place
             → result ≡ (is_peer (left_of self.now) (name_at (names_of self.now) place) && asks (whom (names_of self.now) who) st (name_at (names_of self.now) place)) }
     {
-        match place_of(&self.commands, number) {
+        match place_of(&self.commands, self.recent, number) {
             None => false,
             Some(found) => {
                 let command = &self.commands[found];
@@ -402,7 +406,7 @@ impl Opens {
     pub fn is_complete(&self, number: u32) -> bool
         ensures { result ≡ is_complete (left_of self.now) (uses_of self.now number) }
     {
-        match place_of(&self.commands, number) {
+        match place_of(&self.commands, self.recent, number) {
             None => false,
             Some(place) => {
                 let command = &self.commands[place];
@@ -419,7 +423,7 @@ impl Opens {
         requires { is_locking (uses_of self.now number) ≡ true }
         ensures { result ≡ outlook_of (left_of self.now) granted (uses_of self.now number) }
     {
-        match place_of(&self.commands, number) {
+        match place_of(&self.commands, self.recent, number) {
             None => Outlook::Wait,
             Some(place) => {
                 let command = &self.commands[place];
@@ -440,9 +444,10 @@ impl Opens {
             → Follows self.old self.new (new_attempt (name_at (names_of self.old) first) op update) }
         ensures nodes { names_of self.new ≡ names_of self.old }
     {
-        if let Some(place) = place_of_op(&self.commands, op) {
+        if let Some(place) = place_of_op(&self.commands, self.recent, op) {
             let number = self.references + 1;
             self.references = number;
+            self.recent = place;
             let command = &mut self.commands[place];
             command.start(number, first);
         }
@@ -461,7 +466,8 @@ impl Opens {
             → Shows self.new (ask (left_of self.old) (whom (names_of self.old) who) number op update first st s).state }
         ensures nodes { names_of self.new ≡ names_of self.old }
     {
-        if let Some(place) = place_of(&self.commands, number) {
+        if let Some(place) = place_of(&self.commands, self.recent, number) {
+            self.recent = place;
             let command = &mut self.commands[place];
             command.ask(&self.lost, who, granted);
         }
@@ -478,7 +484,8 @@ impl Opens {
             → Follows self.old self.new (count_answer number op update first st (name_at (names_of self.old) place) (own_verdict granted)) }
         ensures nodes { names_of self.new ≡ names_of self.old }
     {
-        if let Some(found) = place_of(&self.commands, number) {
+        if let Some(found) = place_of(&self.commands, self.recent, number) {
+            self.recent = found;
             let command = &mut self.commands[found];
             command.count(place, granted);
         }
@@ -495,7 +502,8 @@ impl Opens {
             → Follows self.old self.new (count_ok number op update lock replied (name_at (names_of self.old) place)) }
         ensures nodes { names_of self.new ≡ names_of self.old }
     {
-        if let Some(found) = place_of(&self.commands, number) {
+        if let Some(found) = place_of(&self.commands, self.recent, number) {
+            self.recent = found;
             let command = &mut self.commands[found];
             command.count(place, true);
         }
@@ -513,7 +521,8 @@ impl Opens {
             → Follows self.old self.new (count_answer number op update first st (name_at (names_of self.old) place) AskedYet) }
         ensures nodes { names_of self.new ≡ names_of self.old }
     {
-        if let Some(found) = place_of(&self.commands, number) {
+        if let Some(found) = place_of(&self.commands, self.recent, number) {
+            self.recent = found;
             let command = &mut self.commands[found];
             command.take_back(place);
         }
@@ -530,7 +539,8 @@ impl Opens {
             → Follows self.old self.new (ok_taken_back number op update lock replied (name_at (names_of self.old) place)) }
         ensures nodes { names_of self.new ≡ names_of self.old }
     {
-        if let Some(found) = place_of(&self.commands, number) {
+        if let Some(found) = place_of(&self.commands, self.recent, number) {
+            self.recent = found;
             let command = &mut self.commands[found];
             command.take_back(place);
         }
@@ -546,7 +556,8 @@ impl Opens {
             → Follows self.old self.new (give_up (left_of self.old) number op update st) }
         ensures nodes { names_of self.new ≡ names_of self.old }
     {
-        if let Some(place) = place_of(&self.commands, number) {
+        if let Some(place) = place_of(&self.commands, self.recent, number) {
+            self.recent = place;
             let command = &mut self.commands[place];
             command.wait();
         }
@@ -563,9 +574,10 @@ impl Opens {
             → Follows self.old self.new (begin (left_of self.old) number op update) }
         ensures nodes { names_of self.new ≡ names_of self.old }
     {
-        if let Some(place) = place_of(&self.commands, number) {
+        if let Some(place) = place_of(&self.commands, self.recent, number) {
             let update = self.references + 1;
             self.references = update;
+            self.recent = place;
             let command = &mut self.commands[place];
             command.begin(number, update);
         }
@@ -581,7 +593,7 @@ impl Opens {
             → Follows self.old self.new (finish (left_of self.old) number op update lock) }
         ensures nodes { names_of self.new ≡ names_of self.old }
     {
-        if let Some(place) = place_of(&self.commands, number) {
+        if let Some(place) = place_of(&self.commands, self.recent, number) {
             drop(self.commands.remove(place));
         }
     }
@@ -609,6 +621,7 @@ impl Opens {
         ensures turned { Follows self.old self.new (open_command op update) }
         ensures nodes { names_of self.new ≡ names_of self.old }
     {
+        self.recent = self.commands.len();
         self.commands.push_reserved(OpenCommand {
             op,
             update,
@@ -625,7 +638,7 @@ impl Opens {
         ensures turned { Follows self.old self.new (command_taken_back op) }
         ensures nodes { names_of self.new ≡ names_of self.old }
     {
-        if let Some(place) = place_of_op(&self.commands, op) {
+        if let Some(place) = place_of_op(&self.commands, self.recent, op) {
             drop(self.commands.remove(place));
         }
     }
