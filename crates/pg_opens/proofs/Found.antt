@@ -37,7 +37,7 @@ use Rattle.pg_opens.specs.declared.command.Standing.TheVariants as standing
 use Rattle.pg_opens.specs.Readings.{is_closed, is_lock, is_update, is_updating, update_of, update_in}
 use Rattle.pg_opens.specs.Readings.{waiting_of, waiting_in, waits_by, gathering_of, gathering_in}
 use Rattle.pg_opens.specs.Readings.{standing_of, standing_in, lock_heard, heard_in, complete_in, is_locking}
-use Rattle.pg_opens.specs.Outlooks.{outlook_of, outlook_by, outlook_in}
+use Rattle.pg_opens.specs.Outlooks.{outlook_of, outlook_by, outlook_in, round_in}
 use Rattle.pg_opens.proofs.Layered.{quiet_is, quiet_both}
 use Rattle.pg_opens.proofs.Named.{clash}
 use Rattle.pg_opens.proofs.Uses.{has_is, was, stage_was}
@@ -187,21 +187,25 @@ module _ (names : List Node) (lost : List Bool) (made : ℕ) (os : List OpenComm
   waits_not false true = refl
   waits_not false false = refl
 
+  abbrev goes_on : List Mark → ℕ → Bool → Bool
+  goes_on marks first granted = not (does_wait (after_round (round_in marks first) (all_marks marks lost NotDenied Nobody granted)))
+
   looks : (op : OpId) (u : Update) (ph : Phase) (marks : List Mark) (r : Option Use) (d : Use) (granted : Bool) → has_in ph x ≡ true → is_locking (or_as (over (use_in names op u ph marks x) r) d) ≡ true → length marks ≡ length names
-      → outlook_of (left_in names lost) granted (or_as (over (use_in names op u ph marks x) r) d) ≡ outlook_in marks lost granted
+      → outlook_of (left_in names lost) granted (or_as (over (use_in names op u ph marks x) r) d) ≡ outlook_in ph marks lost granted
   looks op u phase.Waiting marks r d granted h i same = absurd (clash (sym h))
   looks op u (phase.Asking lock first) marks r d granted h i same = one (nat_eq lock x) h
     where
-      one : (b : Bool) → b ≡ true → outlook_of (left_in names lost) granted (or_as (over (cond b (Some (Locking op u (name_at names first) (statuses names marks))) None) r) d) ≡ outlook_in marks lost granted
+      one : (b : Bool) → b ≡ true → outlook_of (left_in names lost) granted (or_as (over (cond b (Some (Locking op u (name_at names first) (statuses names marks))) None) r) d) ≡ outlook_in (phase.Asking lock first) marks lost granted
       one true h = ap (λ z. outlook_by z (not (does_wait (after_round (round_of (name_at names first) (statuses names marks)) (none_denied (left_in names lost) (statuses names marks)))))
           (all_granted (left_in names lost) (with_asked (left_in names lost) (λ q. true) (statuses names marks) granted)) (none_missing (left_in names lost) (with_asked (left_in names lost) (λ q. true) (statuses names marks) granted)))
           (every_nobody names lost apart places marks same Answered granted)
           ∙ (ap (λ z. outlook_by (all_marks marks lost Answered Nobody granted) z
           (all_granted (left_in names lost) (with_asked (left_in names lost) (λ q. true) (statuses names marks) granted)) (none_missing (left_in names lost) (with_asked (left_in names lost) (λ q. true) (statuses names marks) granted)))
-          (waits_not (is_yes (statuses names marks (name_at names first))) (none_denied (left_in names lost) (statuses names marks)) ∙ every_nobody names lost apart places marks same NotDenied granted)
-          ∙ (ap (λ z. outlook_by (all_marks marks lost Answered Nobody granted) (all_marks marks lost NotDenied Nobody granted) z (none_missing (left_in names lost) (with_asked (left_in names lost) (λ q. true) (statuses names marks) granted)))
+          (waits_not (is_yes (statuses names marks (name_at names first))) (none_denied (left_in names lost) (statuses names marks)) ∙ (every_nobody names lost apart places marks same NotDenied granted
+          ∙ sym (waits_not (has_yes (get_or marks first mark.Unasked)) (all_marks marks lost NotDenied Nobody granted))))
+          ∙ (ap (λ z. outlook_by (all_marks marks lost Answered Nobody granted) (goes_on marks first granted) z (none_missing (left_in names lost) (with_asked (left_in names lost) (λ q. true) (statuses names marks) granted)))
           (every_all names lost apart places marks same Granted granted)
-          ∙ ap (outlook_by (all_marks marks lost Answered Nobody granted) (all_marks marks lost NotDenied Nobody granted) (all_marks marks lost Granted All granted))
+          ∙ ap (outlook_by (all_marks marks lost Answered Nobody granted) (goes_on marks first granted) (all_marks marks lost Granted All granted))
           (every_all names lost apart places marks same Answered granted)))
       one false h = absurd (clash (sym h))
   looks op u (phase.Changing lock number) marks r d granted h i same = absurd (two (nat_eq number x) (nat_eq lock x) h i)
@@ -211,7 +215,7 @@ module _ (names : List Node) (lost : List Bool) (made : ℕ) (os : List OpenComm
       two false true h i = clash (sym i)
       two false false h i = clash (sym h)
 
-  pub outlook_here : (granted : Bool) → is_locking (uses_in names made os x) ≡ true → outlook_in o.marks lost granted ≡ outlook_of (left_in names lost) granted (uses_in names made os x)
+  pub outlook_here : (granted : Bool) → is_locking (uses_in names made os x) ≡ true → outlook_in o.phase o.marks lost granted ≡ outlook_of (left_in names lost) granted (uses_in names made os x)
   outlook_here granted i = sym (ap (outlook_of (left_in names lost) granted) (was names made os k o known at.here x)
       ∙ looks o.op o.update o.phase o.marks _ _ granted at.has (ap is_locking (sym (was names made os k o known at.here x)) ∙ i) (known.marked k o at.here))
 

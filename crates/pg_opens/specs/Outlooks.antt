@@ -1,8 +1,10 @@
 -- What follows once answers to a request for the lock are in (`go_on` and `locks_in` of the step).
-use Rattle.std.specs.Prelude.{ℕ, Bool, true, false, not, List}
+use Rattle.std.specs.Prelude.{ℕ, Bool, true, false, not, cond, get_or, List}
 use Rattle.pg_group.specs.declared.update.Update.{Update}
 use Rattle.pg_group.specs.Value.{name_of}
 use Rattle.pg_lock.specs.Attempts.{after_round, does_wait}
+use Rattle.pg_lock.specs.declared.attempt.Attempt.{Attempt}
+use Rattle.pg_lock.specs.declared.attempt.Attempt.TheVariants.{AskingFirst, AskingRest}
 use Rattle.pg_step.specs.declared.command.OpId.{OpId}
 use Rattle.pg_step.specs.Nodes.{Node, Nodes}
 use Rattle.pg_step.specs.State.{State, Status, Use}
@@ -12,14 +14,17 @@ use Rattle.pg_step.specs.Peers.{would_grant}
 use Rattle.pg_step.specs.Attempts.{none_missing, none_denied, all_granted, round_of}
 use Rattle.pg_step.specs.Attempts.{with_asked, ask, give_up, begin, replies_in}
 use Rattle.pg_opens.specs.declared.mark.Mark.{Mark}
+use Rattle.pg_opens.specs.declared.mark.Mark.TheVariants as mark
 use Rattle.pg_opens.specs.declared.mark.Asked.TheVariants.{Nobody, All}
 use Rattle.pg_opens.specs.declared.mark.Wanted.TheVariants.{Answered, NotDenied, Granted}
-use Rattle.pg_opens.specs.Marks.{all_marks}
+use Rattle.pg_opens.specs.declared.command.Phase.{Phase}
+use Rattle.pg_opens.specs.declared.command.Phase.TheVariants as phase
+use Rattle.pg_opens.specs.Marks.{has_yes, all_marks}
 use Rattle.pg_opens.specs.declared.outlook.Outlook.{Outlook}
 use Rattle.pg_opens.specs.declared.outlook.Outlook.TheVariants.{Wait, GiveUp, Ask, Begin, AskThenGiveUp}
 
-abbrev pub outlook_by : (answered no_denial granted no_miss : Bool) → Outlook
-outlook_by false no_denial granted no_miss = Wait
+abbrev pub outlook_by : (answered goes_on granted no_miss : Bool) → Outlook
+outlook_by false goes_on granted no_miss = Wait
 outlook_by true false granted no_miss = GiveUp
 outlook_by true true true no_miss = Begin
 outlook_by true true false true = AskThenGiveUp
@@ -31,10 +36,17 @@ outlook_of m granted (Locking op update first st) = outlook_by (none_missing m s
     (all_granted m (with_asked m (λ q. true) st granted)) (none_missing m (with_asked m (λ q. true) st granted))
 outlook_of m granted used = Wait
 
--- the same of the marks of one command
-abbrev pub outlook_in : List Mark → List Bool → Bool → Outlook
-outlook_in marks lost granted = outlook_by (all_marks marks lost Answered Nobody granted) (all_marks marks lost NotDenied Nobody granted)
+-- the round of a request with these marks, by the place of the node that was asked first
+abbrev pub round_in : List Mark → ℕ → Attempt
+round_in marks first = cond (has_yes (get_or marks first mark.Unasked)) AskingRest AskingFirst
+
+-- the same of one command
+abbrev pub outlook_in : Phase → List Mark → List Bool → Bool → Outlook
+outlook_in phase.Waiting marks lost granted = Wait
+outlook_in (phase.Asking lock first) marks lost granted = outlook_by (all_marks marks lost Answered Nobody granted)
+    (not (does_wait (after_round (round_in marks first) (all_marks marks lost NotDenied Nobody granted))))
     (all_marks marks lost Granted All granted) (all_marks marks lost Answered All granted)
+outlook_in (phase.Changing lock number) marks lost granted = Wait
 
 -- The turn that follows, by the outlook. Where the rest is asked, the own node answers as it would; where the update begins
 -- and there is no peer, all replies are in at once.

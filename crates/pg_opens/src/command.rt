@@ -8,6 +8,7 @@ use crate::mark::{Asked, Wanted};
 use crate::marks::Marks;
 use crate::outlook::Outlook;
 use pg_group::Update;
+use pg_lock::Attempt;
 use pg_multicall::Taken;
 use pg_step::OpId;
 use std::alloc::{AllocError, Global};
@@ -106,11 +107,11 @@ impl OpenCommand {
     ghost use Rattle.pg_opens.specs.declared.mark.Mark.TheVariants.{Yes, Asked as AskedYet};
     ghost use Rattle.pg_opens.specs.declared.command.Phase.TheVariants.{Waiting, Asking, Changing};
     ghost use Rattle.pg_opens.specs.Marks.{first_mark, mark_at, asked_in, has_yes, verdict_mark};
-    ghost use Rattle.pg_opens.specs.Commands.{Turns, Forgets};
+    ghost use Rattle.pg_opens.specs.Commands.{Turns, Forgets, first_in};
     ghost use Rattle.pg_opens.specs.Readings.{gathering_in, standing_in, heard_in};
     ghost use Rattle.pg_opens.specs.Readings.{complete_in, update_in, waiting_in, gathers_in};
     ghost use Rattle.std.specs.Option.{option_copied};
-    ghost use Rattle.pg_opens.specs.Outlooks.{outlook_in};
+    ghost use Rattle.pg_opens.specs.Outlooks.{outlook_in, round_in};
 
     /// An equal command.
     ///
@@ -306,15 +307,32 @@ impl OpenCommand {
 
     /// What follows for its request for the lock. `granted`: what the own node would answer.
     pub fn outlook(&self, lost: &[bool], granted: bool) -> Outlook
-        requires { length lost.now ≡ length self.now.marks }
-        ensures { result ≡ outlook_in self.now.marks lost.now granted }
+        requires flags { length lost.now ≡ length self.now.marks }
+        requires first { first_in self.now.phase < length self.now.marks }
+        ensures { result ≡ outlook_in self.now.phase self.now.marks lost.now granted }
     {
+        let Phase::Asking(_, first) = self.phase else {
+            return Outlook::Wait;
+        };
         let marks = &self.marks;
         let answered = marks.all_pass(lost, Wanted::Answered, Asked::Nobody, granted);
         let none_denied = marks.all_pass(lost, Wanted::NotDenied, Asked::Nobody, granted);
+        let waits = self.round(first).after_round(none_denied).waits();
         let all_granted = marks.all_pass(lost, Wanted::Granted, Asked::All, granted);
         let none_missing = marks.all_pass(lost, Wanted::Answered, Asked::All, granted);
-        Outlook::of(answered, none_denied, all_granted, none_missing)
+        Outlook::of(answered, !waits, all_granted, none_missing)
+    }
+
+    /// The round of its request for the lock: the rest is asked once the one that was asked first has granted.
+    fn round(&self, first: usize) -> Attempt
+        requires { first < length self.now.marks }
+        ensures { result ≡ round_in self.now.marks first }
+    {
+        if self.has_yes(first) {
+            Attempt::AskingRest
+        } else {
+            Attempt::AskingFirst
+        }
     }
 
     /// What a reply under a reference is to it, by the place of the node.

@@ -17,16 +17,16 @@ pub enum Outlook {
 }
 
 impl Outlook {
-    /// By whether all asked have answered, and none has denied; and whether, once the rest is asked, all have
-    /// granted, and no answer is missing.
+    /// By whether all asked have answered, and the round they answered goes on; and whether, once the rest is asked,
+    /// all have granted, and no answer is missing.
     ///
     /// Cost: no memory.
-    pub fn of(answered: bool, none_denied: bool, granted: bool, none_missing: bool) -> Outlook
-        ensures { result ≡ outlook_by answered none_denied granted none_missing }
+    pub fn of(answered: bool, goes_on: bool, granted: bool, none_missing: bool) -> Outlook
+        ensures { result ≡ outlook_by answered goes_on granted none_missing }
     {
         if !answered {
             Outlook::Wait
-        } else if !none_denied {
+        } else if !goes_on {
             Outlook::GiveUp
         } else if granted {
             Outlook::Begin

@@ -10,6 +10,6 @@ returns-in-None c = absurd (clash (sym c.requires ∙ nothing_of is_locking fals
 
 pub returns-in-Some : goal.returns-in-Some
 returns-in-Some c = c.outlook.ensures
-    ∙ (ap (λ z. outlook_in c.index-command.result.now.marks z c.args.granted) c.deref-in-Some.ensures.value
+    ∙ (ap (λ z. outlook_in c.index-command.result.now.phase c.index-command.result.now.marks z c.args.granted) c.deref-in-Some.ensures.value
     ∙ outlook_here _ _ _ _ _ _ c.args.self.now.apart c.args.self.now.places c.args.self.now.known c.args.number
     (stands c.args.self.now.commands.items c.deref.result.now c.in-Some.place c.index-command.result.now c.args.number c.deref.ensures.value c.in-Some.ensures.within c.in-Some.ensures.some c.index-command.ensures) c.args.granted c.requires)
