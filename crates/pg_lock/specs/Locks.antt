@@ -23,6 +23,10 @@ abbrev pub is_holder : Option RefParts → RefParts → Bool
 is_holder None reference = false
 is_holder (Some holder) reference = ref_eq holder reference
 
+-- the reference of these parts
+abbrev pub of_parts : List ℕ → ℕ → List ℕ → RefParts
+of_parts node creation words = record { node = node; creation = creation; words = words }
+
 -- whether the reference of a pair is the holder of its name
 abbrev pub holds_so : Locks → (Term × RefParts) → Bool
 holds_so locks pair = is_holder (locks pair.0) pair.1

@@ -2,10 +2,10 @@ ghost use Rattle.std.specs.Prelude.{◌≡◌, length};
 ghost use Rattle.std.specs.List.Sorted.{IsSearchInRange};
 ghost use Rattle.pg_term.specs.Same.{term_cmp};
 ghost use Rattle.pg_lock.specs.Holders.{AreSorted, IsPlace};
-ghost use Rattle.pg_lock.specs.Locks.{is_holder};
+ghost use Rattle.pg_lock.specs.Locks.{is_holder, of_parts};
 ghost use Rattle.std.specs.Option.{option_copied};
 
-use pg_term::{Reference, Term};
+use pg_term::{Atom, Reference, Term};
 use std::cmp::Ordering;
 
 /// A name and the holder of its lock.
@@ -34,6 +34,18 @@ pub fn is_held_by(holder: Option<&Reference>, reference: &Reference) -> bool
 {
     match holder {
         Some(holder) => holder == reference,
+        None => false,
+    }
+}
+
+/// Whether the reference of these parts is the holder of a name that is held so.
+pub fn has_parts(holder: Option<&Reference>, node: &Atom, creation: u32, words: &[u32]) -> bool
+    ensures { result ≡ is_holder (option_copied holder.entry) (of_parts node.now creation words.now) }
+{
+    match holder {
+        Some(holder) => {
+            holder.node() == node && holder.creation() == creation && holder.words() == words
+        }
         None => false,
     }
 }

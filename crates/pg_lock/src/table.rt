@@ -8,7 +8,7 @@ ghost use Rattle.std.specs.Option.{option_copied, is_some};
 ghost use Rattle.pg_term.specs.Same.{term_cmp};
 ghost use Rattle.pg_lock.specs.Holders.{AreSorted, AreApart, IsPlace, IsWithin};
 
-use crate::holders::{Holder, is_held_by, place_among};
+use crate::holders::{Holder, has_parts, is_held_by, place_among};
 use pg_term::{Atom, Reference, Term};
 use std::alloc::{AllocError, Global};
 use std::collections::BTreeMap;
@@ -29,7 +29,7 @@ pub struct LockTable {
 
 impl LockTable {
     ghost use Rattle.pg_lock.specs.Locks.{locks_of, held, grants, after_ask, given_up};
-    ghost use Rattle.pg_lock.specs.Locks.{is_free, is_holder, holds_so, without_node};
+    ghost use Rattle.pg_lock.specs.Locks.{is_holder, of_parts, holds_so, without_node};
 
     /// No name has a holder.
     ///
@@ -91,10 +91,7 @@ impl LockTable {
         ensures err { OnErr result (locks_of self.new ≡ locks_of self.old) }
         ensures denied { grants formed (locks_of self.old) name.now ≡ false → result ≡ Ok false }
     {
-        if !formed {
-            return Ok(false);
-        }
-        let Some(gap) = self.gap_of(name) else {
+        let Some(gap) = self.gap_of(formed, name) else {
             return Ok(false);
         };
         let holder = reference.copy()?;
@@ -103,13 +100,41 @@ impl LockTable {
         Ok(true)
     }
 
-    /// The place for a name among the sorted, where it has no holder.
-    fn gap_of(&self, name: &Term) -> Option<usize>
-        ensures free { is_some result ≡ is_free (locks_of self.now name.now) }
+    /// Asks as `ask` does, with a reference that is moved in where it is granted, and else let go.
+    ///
+    /// Errors: `AllocError`, which changes nothing; only for a lock that would be granted.
+    ///
+    /// Cost: that of `ask` without the copy of the reference.
+    pub fn ask_moved(
+        &mut self,
+        formed: bool,
+        name: &Term,
+        reference: Reference,
+    ) -> Result<bool, AllocError>
+        ensures granted { IfOk result (λ granted. granted ≡ grants formed (locks_of self.old) name.now) }
+        ensures after { IfOk result (λ granted. locks_of self.new
+            ≡ after_ask granted (locks_of self.old) name.now reference) }
+        ensures err { OnErr result (locks_of self.new ≡ locks_of self.old) }
+        ensures denied { grants formed (locks_of self.old) name.now ≡ false → result ≡ Ok false }
+    {
+        let Some(gap) = self.gap_of(formed, name) else {
+            return Ok(false);
+        };
+        let name = name.copy(self.alloc)?;
+        self.put(gap, name, reference)?;
+        Ok(true)
+    }
+
+    /// The place for a name among the sorted, where its lock would be granted.
+    fn gap_of(&self, formed: bool, name: &Term) -> Option<usize>
+        ensures granted { is_some result ≡ grants formed (locks_of self.now) name.now }
         ensures bound { IfSome result (λ gap. gap ≤ length self.now.sorted.items) }
         ensures place { IfSome result (λ gap. IsPlace self.now.sorted.items name.now (Err gap)) }
         ensures beyond { IsSome result → get term_cmp self.now.beyond name.now ≡ None }
     {
+        if !formed {
+            return None;
+        }
         let Err(gap) = self.place_of(name) else {
             return None;
         };
@@ -151,14 +176,29 @@ impl LockTable {
         ensures { locks_of self.new
             ≡ given_up (is_holder (locks_of self.old name.now) reference.now) (locks_of self.old) name.now }
     {
+        self.give_up_by(
+            name,
+            reference.node(),
+            reference.creation(),
+            reference.words(),
+        );
+    }
+
+    /// Frees a name where the reference of these parts is its holder, as `give_up` does: that reference is not needed.
+    ///
+    /// Cost: that of `give_up`.
+    pub fn give_up_by(&mut self, name: &Term, node: &Atom, creation: u32, words: &[u32])
+        ensures { locks_of self.new
+            ≡ given_up (is_holder (locks_of self.old name.now) (of_parts node.now creation words.now)) (locks_of self.old) name.now }
+    {
         match self.place_of(name) {
             Ok(place) => {
-                if is_held_by(Some(&self.sorted[place].1), reference) {
+                if has_parts(Some(&self.sorted[place].1), node, creation, words) {
                     drop(self.sorted.remove(place));
                 }
             }
             Err(_) => {
-                if is_held_by(self.beyond.get(name), reference) {
+                if has_parts(self.beyond.get(name), node, creation, words) {
                     drop(self.beyond.remove(name));
                 }
             }
