@@ -1,19 +1,22 @@
 -- The packets to the peers that are marked, and the marks of peers.
 use Rattle.std.proofs.Common.{◌≡◌, ◌⊎◌, inl, inr, ℕ, zero, suc, ◌+◌, ◌<◌, ◌≤◌, Bool, true, false, ◌&&◌, ◌||◌, cond}
-use Rattle.std.proofs.Common.{get_or, length, List, [], ◌∷◌, ◌++◌, refl, sym, ap, ◌∙◌, arith, append_assoc, not, subst}
+use Rattle.std.proofs.Common.{get_or, nat_eq, length, List, [], ◌∷◌, ◌++◌, refl, sym, ap, ◌∙◌, arith, append_assoc, not, subst}
 use Rattle.std.specs.List.{IsDistinct, list_any}
 use Rattle.std.proofs.Math.Path.{fun_ext}
 use Rattle.std.proofs.Math.Nat.{eq-or-lt_of_le}
-use Rattle.std.proofs.lemmas.List.{get_or_push, get_or_append_left}
+use Rattle.std.proofs.lemmas.Bool.{eq-eqb, ne_eqb}
+use Rattle.std.proofs.lemmas.List.{get_or_push, get_or_append_left, length_push}
 use Rattle.pg_term.specs.Same.{same_atom}
 use Rattle.pg_message.specs.declared.message.Message.{Message}
 use Rattle.pg_message.specs.declared.packet.Packet.{Packet}
 use Rattle.pg_machine.specs.Clocked.{Stamped, stamped}
+use Rattle.pg_multicall.specs.Places.{has_of}
+use Rattle.pg_multicall.specs.declared.places.Places.{Places}
 use Rattle.pg_step.specs.Nodes.{Node, is_peer}
 use Rattle.pg_opens.specs.Places.{name_at, lost_in, left_in}
 use Rattle.pg_opens.proofs.Named.{atom_self, atom_other, names_differ, reads_at}
 use Rattle.pg_opens.proofs.Named.{reads_nobody, place_cases, any_filtered}
-use Rattle.pg_node_state.specs.Ports.{merged_in}
+use Rattle.pg_node_state.specs.Ports.{merged_in, marks_of}
 use Rattle.pg_node_state.specs.States.{stamped_of, sends_in}
 
 next : (k : ℕ) → k + 1 ≡ suc k
@@ -170,42 +173,72 @@ all_sent (own ∷ peers) clock message goes apart same = fun_ext (marked_sent ow
 
 -- ---- the marks of peers
 
--- of each peer at a place below this one the mark is the answer of a test
-abbrev pub AreMarks : (Node → Bool) → List Node → List Bool → ℕ → Type 0
-AreMarks test names marks place = (k : ℕ) → k + 1 < place → get_or marks k false ≡ test (name_at names (k + 1))
+pub length_marks : (goes : Places) (n : ℕ) → length (marks_of goes n) ≡ n
+length_marks goes zero = refl
+length_marks goes (suc n) = length_push (marks_of goes n) (has_of goes n) ∙ (ap (λ m. m + 1) (length_marks goes n) ∙ next n)
 
-pub no_marks : (test : Node → Bool) (names : List Node) (marks : List Bool) → AreMarks test names marks 1
-no_marks test names marks k l = absurd (nowhere k l)
+pub mark_at : (goes : Places) (n k : ℕ) → k < n → get_or (marks_of goes n) k false ≡ has_of goes k
+mark_at goes zero k l = absurd (nowhere k l)
+  where
+    nowhere : (k : ℕ) → k < zero → ⊥
+    nowhere k l = omega arith
+mark_at goes (suc n) k l = go (mark_at goes n k) (eq-or-lt_of_le (at_most k n l))
+  where
+    at_most : (k n : ℕ) → k < suc n → k ≤ n
+    at_most k n l = omega arith
+
+    before : (k n m : ℕ) → m ≡ n → k < n → k < m
+    before k n m e h = omega arith
+
+    go : (k < n → get_or (marks_of goes n) k false ≡ has_of goes k) → (k ≡ n) ⊎ (k < n) → get_or (marks_of goes n ++ has_of goes n ∷ []) k false ≡ has_of goes k
+    go earlier (inl e) = get_or_push (marks_of goes n) (has_of goes n) false k (length_marks goes n ∙ sym e) ∙ ap (has_of goes) (sym e)
+    go earlier (inr h) = get_or_append_left (marks_of goes n) (has_of goes n ∷ []) false k (before k n (length (marks_of goes n)) (length_marks goes n) h) ∙ earlier h
+
+-- one more place was looked at
+pub sent_more : (clock : ℕ) (message : Message) (goes : Places) (peers n : ℕ) (b : Bool) (sends : List (ℕ × Packet)) → n < peers → b ≡ has_of goes n
+    → sends ≡ sent_below clock message (marks_of goes peers) n
+    → sends ++ cond b ((n, record { stamp = clock; message = message }) ∷ []) [] ≡ sent_below clock message (marks_of goes peers) (n + 1)
+sent_more clock message goes peers n b sends l is before =
+    (λ i. before i ++ cond ((is ∙ sym (mark_at goes peers n l)) i) ((n, record { stamp = clock; message = message }) ∷ []) [])
+    ∙ sym (sent_next clock message (marks_of goes peers) n)
+
+-- of each peer at a place below this one it is marked where it passes a test
+abbrev pub AreMarks : (Node → Bool) → List Node → Places → ℕ → Type 0
+AreMarks test names goes place = (k : ℕ) → k + 1 < place → has_of goes k ≡ test (name_at names (k + 1))
+
+pub no_marks : (test : Node → Bool) (names : List Node) (goes : Places) → AreMarks test names goes 1
+no_marks test names goes k l = absurd (nowhere k l)
   where
     nowhere : (k : ℕ) → k + 1 < 1 → ⊥
     nowhere k l = omega arith
 
-pub one_mark : (test : Node → Bool) (names : List Node) (marks : List Bool) (place : ℕ) (b : Bool) → length marks + 1 ≡ place → b ≡ test (name_at names place)
-    → AreMarks test names marks place → AreMarks test names (marks ++ b ∷ []) (place + 1)
-one_mark test names marks place b count is each k l = go (eq-or-lt_of_le (at_most k place l))
+pub one_mark : (test : Node → Bool) (names : List Node) (old new : Places) (peer place : ℕ) (b : Bool) → peer + 1 ≡ place → b ≡ test (name_at names place)
+    → ((other : ℕ) → has_of new other ≡ cond (nat_eq peer other) b (has_of old other)) → AreMarks test names old place → AreMarks test names new (place + 1)
+one_mark test names old new peer place b here is marked each k l = go (eq-or-lt_of_le (at_most k place l))
   where
     at_most : (k n : ℕ) → k + 1 < n + 1 → k + 1 ≤ n
     at_most k n l = omega arith
 
-    last : (a k n : ℕ) → a + 1 ≡ n → k + 1 ≡ n → a ≡ k
-    last a k n e f = omega arith
+    last : (p k n : ℕ) → p + 1 ≡ n → k + 1 ≡ n → p ≡ k
+    last p k n e f = omega arith
 
-    before : (a k n : ℕ) → a + 1 ≡ n → k + 1 < n → k < a
-    before a k n e h = omega arith
+    other : (p k n : ℕ) → p + 1 ≡ n → k + 1 < n → p ≡ k → ⊥
+    other p k n e h f = omega arith
 
-    go : (k + 1 ≡ place) ⊎ (k + 1 < place) → get_or (marks ++ b ∷ []) k false ≡ test (name_at names (k + 1))
-    go (inl e) = get_or_push marks b false k (last (length marks) k place count e) ∙ (is ∙ ap (λ n. test (name_at names n)) (sym e))
-    go (inr h) = get_or_append_left marks (b ∷ []) false k (before (length marks) k place count h) ∙ each k h
+    go : (k + 1 ≡ place) ⊎ (k + 1 < place) → has_of new k ≡ test (name_at names (k + 1))
+    go (inl e) = marked k ∙ (ap (λ c. cond c b (has_of old k)) (eq-eqb peer k (last peer k place here e)) ∙ (is ∙ ap (λ n. test (name_at names n)) (sym e)))
+    go (inr h) = marked k ∙ (ap (λ c. cond c b (has_of old k)) (ne_eqb peer k (other peer k place here h)) ∙ each k h)
 
 -- the marked are the peers that count and pass a test
-pub marks_say : (names : List Node) (lost : List Bool) (test : Node → Bool) (marks : List Bool) (place : ℕ) → IsDistinct same_atom names → length marks + 1 ≡ length names → length names ≤ place
-    → AreMarks (λ q. is_peer (left_in names lost) q && test q) names marks place → (q : Node) → merged_in names marks q ≡ (is_peer (left_in names lost) q && test q)
+pub marks_say : (names : List Node) (lost : List Bool) (test : Node → Bool) (goes : Places) (place : ℕ) → IsDistinct same_atom names → length names ≤ place
+    → AreMarks (λ q. is_peer (left_in names lost) q && test q) names goes place → (n : ℕ) → n + 1 ≡ length names → (q : Node)
+    → merged_in names (marks_of goes n) q ≡ (is_peer (left_in names lost) q && test q)
 unfolding IsDistinct
-marks_say [] lost test marks place apart same within each q = absurd (none (length marks) same)
+marks_say [] lost test goes place apart within each n same q = absurd (none n same)
   where
     none : (a : ℕ) → a + 1 ≡ zero → ⊥
     none a e = omega arith
-marks_say (own ∷ peers) lost test marks place apart same within each q = go (place_cases peers q)
+marks_say (own ∷ peers) lost test goes place apart within each n same q = go (place_cases peers q)
   where
     names : List Node
     names = own ∷ peers
@@ -215,6 +248,9 @@ marks_say (own ∷ peers) lost test marks place apart same within each q = go (p
 
     shorter : (a b : ℕ) → a + 1 ≡ suc b → a ≡ b
     shorter a b e = omega arith
+
+    sooner : (k m n : ℕ) → k < m → n + 1 ≡ suc m → k < n
+    sooner k m n l e = omega arith
 
     nearer : (k n p : ℕ) → k < n → suc n ≤ p → k + 1 < p
     nearer k n p l h = omega arith
@@ -229,9 +265,10 @@ marks_say (own ∷ peers) lost test marks place apart same within each q = go (p
         both false false c e h = h e
 
     go : ((k : ℕ) × (k < length peers) × (q ≡ name_at peers k)) ⊎ (list_any (same_atom q) peers ≡ false)
-        → merged_in names marks q ≡ (is_peer (left_in names lost) q && test q)
-    go (inl r) = subst (λ (p : Node). merged_in names marks p ≡ (is_peer (left_in names lost) p && test p)) (sym r.2)
-        (reads_at (λ mark. mark) false peers marks r.0 false apart.1 (shorter (length marks) (length peers) same) r.1
-        ∙ (each r.0 (nearer r.0 (length peers) place r.1 within) ∙ ap (λ n. is_peer (left_in names lost) (name_at names n) && test (name_at names n)) (next r.0)))
-    go (inr e) = reads_nobody (λ mark. mark) false peers marks q e
+        → merged_in names (marks_of goes n) q ≡ (is_peer (left_in names lost) q && test q)
+    go (inl r) = subst (λ (p : Node). merged_in names (marks_of goes n) p ≡ (is_peer (left_in names lost) p && test p)) (sym r.2)
+        (reads_at (λ mark. mark) false peers (marks_of goes n) r.0 false apart.1 (length_marks goes n ∙ shorter n (length peers) same) r.1
+        ∙ (mark_at goes n r.0 (sooner r.0 (length peers) n r.1 same)
+        ∙ (each r.0 (nearer r.0 (length peers) place r.1 within) ∙ ap (λ n. is_peer (left_in names lost) (name_at names n) && test (name_at names n)) (next r.0))))
+    go (inr e) = reads_nobody (λ mark. mark) false peers (marks_of goes n) q e
         ∙ ap (λ b. b && test q) (sym (any_filtered counts (same_atom q) peers ∙ nobody peers e))

@@ -1,8 +1,10 @@
 -- What a node keeps of its peers and of its ports, by their places.
-use Rattle.std.specs.Prelude.{◌≡◌, ◌<◌, ◌≤◌, ℕ, zero, suc, Bool, true, false, drop, List, [], ◌∷◌, Option, Some, None}
+use Rattle.std.specs.Prelude.{◌≡◌, ◌<◌, ◌≤◌, ℕ, zero, suc, Bool, true, false, drop, List, [], ◌∷◌, ◌++◌, Option, Some, None}
 use Rattle.pg_group.specs.declared.update.Update.{Update}
 use Rattle.pg_group.specs.Value.{name_of}
 use Rattle.pg_message.specs.Name.{is_name}
+use Rattle.pg_multicall.specs.Places.{has_of}
+use Rattle.pg_multicall.specs.declared.places.Places.{Places}
 use Rattle.pg_opens.specs.Places.{reads}
 use Rattle.pg_step.specs.declared.answer.Answer.{Answer}
 use Rattle.pg_step.specs.declared.command.OpId.{OpId}
@@ -15,6 +17,11 @@ use Rattle.pg_node_state.specs.declared.state.port.Port.{Port}
 -- the peers whose exchange was taken, by the marks of the peers
 abbrev pub merged_in : List Node → List Bool → Node → Bool
 merged_in names marks = reads (λ mark. mark) false (drop 1 names) marks
+
+-- the marks of so many peers, of which these are marked
+abbrev pub marks_of : Places → ℕ → List Bool
+marks_of places zero = []
+marks_of places (suc n) = marks_of places n ++ has_of places n ∷ []
 
 -- for each port how many commands came in there
 abbrev pub counts_in : List Port → ℕ → ℕ

@@ -13,7 +13,7 @@ ghost use Rattle.pg_step.specs.Attempts.{asks, is_yes};
 ghost use Rattle.pg_opens.specs.Opens.{names_of, left_of, uses_of};
 ghost use Rattle.pg_opens.specs.Places.{name_at};
 ghost use Rattle.pg_opens.specs.Readings.{is_locking};
-ghost use Rattle.pg_node_state.specs.Ports.{merged_in};
+ghost use Rattle.pg_node_state.specs.Ports.{merged_in, marks_of};
 ghost use Rattle.pg_node_state.specs.Orders.{message_of};
 ghost use Rattle.pg_node_state.specs.States.{sends_in};
 ghost use Rattle.pg_node_state.specs.Sendable.{AreSendable};
@@ -22,6 +22,7 @@ ghost use Rattle.pg_message.specs.declared.packet.TheConstants.{MAX_STAMP};
 
 use crate::state::orders::Order;
 use pg_message::Packet;
+use pg_multicall::Places;
 use pg_opens::{Asked, Opens};
 use std::alloc::{AllocError, Global};
 
@@ -40,8 +41,8 @@ pub(crate) fn to_left(
         ≡ (λ q. stamped clock (to_peers (left_of opens.now) (λ q. true) (message_of order.entry) q))) }
     ensures fits { IfOk result (λ sends. AreSendable (names_of opens.now) sends.items) }
 {
-    let goes = left_peers(alloc, opens)?;
-    to_marked(alloc, clock, order, &goes)
+    let goes = left_peers(opens);
+    to_marked(alloc, clock, order, goes, peer_count(opens))
 }
 
 /// A copy of a packet to each live peer. Its cost grows with the peers and the packet.
@@ -55,8 +56,8 @@ pub(crate) fn copies_to_left(
     ensures { IfOk result (λ sends. sends_in (names_of opens.now) sends.items
         ≡ (λ q. stamped packet.now.stamp (to_peers (left_of opens.now) (λ q. true) packet.now.message q))) }
 {
-    let goes = left_peers(alloc, opens)?;
-    copies_to_marked(alloc, packet, &goes)
+    let goes = left_peers(opens);
+    copies_to_marked(alloc, packet, goes, peer_count(opens))
 }
 
 /// An order to each peer that is asked for the lock under the reference of this number, where all are: it counts and was not
@@ -79,8 +80,8 @@ pub(crate) fn to_asked(
         ≡ (λ q. stamped clock (to_peers (left_of opens.now) (asks (λ q. true) st) (message_of order.entry) q))) }
     ensures fits { IfOk result (λ sends. AreSendable (names_of opens.now) sends.items) }
 {
-    let goes = asked_peers(alloc, opens, number)?;
-    to_marked(alloc, clock, order, &goes)
+    let goes = asked_peers(opens, number);
+    to_marked(alloc, clock, order, goes, peer_count(opens))
 }
 
 /// An order to each live peer and has granted the lock that is asked for under the reference of this number.
@@ -102,8 +103,8 @@ pub(crate) fn to_granted(
         ≡ (λ q. stamped clock (to_peers (left_of opens.now) (λ q. is_yes (st q)) (message_of order.entry) q))) }
     ensures fits { IfOk result (λ sends. AreSendable (names_of opens.now) sends.items) }
 {
-    let goes = granted_peers(alloc, opens, number)?;
-    to_marked(alloc, clock, order, &goes)
+    let goes = granted_peers(opens, number);
+    to_marked(alloc, clock, order, goes, peer_count(opens))
 }
 
 /// An order to the node at a place, by the names, which is a peer.
@@ -132,23 +133,25 @@ pub(crate) fn to_place(
     Ok(sends)
 }
 
-/// An order to each peer that is marked, in the order of the peers. `goes`: the marks of the peers.
+/// An order to each peer that is marked, in the order of the peers. `goes`: who is marked, by the places of so many peers.
+/// It takes no memory where nobody is, else that of the list once.
 fn to_marked(
     alloc: Global,
     clock: u32,
     order: Order<'_>,
-    goes: &[bool],
+    goes: Places,
+    peers: usize,
 ) -> Result<Vec<(usize, Packet)>, AllocError>
     requires within { clock ≤ MAX_STAMP }
     requires named { is_sayable (message_of order) ≡ true }
-    ensures sends { (names : List Node) → IsDistinct same_atom names → length goes.now + 1 ≡ length names
+    ensures sends { (names : List Node) → IsDistinct same_atom names → peers + 1 ≡ length names
         → IfOk result (λ sends. sends_in names sends.items
-        ≡ (λ q. stamped clock (cond (merged_in names goes.now q) (message_of order.entry ∷ []) []))) }
-    ensures fits { (names : List Node) → length goes.now + 1 ≡ length names → IfOk result (λ sends. AreSendable names sends.items) }
+        ≡ (λ q. stamped clock (cond (merged_in names (marks_of goes peers) q) (message_of order.entry ∷ []) []))) }
+    ensures fits { (names : List Node) → peers + 1 ≡ length names → IfOk result (λ sends. AreSendable names sends.items) }
 {
-    let mut sends = Vec::new(alloc);
-    for peer in 0..goes.len() {
-        if goes[peer] {
+    let mut sends = room_for(alloc, goes, peers)?;
+    for peer in 0..peers {
+        if goes.has(peer) {
             let message = order.message(alloc)?;
             let packet = Packet {
                 stamp: clock,
@@ -160,66 +163,87 @@ fn to_marked(
     Ok(sends)
 }
 
-/// A copy of a packet to each peer that is marked, in the order of the peers. `goes`: the marks of the peers.
+/// A copy of a packet to each peer that is marked, in the order of the peers. `goes`: who is marked, by the places of so
+/// many peers.
 fn copies_to_marked(
     alloc: Global,
     packet: &Packet,
-    goes: &[bool],
+    goes: Places,
+    peers: usize,
 ) -> Result<Vec<(usize, Packet)>, AllocError>
-    ensures { (names : List Node) → IsDistinct same_atom names → length goes.now + 1 ≡ length names
+    ensures { (names : List Node) → IsDistinct same_atom names → peers + 1 ≡ length names
         → IfOk result (λ sends. sends_in names sends.items
-        ≡ (λ q. stamped packet.now.stamp (cond (merged_in names goes.now q) (packet.now.message ∷ []) []))) }
+        ≡ (λ q. stamped packet.now.stamp (cond (merged_in names (marks_of goes peers) q) (packet.now.message ∷ []) []))) }
 {
-    let mut sends = Vec::new(alloc);
-    for peer in 0..goes.len() {
-        if goes[peer] {
+    let mut sends = room_for(alloc, goes, peers)?;
+    for peer in 0..peers {
+        if goes.has(peer) {
             sends.push((peer, packet.copy(alloc)?))?;
         }
     }
     Ok(sends)
 }
 
-/// Of each peer whether it counts.
-fn left_peers(alloc: Global, opens: &Opens) -> Result<Vec<bool>, AllocError>
-    ensures len { IfOk result (λ goes. length goes.items + 1 ≡ length (names_of opens.now)) }
-    ensures marks { IfOk result (λ goes. (q : Node) → merged_in (names_of opens.now) goes.items q
-        ≡ (is_peer (left_of opens.now) q && true)) }
+/// An empty list: with room for a packet to each peer, where one is marked.
+fn room_for(alloc: Global, goes: Places, peers: usize) -> Result<Vec<(usize, Packet)>, AllocError>
+    ensures { IfOk result (λ sends. sends.items ≡ []) }
 {
-    let mut goes = Vec::with_capacity(alloc, opens.node_count())?;
-    for place in 1..opens.node_count() {
-        goes.push(opens.is_left(place))?;
+    if goes == Places::none() {
+        return Ok(Vec::new(alloc));
     }
-    Ok(goes)
+    Vec::with_capacity(alloc, peers)
 }
 
-/// Of each peer whether it is asked, where all are.
-fn asked_peers(alloc: Global, opens: &Opens, number: u32) -> Result<Vec<bool>, AllocError>
-    requires locking { is_locking (uses_of opens.now number) ≡ true }
-    ensures len { IfOk result (λ goes. length goes.items + 1 ≡ length (names_of opens.now)) }
-    ensures marks { (op : OpId) (update : Update) (first : Node) (st : Node → Status)
-        → uses_of opens.now number ≡ Locking op update first st
-        → IfOk result (λ goes. (q : Node) → merged_in (names_of opens.now) goes.items q
-        ≡ (is_peer (left_of opens.now) q && asks (λ q. true) st q)) }
+/// How many peers there are, the lost ones too. It takes no memory.
+fn peer_count(opens: &Opens) -> usize
+    ensures { result + 1 ≡ length (names_of opens.now) }
 {
-    let mut goes = Vec::with_capacity(alloc, opens.node_count())?;
-    for place in 1..opens.node_count() {
-        goes.push(opens.is_asked_by(number, Asked::All, place))?;
-    }
-    Ok(goes)
+    opens.node_count() - 1
 }
 
-/// Of each peer whether it counts and has granted.
-fn granted_peers(alloc: Global, opens: &Opens, number: u32) -> Result<Vec<bool>, AllocError>
-    requires locking { is_locking (uses_of opens.now number) ≡ true }
-    ensures len { IfOk result (λ goes. length goes.items + 1 ≡ length (names_of opens.now)) }
-    ensures marks { (op : OpId) (update : Update) (first : Node) (st : Node → Status)
-        → uses_of opens.now number ≡ Locking op update first st
-        → IfOk result (λ goes. (q : Node) → merged_in (names_of opens.now) goes.items q
-        ≡ (is_peer (left_of opens.now) q && is_yes (st q))) }
+/// The peers that count, by their places among the peers. It takes no memory.
+fn left_peers(opens: &Opens) -> Places
+    ensures { (peers : ℕ) → peers + 1 ≡ length (names_of opens.now)
+        → (q : Node) → merged_in (names_of opens.now) (marks_of result peers) q
+        ≡ (is_peer (left_of opens.now) q && true) }
 {
-    let mut goes = Vec::with_capacity(alloc, opens.node_count())?;
+    let mut goes = Places::none();
     for place in 1..opens.node_count() {
-        goes.push(opens.is_left(place) && opens.has_granted(number, place))?;
+        goes = goes.with_or_without(place - 1, opens.is_left(place));
     }
-    Ok(goes)
+    goes
+}
+
+/// The peers that are asked, where all are, by their places among the peers. It takes no memory.
+fn asked_peers(opens: &Opens, number: u32) -> Places
+    requires locking { is_locking (uses_of opens.now number) ≡ true }
+    ensures { (op : OpId) (update : Update) (first : Node) (st : Node → Status)
+        → uses_of opens.now number ≡ Locking op update first st
+        → (peers : ℕ) → peers + 1 ≡ length (names_of opens.now)
+        → (q : Node) → merged_in (names_of opens.now) (marks_of result peers) q
+        ≡ (is_peer (left_of opens.now) q && asks (λ q. true) st q) }
+{
+    let mut goes = Places::none();
+    for place in 1..opens.node_count() {
+        let asks = opens.is_asked_by(number, Asked::All, place);
+        goes = goes.with_or_without(place - 1, asks);
+    }
+    goes
+}
+
+/// The peers that count and have granted, by their places among the peers. It takes no memory.
+fn granted_peers(opens: &Opens, number: u32) -> Places
+    requires locking { is_locking (uses_of opens.now number) ≡ true }
+    ensures { (op : OpId) (update : Update) (first : Node) (st : Node → Status)
+        → uses_of opens.now number ≡ Locking op update first st
+        → (peers : ℕ) → peers + 1 ≡ length (names_of opens.now)
+        → (q : Node) → merged_in (names_of opens.now) (marks_of result peers) q
+        ≡ (is_peer (left_of opens.now) q && is_yes (st q)) }
+{
+    let mut goes = Places::none();
+    for place in 1..opens.node_count() {
+        let granted = opens.is_left(place) & opens.has_granted(number, place);
+        goes = goes.with_or_without(place - 1, granted);
+    }
+    goes
 }

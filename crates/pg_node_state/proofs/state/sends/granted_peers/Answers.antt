@@ -1,13 +1,18 @@
-use Rattle.std.proofs.Common.{◌≡◌, ◌≤◌, ◌+◌, length, arith}
+use Rattle.std.proofs.Common.{◌≤◌, ◌-◌, ◌&&◌, length, arith}
 use Rattle.pg_step.specs.Attempts.{is_yes}
-use Rattle.pg_opens.specs.Opens.{names_of}
-use Rattle.pg_node_state.proofs.Sent.{marks_say}
+use Rattle.pg_step.specs.Nodes.{is_peer}
+use Rattle.pg_opens.specs.Opens.{names_of, left_of}
+use Rattle.pg_node_state.proofs.Sent.{marks_say, one_mark}
 use Rattle.pg_node_state.proofs.state.sends.granted_peers.Goals as goal
 
-pub returns-clause-marks : goal.returns-clause-marks
-returns-clause-marks c =
+pub returns : goal.returns
+returns c =
     let opens = c.args.opens.now in
-    let goes = c.loop-place.goes.items in
-    let same : length goes + 1 ≡ length (names_of opens) = omega (arith, opens.places.some, c.loop-place.invariant.count, c.node_count-place-end.ensures, c.loop-place.auto.place-end, c.loop-place-test.false) in
     let within : length (names_of opens) ≤ c.loop-place.place = omega (arith, c.node_count-place-end.ensures, c.loop-place-test.false) in
-    λ op update first st is q. marks_say (names_of opens) opens.lost.items (λ q. is_yes (st q)) goes c.loop-place.place opens.apart same within (c.loop-place.invariant.each op update first st is) q
+    λ op update first st is. marks_say (names_of opens) opens.lost.items (λ q. is_yes (st q)) c.loop-place.goes c.loop-place.place opens.apart within (c.loop-place.invariant op update first st is)
+
+pub loop-place-preserved : goal.loop-place-preserved
+loop-place-preserved c = λ op update first st is.
+    let opens = c.args.opens.now in
+    one_mark (λ q. is_peer (left_of opens) q && is_yes (st q)) (names_of opens) c.loop-place.goes c.with_or_without-goes.result (c.loop-place.place - 1) c.loop-place.place (c.is_left.result && c.has_granted.result)
+    (omega (arith, c.loop-place.auto.place)) (λ i. c.is_left.ensures i && c.has_granted.ensures op update first st is i) c.with_or_without-goes.ensures (c.loop-place.invariant op update first st is)

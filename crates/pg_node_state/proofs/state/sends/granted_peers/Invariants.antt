@@ -1,4 +1,4 @@
-use Rattle.std.proofs.Common.{◌≡◌, ◌&&◌, ◌+◌, length}
+use Rattle.std.proofs.Common.{◌≡◌, ◌&&◌}
 use Rattle.pg_group.specs.declared.update.Update.{Update}
 use Rattle.pg_step.specs.declared.command.OpId.{OpId}
 use Rattle.pg_step.specs.Nodes.{Node, is_peer}
@@ -10,8 +10,5 @@ use Rattle.pg_node_state.proofs.Sent.{AreMarks}
 use Rattle.pg_node_state.proofs.state.sends.granted_peers.Given as goal
 
 abbrev pub invariant-loop-place : goal.invariant-loop-place
-invariant-loop-place l = record {
-  count : length l.goes.items + 1 ≡ l.place;
-  each : (op : OpId) (update : Update) (first : Node) (st : Node → Status) → uses_of l.opens l.number ≡ Locking op update first st
-      → AreMarks (λ q. is_peer (left_of l.opens) q && is_yes (st q)) (names_of l.opens) l.goes.items l.place;
-}
+invariant-loop-place l = (op : OpId) (update : Update) (first : Node) (st : Node → Status) → uses_of l.opens l.number ≡ Locking op update first st
+    → AreMarks (λ q. is_peer (left_of l.opens) q && is_yes (st q)) (names_of l.opens) l.goes l.place
