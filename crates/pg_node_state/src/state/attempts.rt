@@ -17,6 +17,7 @@ use crate::state::calls::has_peer;
 use crate::state::first::{
     all_asked, ask_first, began_alone, end_alone, first_asked, waiting_under,
 };
+use crate::state::orders::own_under;
 use crate::state::own::ask_own;
 use crate::state::port::{keep_reserved, reserve_answer};
 use crate::state::{Done, NodeState};
@@ -84,11 +85,11 @@ impl<T: GroupTable + Drop> NodeState<T> {
         ensures ports { ports_of self.new ≡ ports_of self.old }
         ensures fits { IfOk result (λ done. AreSendable (names_of self.old) done.sends.items) }
     {
-        let calls = first_asked(self.alloc, clock, &self.opens, op, first)?;
+        let done = first_asked(self.alloc, clock, &self.opens, op, first)?;
         let granted = self.would_grant_to(op);
         ask_first(&mut self.opens, op, first, granted);
         self.clock = clock;
-        Ok(calls.done)
+        Ok(done)
     }
 
     /// The own node is the greatest, and denies the lock: the command waits.
@@ -133,19 +134,20 @@ impl<T: GroupTable + Drop> NodeState<T> {
         ensures ports { ports_of self.new ≡ ports_of self.old }
         ensures fits { IfOk result (λ done. AreSendable (names_of self.old) done.sends.items) }
     {
-        let calls = all_asked(self.alloc, clock, &self.opens, op)?;
+        let done = all_asked(self.alloc, clock, &self.opens, op)?;
         let number = self.opens.references() + 1;
         let name = waiting_under(&self.opens, op).name();
-        match ask_own(&mut self.locks, true, name, &calls.lock) {
+        let lock = own_under(&self.opens, number);
+        match ask_own(&mut self.locks, true, name, lock) {
             Ok(()) => {
                 ask_first(&mut self.opens, op, 0, true);
                 // The own node was asked, so that it does not matter what it would answer now: it holds the lock.
                 self.opens.ask(number, Asked::All, false);
                 self.clock = clock;
-                Ok(calls.done)
+                Ok(done)
             }
             Err(fault) => {
-                drop(calls);
+                drop(done);
                 Err(fault)
             }
         }

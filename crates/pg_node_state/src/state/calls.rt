@@ -19,22 +19,13 @@ ghost use Rattle.pg_message.specs.Name.{is_name};
 ghost use Rattle.pg_message.specs.declared.packet.TheConstants.{MAX_STAMP};
 
 use crate::state::Done;
-use crate::state::orders::Order;
+use crate::state::orders::{Order, own_under};
 use crate::state::sends::{to_asked, to_granted, to_left};
 use pg_group::Update;
 use pg_message::Packet;
 use pg_opens::Opens;
-use pg_refs::reference_of;
 use pg_step::OpId;
-use pg_term::Reference;
 use std::alloc::{AllocError, Global};
-
-/// What a turn sends and reports, and the reference that holds or asks for the lock.
-#[derive(Drop)]
-pub(crate) struct Calls {
-    pub(crate) done: Done,
-    pub(crate) lock: Reference,
-}
 
 /// An attempt is given up: each peer that granted frees the lock.
 ///
@@ -44,23 +35,21 @@ pub(crate) fn freed(
     clock: u32,
     opens: &Opens,
     number: u32,
-) -> Result<Calls, AllocError>
+) -> Result<Done, AllocError>
     requires locking { is_locking (uses_of opens.now number) ≡ true }
     requires within { clock ≤ MAX_STAMP }
     requires named { (update : Update) → update_of (uses_of opens.now number) ≡ Some update → is_name (name_of update) ≡ true }
     ensures sends { (op : OpId) (update : Update) (first : Node) (st : Node → Status) → uses_of opens.now number ≡ Locking op update first st
-        → IfOk result (λ calls. sends_in (names_of opens.now) calls.done.sends.items ≡ (λ q. stamped clock (to_peers (left_of opens.now)
+        → IfOk result (λ done. sends_in (names_of opens.now) done.sends.items ≡ (λ q. stamped clock (to_peers (left_of opens.now)
         (λ q. is_yes (st q)) (messages.DelLock (name_of update) (own_reference (left_of opens.now) number)) q))) }
-    ensures began { IfOk result (λ calls. calls.done.began ≡ None) }
-    ensures odd { IfOk result (λ calls. calls.done.odd ≡ None) }
-    ensures lock { IfOk result (λ calls. calls.lock ≡ own_reference (left_of opens.now) number) }
-    ensures fits { IfOk result (λ calls. AreSendable (names_of opens.now) calls.done.sends.items) }
+    ensures began { IfOk result (λ done. done.began ≡ None) }
+    ensures odd { IfOk result (λ done. done.odd ≡ None) }
+    ensures fits { IfOk result (λ done. AreSendable (names_of opens.now) done.sends.items) }
 {
     let update = update_under(opens, number);
-    let lock = reference_of(opens.name(0), number)?;
-    let order = Order::Free(update.name(), &lock);
+    let order = Order::Free(update.name(), own_under(opens, number));
     let sends = to_granted(alloc, clock, order, opens, number)?;
-    Ok(made_calls(sends, None, lock))
+    Ok(done_with(sends, None))
 }
 
 /// The rest is asked for the lock.
@@ -71,23 +60,21 @@ pub(crate) fn asked(
     clock: u32,
     opens: &Opens,
     number: u32,
-) -> Result<Calls, AllocError>
+) -> Result<Done, AllocError>
     requires locking { is_locking (uses_of opens.now number) ≡ true }
     requires within { clock ≤ MAX_STAMP }
     requires named { (update : Update) → update_of (uses_of opens.now number) ≡ Some update → is_name (name_of update) ≡ true }
     ensures sends { (op : OpId) (update : Update) (first : Node) (st : Node → Status) → uses_of opens.now number ≡ Locking op update first st
-        → IfOk result (λ calls. sends_in (names_of opens.now) calls.done.sends.items ≡ (λ q. stamped clock (to_peers (left_of opens.now)
+        → IfOk result (λ done. sends_in (names_of opens.now) done.sends.items ≡ (λ q. stamped clock (to_peers (left_of opens.now)
         (asks (λ q. true) st) (messages.Call (own_reference (left_of opens.now) number) (requests.SetLock (name_of update))) q))) }
-    ensures began { IfOk result (λ calls. calls.done.began ≡ None) }
-    ensures odd { IfOk result (λ calls. calls.done.odd ≡ None) }
-    ensures lock { IfOk result (λ calls. calls.lock ≡ own_reference (left_of opens.now) number) }
-    ensures fits { IfOk result (λ calls. AreSendable (names_of opens.now) calls.done.sends.items) }
+    ensures began { IfOk result (λ done. done.began ≡ None) }
+    ensures odd { IfOk result (λ done. done.odd ≡ None) }
+    ensures fits { IfOk result (λ done. AreSendable (names_of opens.now) done.sends.items) }
 {
     let update = update_under(opens, number);
-    let lock = reference_of(opens.name(0), number)?;
-    let order = Order::Lock(update.name(), &lock);
+    let order = Order::Lock(update.name(), own_under(opens, number));
     let sends = to_asked(alloc, clock, order, opens, number)?;
-    Ok(made_calls(sends, None, lock))
+    Ok(done_with(sends, None))
 }
 
 /// The update goes to every live peer, under the next reference.
@@ -99,33 +86,23 @@ pub(crate) fn begun(
     opens: &Opens,
     number: u32,
     op: OpId,
-) -> Result<Calls, AllocError>
+) -> Result<Done, AllocError>
     requires locking { is_locking (uses_of opens.now number) ≡ true }
     requires within { clock ≤ MAX_STAMP }
     requires named { (update : Update) → update_of (uses_of opens.now number) ≡ Some update → is_name (name_of update) ≡ true }
     requires next { references_of opens.now + 1 < 2 ^ 32 }
     ensures sends { (other : OpId) (update : Update) (first : Node) (st : Node → Status) → uses_of opens.now number ≡ Locking other update first st
-        → IfOk result (λ calls. sends_in (names_of opens.now) calls.done.sends.items ≡ (λ q. stamped clock (to_peers (left_of opens.now)
+        → IfOk result (λ done. sends_in (names_of opens.now) done.sends.items ≡ (λ q. stamped clock (to_peers (left_of opens.now)
         (λ q. true) (messages.Call (own_reference (left_of opens.now) (references_of opens.now + 1)) (requests.Change update)) q))) }
-    ensures began { (update : Update) → update_of (uses_of opens.now number) ≡ Some update → IfOk result (λ calls. calls.done.began ≡ Some (op, update)) }
-    ensures odd { IfOk result (λ calls. calls.done.odd ≡ None) }
-    ensures lock { IfOk result (λ calls. calls.lock ≡ own_reference (left_of opens.now) number) }
-    ensures fits { IfOk result (λ calls. AreSendable (names_of opens.now) calls.done.sends.items) }
+    ensures began { (update : Update) → update_of (uses_of opens.now number) ≡ Some update → IfOk result (λ done. done.began ≡ Some (op, update)) }
+    ensures odd { IfOk result (λ done. done.odd ≡ None) }
+    ensures fits { IfOk result (λ done. AreSendable (names_of opens.now) done.sends.items) }
 {
     let update = update_under(opens, number);
-    let call = reference_of(opens.name(0), opens.references() + 1)?;
-    let told = to_left(alloc, clock, Order::Change(update, &call), opens);
-    drop(call);
-    let sends = told?;
-    match reference_of(opens.name(0), number) {
-        Ok(lock) => match update.copy(alloc) {
-            Ok(update) => Ok(made_calls(sends, Some((op, update)), lock)),
-            Err(fault) => {
-                drop(sends);
-                drop(lock);
-                Err(fault)
-            }
-        },
+    let call = own_under(opens, opens.references() + 1);
+    let sends = to_left(alloc, clock, Order::Change(update, call), opens)?;
+    match update.copy(alloc) {
+        Ok(update) => Ok(done_with(sends, Some((op, update)))),
         Err(fault) => {
             drop(sends);
             Err(fault)
@@ -142,41 +119,34 @@ pub(crate) fn ended(
     opens: &Opens,
     number: u32,
     lock: u32,
-) -> Result<Calls, AllocError>
+) -> Result<Done, AllocError>
     requires updating { is_updating (uses_of opens.now number) ≡ true }
     requires within { clock ≤ MAX_STAMP }
     requires named { (update : Update) → update_of (uses_of opens.now number) ≡ Some update → is_name (name_of update) ≡ true }
     ensures sends { (op : OpId) (update : Update) (holder : ℕ) (replied : Node → Bool) → uses_of opens.now number ≡ Updating op update holder replied
-        → IfOk result (λ calls. sends_in (names_of opens.now) calls.done.sends.items ≡ (λ q. stamped clock (to_peers (left_of opens.now)
+        → IfOk result (λ done. sends_in (names_of opens.now) done.sends.items ≡ (λ q. stamped clock (to_peers (left_of opens.now)
         (λ q. true) (messages.DelLock (name_of update) (own_reference (left_of opens.now) lock)) q))) }
-    ensures began { IfOk result (λ calls. calls.done.began ≡ None) }
-    ensures odd { IfOk result (λ calls. calls.done.odd ≡ None) }
-    ensures lock { IfOk result (λ calls. calls.lock ≡ own_reference (left_of opens.now) lock) }
-    ensures fits { IfOk result (λ calls. AreSendable (names_of opens.now) calls.done.sends.items) }
+    ensures began { IfOk result (λ done. done.began ≡ None) }
+    ensures odd { IfOk result (λ done. done.odd ≡ None) }
+    ensures fits { IfOk result (λ done. AreSendable (names_of opens.now) done.sends.items) }
 {
     let update = update_under(opens, number);
-    let lock = reference_of(opens.name(0), lock)?;
-    let sends = to_left(alloc, clock, Order::Free(update.name(), &lock), opens)?;
-    Ok(made_calls(sends, None, lock))
+    let order = Order::Free(update.name(), own_under(opens, lock));
+    let sends = to_left(alloc, clock, order, opens)?;
+    Ok(done_with(sends, None))
 }
 
 /// What a turn sends, with no odd reply.
-pub(crate) fn made_calls(
-    sends: Vec<(usize, Packet)>,
-    began: Option<(OpId, Update)>,
-    lock: Reference,
-) -> Calls
-    ensures sends { result.done.sends.items ≡ sends.items }
-    ensures began { result.done.began ≡ began }
-    ensures odd { result.done.odd ≡ None }
-    ensures lock { result.lock ≡ lock }
+pub(crate) fn done_with(sends: Vec<(usize, Packet)>, began: Option<(OpId, Update)>) -> Done
+    ensures sends { result.sends.items ≡ sends.items }
+    ensures began { result.began ≡ began }
+    ensures odd { result.odd ≡ None }
 {
-    let done = Done {
+    Done {
         sends,
         began,
         odd: None,
-    };
-    Calls { done, lock }
+    }
 }
 
 /// The update of the command that gathers under the reference of this number. It takes no memory: O(open commands).

@@ -22,12 +22,11 @@ ghost use Rattle.pg_node_state.specs.Sendable.{AreSendable};
 ghost use Rattle.pg_node_state.specs.States.{sends_in};
 
 use crate::state::Done;
-use crate::state::calls::{Calls, made_calls};
-use crate::state::orders::Order;
+use crate::state::calls::done_with;
+use crate::state::orders::{Order, own_under};
 use crate::state::sends::{to_left, to_place};
 use pg_group::Update;
 use pg_opens::{Asked, Opens};
-use pg_refs::reference_of;
 use pg_step::OpId;
 use std::alloc::{AllocError, Global};
 
@@ -40,7 +39,7 @@ pub(crate) fn first_asked(
     opens: &Opens,
     op: OpId,
     first: usize,
-) -> Result<Calls, AllocError>
+) -> Result<Done, AllocError>
     requires waits { standing_of (stages_of opens.now op) ≡ standings.Waiting }
     requires next { references_of opens.now + 1 < 2 ^ 32 }
     requires place { first < length (names_of opens.now) }
@@ -48,17 +47,16 @@ pub(crate) fn first_asked(
     requires within { clock ≤ MAX_STAMP }
     requires named { (update : Update) → stages_of opens.now op ≡ Waiting update → is_name (name_of update) ≡ true }
     ensures sends { (update : Update) → stages_of opens.now op ≡ Waiting update
-        → IfOk result (λ calls. sends_in (names_of opens.now) calls.done.sends.items ≡ (λ q. stamped clock (to_one (name_at (names_of opens.now) first)
+        → IfOk result (λ done. sends_in (names_of opens.now) done.sends.items ≡ (λ q. stamped clock (to_one (name_at (names_of opens.now) first)
         (messages.Call (own_reference (left_of opens.now) (references_of opens.now + 1)) (requests.SetLock (name_of update))) q))) }
-    ensures began { IfOk result (λ calls. calls.done.began ≡ None) }
-    ensures odd { IfOk result (λ calls. calls.done.odd ≡ None) }
-    ensures lock { IfOk result (λ calls. calls.lock ≡ own_reference (left_of opens.now) (references_of opens.now + 1)) }
-    ensures fits { IfOk result (λ calls. AreSendable (names_of opens.now) calls.done.sends.items) }
+    ensures began { IfOk result (λ done. done.began ≡ None) }
+    ensures odd { IfOk result (λ done. done.odd ≡ None) }
+    ensures fits { IfOk result (λ done. AreSendable (names_of opens.now) done.sends.items) }
 {
     let name = waiting_under(opens, op).name();
-    let lock = reference_of(opens.name(0), opens.references() + 1)?;
-    let sends = to_place(alloc, clock, Order::Lock(name, &lock), first)?;
-    Ok(made_calls(sends, None, lock))
+    let lock = own_under(opens, opens.references() + 1);
+    let sends = to_place(alloc, clock, Order::Lock(name, lock), first)?;
+    Ok(done_with(sends, None))
 }
 
 /// Every peer that counts is asked, under the next reference.
@@ -69,23 +67,22 @@ pub(crate) fn all_asked(
     clock: u32,
     opens: &Opens,
     op: OpId,
-) -> Result<Calls, AllocError>
+) -> Result<Done, AllocError>
     requires waits { standing_of (stages_of opens.now op) ≡ standings.Waiting }
     requires next { references_of opens.now + 1 < 2 ^ 32 }
     requires within { clock ≤ MAX_STAMP }
     requires named { (update : Update) → stages_of opens.now op ≡ Waiting update → is_name (name_of update) ≡ true }
     ensures sends { (update : Update) → stages_of opens.now op ≡ Waiting update
-        → IfOk result (λ calls. sends_in (names_of opens.now) calls.done.sends.items ≡ (λ q. stamped clock (to_peers (left_of opens.now)
+        → IfOk result (λ done. sends_in (names_of opens.now) done.sends.items ≡ (λ q. stamped clock (to_peers (left_of opens.now)
         (λ q. true) (messages.Call (own_reference (left_of opens.now) (references_of opens.now + 1)) (requests.SetLock (name_of update))) q))) }
-    ensures began { IfOk result (λ calls. calls.done.began ≡ None) }
-    ensures odd { IfOk result (λ calls. calls.done.odd ≡ None) }
-    ensures lock { IfOk result (λ calls. calls.lock ≡ own_reference (left_of opens.now) (references_of opens.now + 1)) }
-    ensures fits { IfOk result (λ calls. AreSendable (names_of opens.now) calls.done.sends.items) }
+    ensures began { IfOk result (λ done. done.began ≡ None) }
+    ensures odd { IfOk result (λ done. done.odd ≡ None) }
+    ensures fits { IfOk result (λ done. AreSendable (names_of opens.now) done.sends.items) }
 {
     let name = waiting_under(opens, op).name();
-    let lock = reference_of(opens.name(0), opens.references() + 1)?;
-    let sends = to_left(alloc, clock, Order::Lock(name, &lock), opens)?;
-    Ok(made_calls(sends, None, lock))
+    let lock = own_under(opens, opens.references() + 1);
+    let sends = to_left(alloc, clock, Order::Lock(name, lock), opens)?;
+    Ok(done_with(sends, None))
 }
 
 /// The update of a command that waits begins, and nobody is sent anything.

@@ -5,19 +5,30 @@ ghost use Rattle.pg_group.specs.Ended.{ended_of};
 ghost use Rattle.pg_group.specs.Table.{HasRoom, changed};
 ghost use Rattle.pg_group.specs.Value.{name_of};
 ghost use Rattle.pg_lock.specs.Locks.{locks_of, grants, after_ask, given_up, is_holder};
+ghost use Rattle.pg_node_state.specs.Orders.{reference_in};
 
+use crate::state::orders::Numbered;
 use pg_group::{Ended, GroupTable, Update};
 use pg_lock::LockTable;
-use pg_term::{Reference, Term, equality};
+use pg_refs::words_of;
+use pg_term::{Term, equality};
 use std::alloc::AllocError;
 
-/// Frees the lock of a name at the own node, where it granted it to the reference.
-pub(crate) fn free_own(locks: &mut LockTable, granted: bool, name: &Term, reference: &Reference)
+/// Frees the lock of a name at the own node, where the reference holds it. It takes no memory.
+pub(crate) fn give_up_own(locks: &mut LockTable, name: &Term, reference: Numbered<'_>)
     ensures { locks_of locks.new
-        ≡ given_up (granted && is_holder (locks_of locks.old name.now) reference.now) (locks_of locks.old) name.now }
+        ≡ given_up (is_holder (locks_of locks.old name.now) (reference_in reference.entry)) (locks_of locks.old) name.now }
+{
+    locks.give_up_by(name, reference.node, 1, &words_of(reference.number));
+}
+
+/// Frees the lock of a name at the own node, where it granted it to the reference. It takes no memory.
+pub(crate) fn free_own(locks: &mut LockTable, granted: bool, name: &Term, reference: Numbered<'_>)
+    ensures { locks_of locks.new
+        ≡ given_up (granted && is_holder (locks_of locks.old name.now) (reference_in reference.entry)) (locks_of locks.old) name.now }
 {
     if granted {
-        locks.give_up(name, reference);
+        give_up_own(locks, name, reference);
     }
 }
 
@@ -28,14 +39,15 @@ pub(crate) fn ask_own(
     locks: &mut LockTable,
     granted: bool,
     name: &Term,
-    reference: &Reference,
+    reference: Numbered<'_>,
 ) -> Result<(), AllocError>
     requires free { granted ≡ true → grants true (locks_of locks.old) name.now ≡ true }
-    ensures ok { OnOk result (locks_of locks.new ≡ after_ask granted (locks_of locks.old) name.now reference.now) }
+    ensures ok { OnOk result (locks_of locks.new ≡ after_ask granted (locks_of locks.old) name.now (reference_in reference.entry)) }
     ensures err { OnErr result (locks_of locks.new ≡ locks_of locks.old) }
 {
     if granted {
-        locks.ask(true, name, reference)?;
+        let reference = reference.made()?;
+        locks.ask_moved(true, name, reference)?;
     }
     Ok(())
 }
@@ -49,11 +61,11 @@ pub(crate) fn apply_own<T: GroupTable + Drop>(
     ended: &Ended,
     granted: bool,
     update: &Update,
-    lock: &Reference,
+    lock: Numbered<'_>,
 ) -> Result<(), AllocError>
     requires room { HasRoom (T.contents table.old) update.now }
     requires free { granted ≡ true → grants true (locks_of locks.old) (name_of update.now) ≡ true }
-    ensures locks { OnOk result (locks_of locks.new ≡ after_ask granted (locks_of locks.old) (name_of update.now) lock.now) }
+    ensures locks { OnOk result (locks_of locks.new ≡ after_ask granted (locks_of locks.old) (name_of update.now) (reference_in lock.entry)) }
     ensures table { OnOk result (T.contents table.new ≡ changed (T.contents table.old) update.now (ended_of ended.now)) }
     ensures err_locks { OnErr result (locks_of locks.new ≡ locks_of locks.old) }
     ensures err_table { OnErr result (T.contents table.new ≡ T.contents table.old) }

@@ -14,7 +14,8 @@ ghost use Rattle.pg_step.specs.State.{Status};
 ghost use Rattle.pg_step.specs.State.Use.{Locking, Updating};
 
 use crate::state::calls::{asked, begun, ended, freed, has_peer, update_under};
-use crate::state::own::{apply_own, ask_own, free_own};
+use crate::state::orders::own_under;
+use crate::state::own::{apply_own, ask_own, free_own, give_up_own};
 use crate::state::port::{keep_reserved, reserve_answer};
 use crate::state::{Done, NodeState};
 use pg_group::GroupTable;
@@ -48,13 +49,14 @@ impl<T: GroupTable + Drop> NodeState<T> {
         ensures ports { ports_of self.new ≡ ports_of self.old }
         ensures fits { IfOk result (λ done. AreSendable (names_of self.old) done.sends.items) }
     {
-        let calls = freed(self.alloc, clock, &self.opens, number)?;
+        let done = freed(self.alloc, clock, &self.opens, number)?;
         let granted = self.opens.has_granted(number, 0);
         let name = update_under(&self.opens, number).name();
-        free_own(&mut self.locks, granted, name, &calls.lock);
+        let lock = own_under(&self.opens, number);
+        free_own(&mut self.locks, granted, name, lock);
         self.opens.give_up(number);
         self.clock = clock;
-        Ok(calls.done)
+        Ok(done)
     }
 
     /// Asks for the lock those that were not asked, the own node too. `number`: the one of its reference.
@@ -72,18 +74,19 @@ impl<T: GroupTable + Drop> NodeState<T> {
         ensures ports { ports_of self.new ≡ ports_of self.old }
         ensures fits { IfOk result (λ done. AreSendable (names_of self.old) done.sends.items) }
     {
-        let calls = asked(self.alloc, clock, &self.opens, number)?;
+        let done = asked(self.alloc, clock, &self.opens, number)?;
         let granted = self.would_grant(number);
         let asks = self.opens.is_asked_by(number, Asked::All, 0) & granted;
         let name = update_under(&self.opens, number).name();
-        match ask_own(&mut self.locks, asks, name, &calls.lock) {
+        let lock = own_under(&self.opens, number);
+        match ask_own(&mut self.locks, asks, name, lock) {
             Ok(()) => {
                 self.opens.ask(number, Asked::All, granted);
                 self.clock = clock;
-                Ok(calls.done)
+                Ok(done)
             }
             Err(fault) => {
-                drop(calls);
+                drop(done);
                 Err(fault)
             }
         }
@@ -105,26 +108,27 @@ impl<T: GroupTable + Drop> NodeState<T> {
         ensures ports { ports_of self.new ≡ ports_of self.old }
         ensures fits { IfOk result (λ done. AreSendable (names_of self.old) done.sends.items) }
     {
-        let calls = begun(self.alloc, clock, &self.opens, number, op)?;
+        let done = begun(self.alloc, clock, &self.opens, number, op)?;
         let granted = self.would_grant(number);
         let asks = self.opens.is_asked_by(number, Asked::All, 0) & granted;
         let update = update_under(&self.opens, number);
+        let lock = own_under(&self.opens, number);
         match apply_own(
             &mut self.locks,
             &mut self.table,
             &self.ended,
             asks,
             update,
-            &calls.lock,
+            lock,
         ) {
             Ok(()) => {
                 self.opens.ask(number, Asked::All, granted);
                 self.opens.begin(number);
                 self.clock = clock;
-                Ok(calls.done)
+                Ok(done)
             }
             Err(fault) => {
-                drop(calls);
+                drop(done);
                 Err(fault)
             }
         }
@@ -153,13 +157,14 @@ impl<T: GroupTable + Drop> NodeState<T> {
         ensures fits { IfOk result (λ done. AreSendable (names_of self.old) done.sends.items) }
     {
         reserve_answer(&mut self.ports, op.port)?;
-        let calls = ended(self.alloc, clock, &self.opens, number, lock)?;
+        let done = ended(self.alloc, clock, &self.opens, number, lock)?;
         keep_reserved(&mut self.ports, op, Reply::Ok);
         let name = update_under(&self.opens, number).name();
-        self.locks.give_up(name, &calls.lock);
+        let held = own_under(&self.opens, lock);
+        give_up_own(&mut self.locks, name, held);
         self.opens.finish(number);
         self.clock = clock;
-        Ok(calls.done)
+        Ok(done)
     }
 
     /// Begins the update of a command that all have granted, at a node of which no peer counts: the command ends at once.
@@ -179,23 +184,24 @@ impl<T: GroupTable + Drop> NodeState<T> {
         ensures fits { IfOk result (λ done. AreSendable (names_of self.old) done.sends.items) }
     {
         reserve_answer(&mut self.ports, op.port)?;
-        let calls = begun(self.alloc, clock, &self.opens, number, op)?;
+        let done = begun(self.alloc, clock, &self.opens, number, op)?;
         let granted = self.would_grant(number);
         let changing = self.opens.references() + 1;
         let update = update_under(&self.opens, number);
+        let lock = own_under(&self.opens, number);
         match self.table.apply(update, &self.ended) {
             Ok(()) => {
                 equality();
-                self.locks.give_up(update.name(), &calls.lock);
+                give_up_own(&mut self.locks, update.name(), lock);
                 self.opens.ask(number, Asked::All, granted);
                 self.opens.begin(number);
                 self.opens.finish(changing);
                 keep_reserved(&mut self.ports, op, Reply::Ok);
                 self.clock = clock;
-                Ok(calls.done)
+                Ok(done)
             }
             Err(fault) => {
-                drop(calls);
+                drop(done);
                 Err(fault)
             }
         }

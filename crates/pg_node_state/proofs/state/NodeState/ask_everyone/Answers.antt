@@ -6,7 +6,7 @@ use Rattle.pg_ends.specs.Processes.{node_of}
 use Rattle.pg_term.specs.Same.{same_atom}
 use Rattle.pg_opens.specs.Opens.{Shows, names_of as opens_names, left_of as left_in, uses_of}
 use Rattle.pg_opens.specs.Readings.{is_locking}
-use Rattle.pg_step.specs.Attempts.{attempt, ask, with_asked}
+use Rattle.pg_step.specs.Attempts.{attempt, ask, own_reference, with_asked}
 use Rattle.pg_step.specs.Nodes.{Node, Nodes, is_peer, greatest}
 use Rattle.pg_step.specs.Peers.{would_grant}
 use Rattle.pg_step.specs.State.{State, Status, Use, formed}
@@ -107,13 +107,14 @@ returns-in-Ok-clause-happens g c = λ update is.
     (λ e. c.ask.ensures.turned op update (greatest m) st e s1 asked (ap (λ (n : Nodes). would_grant n s1 (name_of update)) same ∙ no_more)) used) in
     let nodes = c.ask.ensures.nodes ∙ c.ask_first.ensures.nodes in
     let name = c.name-name.ensures ∙ ap name_of (same_update c.waiting_under.result.now update (sym c.waiting_under.ensures ∙ is)) in
-    let held = c.in-Ok.ensures.ok ∙ (λ i. after_ask true (locks_of old.locks) (name i) (c.in_ok-calls.ensures.lock i)) in
+    let reference = c.own_under-lock.ensures ∙ ap (own_reference m) number in
+    let held = c.in-Ok.ensures.ok ∙ (λ i. after_ask true (locks_of old.locks) (name i) (reference i)) in
     happens_as (names_of old) (names_of old) c.args.clock (attempt m op update (kept_by old)) (rest_turn m op update (kept_by old) own apart) _ _ _ _ refl
     (sym (attempt_asks m op update (kept_by old) own apart granting c.requires.some.0 c.requires.some.1)) (record {
       told = record {
-        sends = c.in_ok-calls.ensures.sends update is ∙ (λ i q. stamped c.args.clock (sym (rest_sends m op update (kept_by old) own apart) i q));
-        began = c.in_ok-calls.ensures.began;
-        odd = c.in_ok-calls.ensures.odd;
+        sends = c.in_ok-done.ensures.sends update is ∙ (λ i q. stamped c.args.clock (sym (rest_sends m op update (kept_by old) own apart) i q));
+        began = c.in_ok-done.ensures.began;
+        odd = c.in_ok-done.ensures.odd;
       };
       state = assembled c.args.clock s new ((kept_by old).table) ((kept_by old).ended) (locks_of c.ask_own.new.locks) (merged_in (opens_names new) old.formation) ((kept_by old).processes) ((kept_by old).counts)
           turned refl refl (held ∙ sym (rest_locks m op update (kept_by old) own apart granting)) (merged_stay old.opens new s turned nodes old.formation) refl refl;

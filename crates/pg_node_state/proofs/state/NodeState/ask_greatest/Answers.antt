@@ -55,10 +55,10 @@ returns-clause-happens g c = λ update is.
     let asks : Message = Call (own_reference m ((kept_by old).references + 1)) (SetLock (name_of update)) in
     happens_as (names_of old) (names_of old) c.args.clock (attempt m op update (kept_by old)) (asked_first m op update (kept_by old)) _ _ _ _ refl (sym (attempt_waits m op update (kept_by old) other node)) (record {
       told = record {
-        sends = c.in_ok-calls.ensures.sends update is
+        sends = c.in_ok-done.ensures.sends update is
             ∙ (λ i q. stamped c.args.clock (((λ j. to_one (c.requires.greatest j) asks) ∙ sym (sent_to_it m op update (kept_by old) other node peer)) i q));
-        began = c.in_ok-calls.ensures.began;
-        odd = c.in_ok-calls.ensures.odd;
+        began = c.in_ok-done.ensures.began;
+        odd = c.in_ok-done.ensures.odd;
       };
       state = assembled c.args.clock s new ((kept_by old).table) ((kept_by old).ended) (locks_of old.locks) (merged_in (opens_names new) old.formation) ((kept_by old).processes) ((kept_by old).counts)
           turned refl refl (sym (locks_stay m op update (kept_by old) other node)) (merged_stay old.opens new s turned c.ask_first.ensures.nodes old.formation) refl refl;

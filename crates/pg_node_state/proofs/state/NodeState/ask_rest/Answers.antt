@@ -45,10 +45,10 @@ returns-in-Ok-clause-happens g c = λ op update first st is.
     let would = c.would_grant-granted.ensures op update first st is in
     let turned : Shows new t = c.ask.ensures.turned op update first st is (kept_by old) (shows old) (sym would) in
     let name = c.name-name.ensures ∙ ap name_of (update_is c.update_under.result.now update (sym c.update_under.ensures ∙ ap update_of is)) in
-    let lock = c.in_ok-calls.ensures.lock in
+    let lock = c.own_under-lock.ensures in
     let asked = c.is_asked_by.ensures.own op update first st is refl in
     record {
-      told = record { sends = c.in_ok-calls.ensures.sends op update first st is; began = c.in_ok-calls.ensures.began; odd = c.in_ok-calls.ensures.odd };
+      told = record { sends = c.in_ok-done.ensures.sends op update first st is; began = c.in_ok-done.ensures.began; odd = c.in_ok-done.ensures.odd };
       state = assembled c.args.clock t new ((kept_by old).table) ((kept_by old).ended) (locks_of c.ask_own.new.locks) (merged_in (opens_names new) old.formation) ((kept_by old).processes) ((kept_by old).counts)
           turned refl refl (c.in-Ok.ensures.ok ∙ (λ i. after_ask (asked i && would i) (locks_of old.locks) (name i) (lock i)))
           (merged_stay old.opens new t turned c.ask.ensures.nodes old.formation) refl refl;

@@ -91,10 +91,10 @@ returns-in-Ok-clause-happens g c = λ update first st is.
     let turned : Shows new t = subst (λ (m : Nodes). Shows new (begin m c.args.number op update s).state) (left_stays old.opens c.ask.new.self s asked c.ask.ensures.nodes refl)
     (c.begin.ensures.turned op update first st' later s asked) in
     let changes : c.update_under-update.result.now ≡ update = update_is c.update_under-update.result.now update (sym c.update_under-update.ensures ∙ ap update_of is) in
-    let lock = c.in_ok-calls.ensures.lock in
+    let lock = c.own_under-lock.ensures in
     let asks = c.is_asked_by.ensures.own op update first st is refl in
     record {
-      told = record { sends = c.in_ok-calls.ensures.sends op update first st is; began = c.in_ok-calls.ensures.began update (ap update_of is); odd = c.in_ok-calls.ensures.odd };
+      told = record { sends = c.in_ok-done.ensures.sends op update first st is; began = c.in_ok-done.ensures.began update (ap update_of is); odd = c.in_ok-done.ensures.odd };
       state = assembled c.args.clock t new (g.T.GroupTable.contents c.apply_own.new.table) ((kept_by old).ended) (locks_of c.apply_own.new.locks) (merged_in (opens_names new) old.formation) ((kept_by old).processes) ((kept_by old).counts)
           turned (c.in-Ok.ensures.table ∙ ap (λ (u : Change). changed (g.T.GroupTable.contents old.table) u (ended_of old.ended)) changes) refl
           (c.in-Ok.ensures.locks ∙ (λ i. after_ask (asks i && would i) (locks_of old.locks) (name_of (changes i)) (lock i)))

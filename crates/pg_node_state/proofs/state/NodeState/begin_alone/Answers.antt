@@ -236,21 +236,21 @@ returns-in-Ok-clause-happens g c = λ update first st0 is.
     let asks_own : Bool = asks (λ q. true) st0 m.own in
     let would : Bool = would_grant m (kept_by old) (name_of update) in
     let locks : Locks = locks_of old.locks in
-    let lock = c.in_ok-calls.ensures.lock in
+    let lock = c.own_under-lock.ensures in
     let name = c.name.ensures ∙ ap name_of changes in
-    let freed = c.give_up.ensures ∙ ((λ i. given_up (is_holder (locks (name i)) (lock i)) locks (name i))
+    let freed = c.give_up_own.ensures ∙ ((λ i. given_up (is_holder (locks (name i)) (lock i)) locks (name i))
     ∙ not_taken c.equality.ensures.terms c.equality.ensures.references locks (name_of update) (own_reference m number) (asks_own && would)
     (granted_free asks_own (formed m (kept_by old)) would locks (name_of update) refl)) in
     let answers = c.reserve_answer.ensures.answers in
     record {
       told = record {
-        sends = c.in_ok-calls.ensures.sends op update first st0 is
+        sends = c.in_ok-done.ensures.sends op update first st0 is
             ∙ ((λ i q. stamped clock (to_none m (λ p. true) (Call (own_reference m changing) (request.Change update)) c.requires.alone i q))
             ∙ fun_ext (λ q. ap (stamped clock) (sym (sends_nothing m c.requires.alone number op update first st0 (kept_by old) q))));
-        began = c.in_ok-calls.ensures.began update (ap update_of is) ∙ sym (ap (λ (t : NodeTurn). t.reported.began) whole);
-        odd = c.in_ok-calls.ensures.odd ∙ sym (ap (λ (t : NodeTurn). t.reported.odd) whole);
+        began = c.in_ok-done.ensures.began update (ap update_of is) ∙ sym (ap (λ (t : NodeTurn). t.reported.began) whole);
+        odd = c.in_ok-done.ensures.odd ∙ sym (ap (λ (t : NodeTurn). t.reported.odd) whole);
       };
-      state = assembled clock s3 new (contents c.apply.new.self) ((kept_by old).ended) (locks_of c.give_up.new.self) (merged_in (opens_names new) old.formation) ((kept_by old).processes) (counts_in c.keep_reserved.new.ports.items)
+      state = assembled clock s3 new (contents c.apply.new.self) ((kept_by old).ended) (locks_of c.give_up_own.new.locks) (merged_in (opens_names new) old.formation) ((kept_by old).processes) (counts_in c.keep_reserved.new.ports.items)
           turned (c.in-Ok.ensures.ok ∙ ap (λ (u : Change). changed (contents old.table) u (ended_of old.ended)) changes) refl freed
           (merged_stay old.opens new s3 turned nodes old.formation) refl (c.keep_reserved.ensures.counts ∙ c.reserve_answer.ensures.counts)
           ∙ sym (ap (λ (t : NodeTurn). at_time clock t.state) whole);

@@ -92,12 +92,12 @@ returns-clause-happens g c = λ update replied is.
     let t : State = (finish (left_of old) c.args.number c.args.op update c.args.lock (kept_by old)).state in
     let turned : Shows new t = c.finish.ensures.turned c.args.op update c.args.lock replied is (kept_by old) (shows old) in
     let name = c.name-name.ensures ∙ ap name_of (update_is c.update_under.result.now update (sym c.update_under.ensures ∙ ap update_of is)) in
-    let lock = c.in_ok-calls.ensures.lock in
+    let lock = c.own_under-held.ensures in
     let answers = c.reserve_answer.ensures.answers in
     record {
-      told = record { sends = c.in_ok-calls.ensures.sends c.args.op update c.args.lock replied is; began = c.in_ok-calls.ensures.began; odd = c.in_ok-calls.ensures.odd };
-      state = assembled c.args.clock t new ((kept_by old).table) ((kept_by old).ended) (locks_of c.give_up.new.self) (merged_in (opens_names new) old.formation) ((kept_by old).processes) (counts_in c.keep_reserved.new.ports.items)
-          turned refl refl (c.give_up.ensures ∙ (λ i. given_up (is_holder (locks_of old.locks (name i)) (lock i)) (locks_of old.locks) (name i)))
+      told = record { sends = c.in_ok-done.ensures.sends c.args.op update c.args.lock replied is; began = c.in_ok-done.ensures.began; odd = c.in_ok-done.ensures.odd };
+      state = assembled c.args.clock t new ((kept_by old).table) ((kept_by old).ended) (locks_of c.give_up_own.new.locks) (merged_in (opens_names new) old.formation) ((kept_by old).processes) (counts_in c.keep_reserved.new.ports.items)
+          turned refl refl (c.give_up_own.ensures ∙ (λ i. given_up (is_holder (locks_of old.locks (name i)) (lock i)) (locks_of old.locks) (name i)))
           (merged_stay old.opens new t turned c.finish.ensures.nodes old.formation) refl (c.keep_reserved.ensures.counts ∙ c.reserve_answer.ensures.counts);
       answers = (reply.Ok, refl, c.keep_reserved.ensures.kept ∙ (λ i. upd nat_eq (answers i) c.args.op.port (answers i c.args.op.port ++ record { number = c.args.op.number; reply = reply.Ok } ∷ [])));
     }

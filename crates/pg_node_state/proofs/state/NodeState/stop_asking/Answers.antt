@@ -43,10 +43,10 @@ returns-clause-happens g c = λ op update first st is.
     let t : State = (give_up (left_of old) c.args.number op update st (kept_by old)).state in
     let turned : Shows new t = c.give_up.ensures.turned op update first st is (kept_by old) (shows old) in
     let name = c.name-name.ensures ∙ ap name_of (update_is c.update_under.result.now update (sym c.update_under.ensures ∙ ap update_of is)) in
-    let lock = c.in_ok-calls.ensures.lock in
+    let lock = c.own_under-lock.ensures in
     let granted = c.has_granted-granted.ensures op update first st is in
     record {
-      told = record { sends = c.in_ok-calls.ensures.sends op update first st is; began = c.in_ok-calls.ensures.began; odd = c.in_ok-calls.ensures.odd };
+      told = record { sends = c.in_ok-done.ensures.sends op update first st is; began = c.in_ok-done.ensures.began; odd = c.in_ok-done.ensures.odd };
       state = assembled c.args.clock t new ((kept_by old).table) ((kept_by old).ended) (locks_of c.free_own.new.locks) (merged_in (opens_names new) old.formation) ((kept_by old).processes) ((kept_by old).counts)
           turned refl refl (c.free_own.ensures ∙ (λ i. given_up (granted i && is_holder (locks_of old.locks (name i)) (lock i)) (locks_of old.locks) (name i)))
           (merged_stay old.opens new t turned c.give_up.ensures.nodes old.formation) refl refl;

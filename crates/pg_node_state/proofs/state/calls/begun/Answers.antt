@@ -4,17 +4,17 @@ use Rattle.pg_message.specs.declared.message.Message.TheVariants as messages
 use Rattle.pg_message.specs.declared.message.Request.TheVariants as requests
 use Rattle.pg_opens.specs.Opens.{left_of, names_of}
 use Rattle.pg_opens.specs.Readings.{update_of}
-use Rattle.pg_refs.specs.Numbered.{numbered}
+use Rattle.pg_step.specs.Attempts.{own_reference}
 use Rattle.pg_step.specs.Nodes.{to_peers}
 use Rattle.pg_node_state.specs.States.{sends_in}
 use Rattle.pg_node_state.proofs.Turned.{update_is}
 use Rattle.pg_node_state.proofs.state.calls.begun.Goals as goal
 
-pub returns-in-Ok-copy-clause-sends : goal.returns-in-Ok-copy-clause-sends
-returns-in-Ok-copy-clause-sends c =
+pub returns-in-Ok-clause-sends : goal.returns-in-Ok-clause-sends
+returns-in-Ok-clause-sends c =
     let opens = c.args.opens.now in
     λ op update first st is.
     let changed : c.update_under-update.result.now ≡ update = update_is c.update_under-update.result.now update (sym c.update_under-update.ensures ∙ ap update_of is) in
-    let call = c.in_ok-call.ensures ∙ (λ i. numbered (c.name.ensures i) ((ap (λ n. n + 1) c.references.ensures) i)) in
-    ap (sends_in (names_of opens)) c.made_calls.ensures.sends ∙ (c.in_ok-sends.ensures.sends
+    let call = c.own_under-call.ensures ∙ ap (λ n. own_reference (left_of opens) (n + 1)) c.references.ensures in
+    ap (sends_in (names_of opens)) c.done_with.ensures.sends ∙ (c.in_ok-sends.ensures.sends
     ∙ (λ i q. stamped c.args.clock (to_peers (left_of opens) (λ p. true) (messages.Call (call i) (requests.Change (changed i))) q)))

@@ -4,8 +4,7 @@ use Rattle.pg_machine.specs.Clocked.{stamped}
 use Rattle.pg_message.specs.declared.message.Message.TheVariants as messages
 use Rattle.pg_opens.specs.Opens.{left_of, names_of}
 use Rattle.pg_opens.specs.Readings.{update_of}
-use Rattle.pg_refs.specs.Numbered.{numbered}
-use Rattle.pg_step.specs.Nodes.{Node, to_peers}
+use Rattle.pg_step.specs.Nodes.{to_peers}
 use Rattle.pg_node_state.specs.States.{sends_in}
 use Rattle.pg_node_state.proofs.Turned.{update_is}
 use Rattle.pg_node_state.proofs.state.calls.ended.Goals as goal
@@ -15,6 +14,6 @@ returns-clause-sends c =
     let opens = c.args.opens.now in
     λ op update holder replied is.
     let changed : c.update_under-update.result.now ≡ update = update_is c.update_under-update.result.now update (sym c.update_under-update.ensures ∙ ap update_of is) in
-    let lock = c.in_ok-lock.ensures ∙ ap (λ (n : Node). numbered n c.args.lock) c.name.ensures in
-    ap (sends_in (names_of opens)) c.made_calls.ensures.sends ∙ (c.in_ok-sends.ensures.sends
-    ∙ (λ i q. stamped c.args.clock (to_peers (left_of opens) (λ p. true) (messages.DelLock ((c.name-2.ensures ∙ ap name_of changed) i) (lock i)) q)))
+    let lock = c.own_under.ensures in
+    ap (sends_in (names_of opens)) c.done_with.ensures.sends ∙ (c.in_ok-sends.ensures.sends
+    ∙ (λ i q. stamped c.args.clock (to_peers (left_of opens) (λ p. true) (messages.DelLock ((c.name.ensures ∙ ap name_of changed) i) (lock i)) q)))
