@@ -1,6 +1,8 @@
 -- What stands at the front of bytes.
-use Rattle.std.specs.Prelude.{◌≡◌, ℕ, suc, List, [], ◌∷◌, ◌++◌, take, Ok}
+use Rattle.std.specs.Prelude.{◌≡◌, ℕ, suc, List, [], ◌∷◌, ◌++◌, codes, length, take, Ok}
 use Rattle.std.specs.Int.{w32, from_be_bytes}
+use Rattle.pg_message.specs.declared.message.Said.{Said}
+use Rattle.pg_message.specs.declared.message.Said.TheVariants.{Granted, Denied, Applied}
 use Rattle.pg_term.specs.declared.pid.Pid.{Pid}
 use Rattle.pg_term.specs.declared.term.Term.{Term}
 use Rattle.pg_term.specs.declared.term.Term.TheVariants.{Atom, Pid as Process}
@@ -33,3 +35,13 @@ pub record EndsWith (pids : List Pid) (bytes : List ℕ) : Type 0 where
 -- the number in the first four bytes
 abbrev pub number_of : List ℕ → ℕ
 number_of bytes = from_be_bytes w32 (take 4 bytes)
+
+-- a word as it is written
+abbrev pub word_bytes : List ℕ → List ℕ
+word_bytes word = 119 ∷ length word ∷ word
+
+-- what a reply says, as it is written
+abbrev pub said_bytes : Said → List ℕ
+said_bytes Granted = word_bytes (codes "true")
+said_bytes Denied = word_bytes (codes "false")
+said_bytes Applied = word_bytes (codes "ok")

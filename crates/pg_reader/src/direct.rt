@@ -1,12 +1,13 @@
 //! Packets that are spelled as they are written, read straight off their bytes: no tuple and no word is built.
 
-ghost use Rattle.std.specs.Prelude.{◌≡◌, ◌≤◌, ◌++◌, ℕ, List, pos, codes, true, length, IfOk, Ok};
+ghost use Rattle.std.specs.Prelude.{◌≡◌, ◌≤◌, ◌∷◌, ◌++◌, ℕ, List, pos, codes, true, length, IfOk, IsOk, Ok};
+ghost use Rattle.std.specs.Int.{w32, to_be_bytes};
 ghost use Rattle.pg_term.specs.RefParts.{RefParts};
 ghost use Rattle.pg_term.specs.declared.term.Term.TheVariants as terms;
 ghost use Rattle.pg_term_io.specs.Reading.{item_at};
 ghost use Rattle.pg_message.specs.Name.{is_name};
 ghost use Rattle.pg_message.specs.Reading.{packet_spelled};
-ghost use Rattle.pg_reader.specs.Standing.{Stands, Opens};
+ghost use Rattle.pg_reader.specs.Standing.{Stands, Opens, word_bytes, said_bytes};
 ghost use Rattle.pg_message.specs.Writing.{message_term, request_term, said_term, is_plain, is_sayable};
 ghost use Rattle.pg_message.specs.declared.message.Message.TheVariants as messages;
 
@@ -72,8 +73,9 @@ pub(crate) fn direct_packet(alloc: Global, body: &[u8]) -> Result<Packet, Detour
 
 /// What follows these bytes at the front.
 #[inline]
-fn behind<'a>(bytes: &'a [u8], front: &[u8]) -> Result<&'a [u8], Detour>
-    ensures { IfOk result (λ rest. bytes.now ≡ front.now ++ rest.now) }
+pub(crate) fn behind<'a>(bytes: &'a [u8], front: &[u8]) -> Result<&'a [u8], Detour>
+    ensures found { IfOk result (λ rest. bytes.now ≡ front.now ++ rest.now) }
+    ensures all { (rest : List ℕ) → bytes.now ≡ front.now ++ rest → IsOk result }
 {
     match bytes.strip_prefix(front) {
         Some(rest) => Ok(rest),
@@ -86,8 +88,10 @@ fn behind<'a>(bytes: &'a [u8], front: &[u8]) -> Result<&'a [u8], Detour>
 fn word_at<'a>(bytes: &'a [u8], word: &str) -> Result<&'a [u8], Detour>
     requires plain { is_plain word.now ≡ true }
     requires few { length word.now ≤ 255 }
-    ensures { (room : ℕ) → IfOk result (λ rest.
+    ensures term { (room : ℕ) → IfOk result (λ rest.
         Stands room (terms.Atom word.now) bytes.now rest.now) }
+    ensures found { IfOk result (λ rest. bytes.now ≡ word_bytes word.now ++ rest.now) }
+    ensures all { (rest : List ℕ) → bytes.now ≡ word_bytes word.now ++ rest → IsOk result }
 {
     let rest = behind(bytes, &[119, word.len() as u8])?;
     behind(rest, word.as_bytes())
@@ -95,20 +99,24 @@ fn word_at<'a>(bytes: &'a [u8], word: &str) -> Result<&'a [u8], Detour>
 
 /// What follows the word with which a tuple of so many elements begins.
 #[inline]
-fn opened<'a>(bytes: &'a [u8], arity: u8, word: &str) -> Result<&'a [u8], Detour>
+pub(crate) fn opened<'a>(bytes: &'a [u8], arity: u8, word: &str) -> Result<&'a [u8], Detour>
     requires plain { is_plain word.now ≡ true }
     requires few { length word.now ≤ 255 }
-    ensures { IfOk result (λ rest. Opens arity word.now bytes.now rest.now) }
+    ensures opens { IfOk result (λ rest. Opens arity word.now bytes.now rest.now) }
+    ensures found { IfOk result (λ rest. bytes.now ≡ 104 ∷ arity ∷ word_bytes word.now ++ rest.now) }
+    ensures all { (rest : List ℕ) → bytes.now ≡ 104 ∷ arity ∷ word_bytes word.now ++ rest → IsOk result }
 {
     let rest = behind(bytes, &[104, arity])?;
     word_at(rest, word)
 }
 
 #[inline]
-fn stamp_at(bytes: &[u8]) -> Result<(u32, &[u8]), Detour>
+pub(crate) fn stamp_at(bytes: &[u8]) -> Result<(u32, &[u8]), Detour>
     ensures term { (room : ℕ) → IfOk result (λ x.
         Stands room (terms.Int (pos x.0)) bytes.now x.1.now) }
     ensures in_time { IfOk result (λ x. x.0 ≤ MAX_STAMP) }
+    ensures small { (stamp : ℕ) (rest : List ℕ) → bytes.now ≡ 97 ∷ stamp ∷ rest → IsOk result }
+    ensures large { (stamp : ℕ) (rest : List ℕ) → stamp ≤ MAX_STAMP → bytes.now ≡ 98 ∷ to_be_bytes w32 stamp ++ rest → IsOk result }
 {
     if let Ok(rest) = behind(bytes, &[97]) {
         let Some((stamp, rest)) = rest.split_first() else {
@@ -125,6 +133,7 @@ fn large_stamp_at(bytes: &[u8]) -> Result<(u32, &[u8]), Detour>
     ensures term { (room : ℕ) → IfOk result (λ x.
         Stands room (terms.Int (pos x.0)) bytes.now x.1.now) }
     ensures in_time { IfOk result (λ x. x.0 ≤ MAX_STAMP) }
+    ensures large { (stamp : ℕ) (rest : List ℕ) → stamp ≤ MAX_STAMP → bytes.now ≡ 98 ∷ to_be_bytes w32 stamp ++ rest → IsOk result }
 {
     let rest = behind(bytes, &[98])?;
     let Some((digits, rest)) = rest.split_first_chunk::<4>() else {
@@ -387,8 +396,12 @@ fn set_lock_at(alloc: Global, bytes: &[u8]) -> Result<(Request, &[u8]), Detour>
     Ok((Request::SetLock(name), rest))
 }
 
-fn said_at(bytes: &[u8]) -> Result<(Said, &[u8]), Detour>
-    ensures { IfOk result (λ x. Stands 61 (said_term x.0) bytes.now x.1.now) }
+pub(crate) fn said_at(bytes: &[u8]) -> Result<(Said, &[u8]), Detour>
+    ensures term { IfOk result (λ x. Stands 61 (said_term x.0) bytes.now x.1.now) }
+    ensures found { IfOk result (λ x. bytes.now ≡ said_bytes x.0 ++ x.1.now) }
+    ensures applied { (rest : List ℕ) → bytes.now ≡ word_bytes (codes "ok") ++ rest → IsOk result }
+    ensures granted { (rest : List ℕ) → bytes.now ≡ word_bytes (codes "true") ++ rest → IsOk result }
+    ensures denied { (rest : List ℕ) → bytes.now ≡ word_bytes (codes "false") ++ rest → IsOk result }
 {
     match bytes {
         [_, _, b'o', ..] => Ok((Said::Applied, word_at(bytes, "ok")?)),

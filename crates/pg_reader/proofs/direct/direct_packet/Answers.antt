@@ -9,6 +9,6 @@ pub returns : goal.returns
 returns c =
     let message = c.in_ok-message.message in
     let last = nothing_left c.in_ok-message.rest.now (sym c.is_empty.ensures ∙ c.if-not-is_empty.false) in
-    ap packet_spelled c.in_ok-rest.ensures
+    ap packet_spelled c.in_ok-rest.ensures.found
     ∙ packet_stands (record { stamp = c.in_ok-stamp.stamp; message = message }) c.in_ok-rest.rest.now c.in_ok-stamp.rest.now (c.in_ok-stamp.ensures.term 62)
     (subst (λ (rest : List ℕ). Stands 62 (message_term message) c.in_ok-stamp.rest.now rest) last c.in_ok-message.ensures.term) c.in_ok-stamp.ensures.in_time c.in_ok-message.ensures.sayable

@@ -6,5 +6,5 @@ pub returns-clause-term : goal.returns-clause-term
 returns-clause-term c = λ room.
     let split = c.in-Some in
     let parts = split.ensures.cases in
-    four_stand room c.args.bytes.now c.in_ok-rest.rest.now c.from_be_bytes-stamp.result split.digits.now split.rest.now c.in_ok-rest.ensures
+    four_stand room c.args.bytes.now c.in_ok-rest.rest.now c.from_be_bytes-stamp.result split.digits.now split.rest.now c.in_ok-rest.ensures.found
     (omega (arith, parts.2)) parts.0 parts.1 c.from_be_bytes-stamp.ensures (omega (arith, c.if-stamp-gt-MAX_STAMP.false))

@@ -9,7 +9,7 @@ use Rattle.pg_reader.proofs.direct.groups.groups_at.Goals as goal
 pub returns-in-Ok-clause-term : goal.returns-in-Ok-clause-term
 returns-in-Ok-clause-term c =
     let none : c.from_vec.result ≡ [] = c.from_vec.ensures ∙ c.new.ensures.items in
-    subst (λ (groups : Groups). Stands 60 (Listed (map group_term groups)) c.args.bytes.now c.in-Ok.rest.now) (sym none) (nil_stands 60 c.args.bytes.now c.in-Ok.rest.now c.in-Ok.ensures)
+    subst (λ (groups : Groups). Stands 60 (Listed (map group_term groups)) c.args.bytes.now c.in-Ok.rest.now) (sym none) (nil_stands 60 c.args.bytes.now c.in-Ok.rest.now c.in-Ok.ensures.found)
 
 pub returns-in-Ok-past_told-clause-term : goal.returns-in-Ok-past_told-clause-term
 returns-in-Ok-past_told-clause-term c =

@@ -9,10 +9,10 @@ use Rattle.pg_reader.proofs.direct.groups.members_at.Goals as goal
 pub returns-in-Ok : goal.returns-in-Ok
 returns-in-Ok c = λ room.
     let none : c.from_vec.result ≡ [] = c.from_vec.ensures ∙ c.new.ensures.items in
-    subst (λ (pids : List Pid). Stands (suc room) (Listed (map Process pids)) c.args.bytes.now c.in-Ok.rest.now) (sym none) (nil_stands (suc room) c.args.bytes.now c.in-Ok.rest.now c.in-Ok.ensures)
+    subst (λ (pids : List Pid). Stands (suc room) (Listed (map Process pids)) c.args.bytes.now c.in-Ok.rest.now) (sym none) (nil_stands (suc room) c.args.bytes.now c.in-Ok.rest.now c.in-Ok.ensures.found)
 
 pub returns-in-Ok-behind : goal.returns-in-Ok-behind
 returns-in-Ok-behind c = λ room.
     let rest = c.in-Ok-behind in
     subst (λ (pids : List Pid). Stands (suc room) (Listed (map Process pids)) c.args.bytes.now rest.rest.now) (sym c.from_vec-in-Ok-behind.ensures)
-    (list_stands room (map Process c.in_ok-pids.pids.items) c.in_ok-count.count c.args.bytes.now c.in_ok-count.rest.now c.in_ok-pids.end.now rest.rest.now c.in_ok-count.ensures (c.in_ok-pids.ensures room) rest.ensures)
+    (list_stands room (map Process c.in_ok-pids.pids.items) c.in_ok-count.count c.args.bytes.now c.in_ok-count.rest.now c.in_ok-pids.end.now rest.rest.now c.in_ok-count.ensures (c.in_ok-pids.ensures room) rest.ensures.found)
