@@ -3,6 +3,7 @@
 use crate::samples::{at_row, reference, row_holds};
 use pg_lock::{Attempt, LockTable};
 use pg_term::{Reference, Term};
+use std::alloc::AllocError;
 use std::process::Abort;
 
 /// What a reference wants of a node about the lock of a name.
@@ -13,7 +14,7 @@ enum Want {
     GiveUp,
 }
 
-/// Whether it is asked of the first of two nodes; what, of which name, by which reference; which reference holds the names 1 and 2
+/// Whether it is asked of the first of two nodes, or of the other by a reference that is moved in, and by parts; what, of which name, by which reference; which reference holds the names 1 and 2
 /// there then, and whether the same hold the same at both nodes.
 type Row = (bool, Want, i64, usize, Holders, bool);
 
@@ -37,6 +38,15 @@ const WANTS: &[&[Row]] = &[
         (true, GRANTED, 2, 1, (Some(0), Some(1)), false),
         (false, GRANTED, 2, 1, (None, Some(1)), false),
         (false, GRANTED, 1, 1, (Some(1), Some(1)), false),
+        (
+            false,
+            Want::Ask(true, false),
+            1,
+            0,
+            (Some(1), Some(1)),
+            false,
+        ),
+        (false, Want::GiveUp, 1, 0, (Some(1), Some(1)), false),
         (false, Want::GiveUp, 1, 1, (None, Some(1)), false),
         (false, GRANTED, 1, 0, (Some(0), Some(1)), true),
     ],
@@ -79,12 +89,23 @@ fn check_rows(
 
 /// Whether the node answers as the row says, and the names are held as it says.
 fn check_row(rt: &impl Abort, row: &Row, references: &[Reference], locks: &mut LockTable) -> bool {
-    let (_, want, name, who, holders, _) = *row;
+    let (is_first, want, name, who, holders, _) = *row;
     let reference = references.get(who).expect(rt, "a reference");
     let is_answered = match want {
-        Want::Ask(has_formed, granted) => ask(rt, locks, has_formed, name, reference) == granted,
+        Want::Ask(has_formed, granted) => {
+            let told = if is_first {
+                ask(rt, locks, has_formed, name, reference)
+            } else {
+                ask_moved(rt, locks, has_formed, name, reference)
+            };
+            told == granted
+        }
         Want::GiveUp => {
-            give_up(locks, name, reference);
+            if is_first {
+                give_up(locks, name, reference);
+            } else {
+                give_up_by(locks, name, reference);
+            }
             true
         }
     };
@@ -107,9 +128,44 @@ pub fn ask(
     told
 }
 
+/// The same, where a copy of the reference is moved in.
+fn ask_moved(
+    rt: &impl Abort,
+    locks: &mut LockTable,
+    has_formed: bool,
+    number: i64,
+    reference: &Reference,
+) -> bool {
+    let name = Term::Int(number);
+    let told = asked!(rt; ask_by_copy(locks, has_formed, &name, reference));
+    drop(name);
+    told
+}
+
+fn ask_by_copy(
+    locks: &mut LockTable,
+    has_formed: bool,
+    name: &Term,
+    reference: &Reference,
+) -> Result<bool, AllocError> {
+    let moved = reference.copy()?;
+    locks.ask_moved(has_formed, name, moved)
+}
+
 pub fn give_up(locks: &mut LockTable, number: i64, reference: &Reference) {
     let name = Term::Int(number);
     locks.give_up(&name, reference);
+    drop(name);
+}
+
+fn give_up_by(locks: &mut LockTable, number: i64, reference: &Reference) {
+    let name = Term::Int(number);
+    locks.give_up_by(
+        &name,
+        reference.node(),
+        reference.creation(),
+        reference.words(),
+    );
     drop(name);
 }
 
