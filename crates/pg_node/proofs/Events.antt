@@ -1,12 +1,16 @@
 -- The events of a node over bytes, from those of its parts.
-use Rattle.std.proofs.Common.{◌≡◌, ◌<◌, ℕ, Bool, true, false, not, ◌||◌, cond, nat_eq, List, length}
-use Rattle.std.proofs.Common.{get_or, Option, Some, None, Result, Ok, Err, refl, sym, ap, ◌∙◌}
-use Rattle.std.specs.Prelude.{slice_set}
+use Rattle.std.proofs.Common.{◌≡◌, ◌<◌, ℕ, Bool, true, false, not, ◌||◌, ◌&&◌, cond, nat_eq, List, length}
+use Rattle.std.proofs.Common.{get_or, Option, Some, None, Result, Ok, Err, refl, sym, ap, subst, ◌∙◌}
+use Rattle.std.specs.Prelude.{◌↔◌, if◌then◌else◌, slice_set}
 use Rattle.std.proofs.Math.Path.{fun_ext}
 use Rattle.std.proofs.lemmas.Bool.{eqb-true}
+use Rattle.pg_frame.specs.declared.fault.TooLong as frame
+use Rattle.pg_frame.specs.Frames.{front_of}
 use Rattle.pg_group.specs.Functions.{upd}
 use Rattle.pg_machine.specs.Clocked.{Timed}
+use Rattle.pg_message.specs.declared.fault.MessageFault.{MessageFault}
 use Rattle.pg_message.specs.declared.packet.Packet.{Packet}
+use Rattle.pg_message.specs.Reading.{packet_spelled}
 use Rattle.pg_step.specs.declared.answer.Answer.{Answer}
 use Rattle.pg_step.specs.declared.refusal.Refusal.{Refusal}
 use Rattle.pg_step.specs.declared.refusal.Refusal.TheVariants.{NodeLost}
@@ -18,7 +22,7 @@ use Rattle.pg_node_state.specs.declared.state.done.Done.{Done}
 use Rattle.pg_node_state.specs.declared.state.fault.NodeFault.{NodeFault}
 use Rattle.pg_node_state.specs.declared.state.fault.NodeFault.TheVariants.{Refused, OutOfMemory}
 use Rattle.pg_node_state.specs.declared.state.fault.NodeFault.TheVariants.{Message, TooLong, Damaged}
-use Rattle.pg_node.specs.Bytes.{Tells, next_packet, damages, marked, passed}
+use Rattle.pg_node.specs.Bytes.{Tells, next_packet, packet_at, packet_in, damages, marked, passed, is_none, is_idle}
 use Rattle.pg_node_state.specs.Frames.{frames_to}
 use Rattle.pg_node.specs.Links.{Link, link_of, links_in, at_link, with_more}
 use Rattle.pg_node.specs.Nodes.{read_next, taken_as, taken_of, step_link, TakesNext, ComesInRoom, sent_out}
@@ -122,3 +126,17 @@ step_read m p link s = go (s.state.lost p)
     go : (lost : Bool) → cond lost (Err (Refused NodeLost)) (taken_of m p s (next_packet link)) ≡ taken_of m p s (read_next lost link)
     go true = refl
     go false = refl
+
+some_packet : (r : Result Packet MessageFault) → packet_in r ≡ Ok None → ⊥
+some_packet (Ok packet) e = cc
+some_packet (Err fault) e = cc
+
+idle_front : (damaged : Bool) (front : Result (Option (List ℕ)) frame.TooLong) → ((not damaged && is_none front) ≡ true) ↔ ((if damaged then Err Damaged else packet_at front) ≡ Ok None)
+idle_front true front = (λ e. absurd (cc), λ e. absurd (cc))
+idle_front false (Ok None) = (λ e. refl, λ e. refl)
+idle_front false (Ok (Some body)) = (λ e. absurd (cc), λ e. absurd (some_packet (packet_spelled body) e))
+idle_front false (Err fault) = (λ e. absurd (cc), λ e. absurd (cc))
+
+-- no packet is there exactly where the link is idle
+pub idle_next : (link : Link) (b : Bool) → b ≡ is_idle link → (b ≡ true) ↔ (next_packet link ≡ Ok None)
+idle_next link b is = subst (λ (x : Bool). (x ≡ true) ↔ (next_packet link ≡ Ok None)) (sym is) (idle_front link.damaged (front_of link.unread))

@@ -14,9 +14,9 @@ use Rattle.pg_writer.specs.declared.size.TheConstants.{MAX_SMALL_LEN}
 use Rattle.pg_step.specs.Nodes.{Node}
 use Rattle.pg_node.specs.declared.node.wire.Wire.{Wire}
 use Rattle.pg_node_state.specs.Frames.{frame_of, frames_to, IsSmallFrame, AreSmallFrames}
-use Rattle.pg_node_state.specs.Sendable.{FitLinks, IsSendable, Ascends}
+use Rattle.pg_node_state.specs.Sendable.{FitLinks, IsSendable, Ascends, AreAlike}
 use Rattle.pg_node.specs.Links.{Link, link_of, idle_link, part_in, links_in}
-use Rattle.pg_node.specs.Links.{at_link, room_in, with_more, HasRoom, HaveRoom}
+use Rattle.pg_node.specs.Links.{at_link, room_in, with_more, HasRoom, HaveRoom, IsFrame, AreOneFrame}
 
 -- a part where the link at a place is another
 pub part_set : {A : Type 0} (part : Wire → A) (none : A) (wires : List Wire) (k : ℕ) (wire : Wire) → k < length wires → (place : ℕ) → part_in part none (slice_set wires k wire) place ≡ cond (nat_eq k place) (part wire) (part_in part none wires place)
@@ -151,8 +151,54 @@ module _ (start wires : List Wire) (sends others : List (ℕ × Packet)) (sent :
     }
 
 -- the next of those that are left
-pub next_left : (start wires : List Wire) (sends : List (ℕ × Packet)) (i : ℕ) (sent : ℕ × Packet) → i < length sends → sent ≡ get_or sends i sent → Sending start sends wires (drop i sends) → Sending start sends wires (sent ∷ drop (i + 1) sends)
-next_left start wires sends i sent within here = subst (Sending start sends wires) (drop-cons sends i sent within ∙ (λ j. sym here j ∷ drop (next j) sends))
+next_of : (P : List (ℕ × Packet) → Type 0) (sends : List (ℕ × Packet)) (i : ℕ) (sent : ℕ × Packet) → i < length sends → sent ≡ get_or sends i sent → P (drop i sends) → P (sent ∷ drop (i + 1) sends)
+next_of P sends i sent within here = subst P (drop-cons sends i sent within ∙ (λ j. sym here j ∷ drop (next j) sends))
   where
     next : suc i ≡ i + 1
     next = omega arith
+
+pub next_left : (start wires : List Wire) (sends : List (ℕ × Packet)) (i : ℕ) (sent : ℕ × Packet) → i < length sends → sent ≡ get_or sends i sent → Sending start sends wires (drop i sends) → Sending start sends wires (sent ∷ drop (i + 1) sends)
+next_left start wires sends = next_of (Sending start sends wires) sends
+
+pub next_frame : (frame : List ℕ) (sends : List (ℕ × Packet)) (i : ℕ) (sent : ℕ × Packet) → i < length sends → sent ≡ get_or sends i sent → AreOneFrame frame (drop i sends) → AreOneFrame frame (sent ∷ drop (i + 1) sends)
+next_frame frame sends = next_of (AreOneFrame frame) sends
+
+-- ---- one packet to several
+
+-- its frame is that of each
+frames_alike : (frame : List ℕ) (packet : Packet) (others : List (ℕ × Packet)) → frame ≡ frame_of packet → IsSmallFrame packet → AllByRecursion (λ other. other.1 ≡ packet) others → AllByRecursion (λ sent. IsFrame frame sent.1) others
+frames_alike frame packet [] is small all = tt
+frames_alike frame packet (x ∷ others) is small all = (record { is = is ∙ ap frame_of (sym all.0); small = subst IsSmallFrame (sym all.0) small }, frames_alike frame packet others is small all.1)
+
+pub one_frame : (frame : List ℕ) (first : ℕ × Packet) (sends others : List (ℕ × Packet)) → sends ≡ first ∷ others → frame ≡ frame_of first.1 → IsSmallFrame first.1 → AreAlike sends → AreOneFrame frame sends
+one_frame frame first sends others e is small alike = subst (AreOneFrame frame) (sym e) (record {
+  short = subst (λ (f : List ℕ). length f ≤ 4 + MAX_SMALL_LEN) (sym is) small.small;
+  each = (record { is = is; small = small }, frames_alike frame first.1 others is small (subst AreAlike e alike));
+})
+
+pub first_of : (sends : List (ℕ × Packet)) (first : ℕ × Packet) → 0 < length sends → first ≡ get_or sends 0 first → sends ≡ first ∷ drop 1 sends
+first_of [] first some e = absurd (omega arith)
+first_of (x ∷ others) first some e = ap (λ (sent : ℕ × Packet). sent ∷ others) (sym e)
+
+pub one_of : (sends : List (ℕ × Packet)) (sent : ℕ × Packet) → 0 < length sends → length sends < 2 → sent ≡ get_or sends 0 sent → sends ≡ sent ∷ []
+one_of [] sent some few e = absurd (omega arith)
+one_of (x ∷ []) sent some few e = ap (λ (s : ℕ × Packet). s ∷ []) (sym e)
+one_of (x ∷ y ∷ others) sent some few e = absurd (omega arith)
+
+-- one packet to one peer
+module _ (start : List Wire) (sends : List (ℕ × Packet)) (sent : ℕ × Packet) (e : sends ≡ sent ∷ []) (fit : FitLinks (length start) sends) (room : HaveRoom start) where
+  only : Sending start sends start (sent ∷ [])
+  only = subst (Sending start sends start) e (all_left start sends fit room)
+
+  pub only_place : sent.0 < length start
+  only_place = its_place start start sends [] sent only
+
+  pub only_room : (wire : Wire) → wire ≡ get_or start sent.0 wire → HasRoom wire
+  only_room = its_room start start sends [] sent only
+
+  pub only_sent : (old new : Wire) → old ≡ get_or start sent.0 old → link_of new ≡ with_more (link_of old) (frame_of sent.1) → length (slice_set start sent.0 new) ≡ length start → IsSmallFrame sent.1
+      → (place : ℕ) → links_in (slice_set start sent.0 new) place ≡ with_more (links_in start place) (frames_to sends place)
+  only_sent old new here more same small = none_left start (slice_set start sent.0 new) sends (one_less start start sends [] sent only old new here more same small)
+
+  pub only_small : IsSmallFrame sent.1 → AreSmallFrames sends
+  only_small small = subst AreSmallFrames (sym e) (small, tt)

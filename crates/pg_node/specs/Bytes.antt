@@ -1,5 +1,5 @@
 -- What a node takes of the bytes that came in.
-use Rattle.std.specs.Prelude.{◌≡◌, Bool, true, false, ◌||◌, not, ℕ, if◌then◌else◌}
+use Rattle.std.specs.Prelude.{◌≡◌, Bool, true, false, ◌||◌, ◌&&◌, not, ℕ, if◌then◌else◌}
 use Rattle.std.specs.Prelude.{List, [], Option, Some, None, Result, Ok, Err}
 use Rattle.pg_frame.specs.declared.fault.TooLong as frame
 use Rattle.pg_frame.specs.Frames.{front_of, after_front}
@@ -59,3 +59,11 @@ is_whole front = false
 -- nothing is left to be taken
 abbrev pub is_drained : Link → Bool
 is_drained link = link.damaged || not (is_whole (front_of link.unread))
+
+abbrev pub is_none : Result (Option (List ℕ)) frame.TooLong → Bool
+is_none (Ok None) = true
+is_none front = false
+
+-- nothing is there to be read yet
+abbrev pub is_idle : Link → Bool
+is_idle link = not link.damaged && is_none (front_of link.unread)

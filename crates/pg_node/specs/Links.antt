@@ -9,7 +9,9 @@ use Rattle.pg_writer.specs.declared.size.TheConstants.{MAX_SMALL_LEN}
 use Rattle.pg_message.specs.Writing.{term_of_packet, framed}
 use Rattle.pg_term_io.specs.Writing.{written}
 use Rattle.pg_step.specs.Nodes.{Node}
+use Rattle.pg_node.specs.declared.node.frame.Frame.{Frame}
 use Rattle.pg_node.specs.declared.node.wire.Wire.{Wire}
+use Rattle.pg_node_state.specs.Frames.{frame_of, IsSmallFrame}
 use Rattle.pg_node_state.specs.Sendable.{AreSendable}
 
 -- what stands in the link to a peer: the bytes that came in and were not taken, those that go out and were not put, and
@@ -62,3 +64,19 @@ HasRoom wire = 4 + MAX_SMALL_LEN ≤ wire.outbox.spare
 -- nor does one at any place
 abbrev pub HaveRoom : List Wire → Type 0
 HaveRoom wires = (place : ℕ) → place < length wires → 4 + MAX_SMALL_LEN ≤ room_in wires place
+
+-- ---- one frame for several
+
+-- the bytes of a frame
+abbrev pub bytes_in : Frame → List ℕ
+bytes_in frame = frame.bytes.items
+
+-- these bytes are the frame of a packet, a small one
+pub record IsFrame (frame : List ℕ) (packet : Packet) : Type 0 where
+  pub is : frame ≡ frame_of packet
+  pub small : IsSmallFrame packet
+
+-- and of each of these, which are sent; it is short, if there are none
+pub record AreOneFrame (frame : List ℕ) (sends : List (ℕ × Packet)) : Type 0 where
+  pub short : length frame ≤ 4 + MAX_SMALL_LEN
+  pub each : AllByRecursion (λ sent. IsFrame frame sent.1) sends

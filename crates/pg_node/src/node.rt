@@ -5,10 +5,13 @@ ghost use Rattle.pg_node_state.specs.States.{names_of as names_known};
 
 mod begun;
 mod events;
+mod frame;
 mod moved;
+mod own;
 mod wire;
 mod wires;
 
+use crate::node::frame::Frame;
 use crate::node::wire::Wire;
 use pg_group::GroupTable;
 use pg_node_state::NodeState;
@@ -22,6 +25,8 @@ pub struct Node<T: GroupTable> {
     wires: Vec<Wire>,
     // Where bytes are on their way from an inlet.
     piece: Vec<u8>,
+    // Where a frame is written that goes to several peers.
+    frame: Frame,
     alloc: Global,
     ghost linked: { length wires.items + 1 ≡ length (names_known state) },
     ghost passage: { length piece.items ≡ 65536 },

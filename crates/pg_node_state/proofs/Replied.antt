@@ -1,8 +1,12 @@
 -- What a reply leads to, by the reference that it is under.
 use Rattle.std.proofs.Common.{◌≡◌, ◌≤◌, ◌<◌, ◌^◌, ℕ, Bool, true, false, ◌&&◌, cond}
-use Rattle.std.proofs.Common.{nat_lt, Option, Some, None, Ok, refl, sym, ap, ◌∙◌, arith}
+use Rattle.std.proofs.Common.{nat_eq, nat_lt, Option, Some, None, Ok, refl, sym, ap, ◌∙◌, arith}
+use Rattle.std.specs.Cmp.Lexicographic.{pointwise, bytes_decides}
+use Rattle.std.proofs.lemmas.Bool.{eq-eqb, lt-ltb}
 use Rattle.std.proofs.lemmas.Bool.Decides.{nat_tests}
+use Rattle.std.proofs.lemmas.Nat.{div-add-mod'}
 use Rattle.pg_term.specs.RefParts.{RefParts, ref_eq}
+use Rattle.pg_term.proofs.Same.{ref_is}
 use Rattle.pg_refs.specs.Numbered.{numbered, number_in}
 use Rattle.pg_message.specs.declared.message.Said.{Said}
 use Rattle.pg_multicall.specs.Gathered.{what_of}
@@ -64,6 +68,14 @@ module _ (m : Nodes) (p : Node) (reference : RefParts) (said : Said) (s : State)
       go true e = ap (λ (o : Option ℕ). value o) e
       go false e = absurd (cc)
 
+  -- it is that reference
+  pub reference_is : (n : ℕ) → cond (ref_eq (numbered m.own number) reference && nat_lt number (2 ^ 32)) (Some number) None ≡ Some n → numbered m.own n ≡ reference
+  reference_is n e = ap (numbered m.own) (sym (number_is n e)) ∙ ref_is (numbered m.own number) reference (go (ref_eq (numbered m.own number) reference) refl e)
+    where
+      go : (b : Bool) → ref_eq (numbered m.own number) reference ≡ b → cond (b && nat_lt number (2 ^ 32)) (Some number) None ≡ Some n → ref_eq (numbered m.own number) reference ≡ true
+      go true is e = is
+      go false is e = absurd (cc)
+
   pub use_is : (n : ℕ) → cond (ref_eq (numbered m.own number) reference && nat_lt number (2 ^ 32)) (Some number) None ≡ Some n → use_of m reference s ≡ s.uses number
   use_is n e = go (ref_eq (numbered m.own number) reference) refl e
     where
@@ -78,3 +90,18 @@ module _ (m : Nodes) (p : Node) (reference : RefParts) (said : Said) (s : State)
   leads n e heard kind taken is = (λ i. reply_under (use_is n e i) m p number said s)
       ∙ ((λ i. reply_under (s.uses (number_is n e i)) m p (number_is n e i) said s)
       ∙ (λ i. reply_by (sym taken i) (sym is i) (s.uses n) m p n said s))
+
+-- ---- the reference of a number
+
+ref_same : (r : RefParts) → ref_eq r r ≡ true
+ref_same r = ap (λ b. b && (nat_eq r.creation r.creation && pointwise nat_eq r.words r.words)) ((bytes_decides r.node r.node).1 refl)
+    ∙ (ap (λ b. b && pointwise nat_eq r.words r.words) (eq-eqb r.creation r.creation refl) ∙ (bytes_decides r.words r.words).1 refl)
+
+number_back : (own : Node) (n : ℕ) → number_in (numbered own n) ≡ n
+number_back own n = omega (arith, div-add-mod' n 262144)
+
+-- it tells the number
+pub read_numbered : (own : Node) (n : ℕ) → n < 2 ^ 32
+    → cond (ref_eq (numbered own (number_in (numbered own n))) (numbered own n) && nat_lt (number_in (numbered own n)) (2 ^ 32)) (Some (number_in (numbered own n))) None ≡ Some n
+read_numbered own n within = (λ i. cond (ref_eq (numbered own (number_back own n i)) (numbered own n) && nat_lt (number_back own n i) (2 ^ 32)) (Some (number_back own n i)) None)
+    ∙ (ap (λ b. cond (b && nat_lt n (2 ^ 32)) (Some n) None) (ref_same (numbered own n)) ∙ ap (λ b. cond b (Some n) None) (lt-ltb n (2 ^ 32) within))

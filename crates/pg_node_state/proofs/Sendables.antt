@@ -1,6 +1,6 @@
 -- What is sent to the marked peers can be sent.
 use Rattle.std.proofs.Common.{◌≡◌, ℕ, zero, suc, ◌+◌, ◌<◌, ◌≤◌, Bool, true, false, cond}
-use Rattle.std.proofs.Common.{get_or, length, List, [], ◌∷◌, ◌++◌, refl, sym, subst, arith}
+use Rattle.std.proofs.Common.{get_or, length, List, [], ◌∷◌, ◌++◌, refl, sym, subst, ◌∙◌, arith}
 use Rattle.std.specs.List.{AllByRecursion}
 use Rattle.pg_message.specs.declared.message.Message.{Message}
 use Rattle.pg_message.specs.declared.packet.Packet.{Packet}
@@ -10,7 +10,7 @@ use Rattle.pg_step.specs.Nodes.{Node}
 use Rattle.pg_node_state.specs.declared.state.orders.Order.{Order}
 use Rattle.pg_node_state.specs.declared.state.orders.Order.TheVariants.{Lock, Free, Change, End}
 use Rattle.pg_node_state.specs.Orders.{message_of}
-use Rattle.pg_node_state.specs.Sendable.{IsSendable, Ascends, AreSendable}
+use Rattle.pg_node_state.specs.Sendable.{IsSendable, Ascends, AreAlike, AreSendable}
 use Rattle.pg_node_state.proofs.Sent.{sent_below, and_nothing}
 
 -- no order is an exchange
@@ -22,12 +22,12 @@ order_small (End pid) = refl
 
 -- nothing is sent
 pub nothing_sendable : (names : List Node) (sends : List (ℕ × Packet)) → sends ≡ [] → AreSendable names sends
-nothing_sendable names [] e = record { each = tt; apart = tt }
+nothing_sendable names [] e = record { each = tt; apart = tt; alike = tt }
 nothing_sendable names (sent ∷ others) e = absurd (cc)
 
 -- one packet is sent
 pub one_sendable : (names : List Node) (place : ℕ) (packet : Packet) → IsSendable names (place, packet) → AreSendable names ((place, packet) ∷ [])
-one_sendable names place packet is = record { each = (is, tt); apart = (omega arith, tt) }
+one_sendable names place packet is = record { each = (is, tt); apart = (omega arith, tt); alike = tt }
 
 -- they go to places below this one
 abbrev pub AreBelow : ℕ → List (ℕ × Packet) → Type 0
@@ -50,6 +50,22 @@ below_later : (place : ℕ) (sends : List (ℕ × Packet)) → AreBelow place se
 below_later place [] below = tt
 below_later place (x ∷ sends) below = (omega (arith, below.0), below_later place sends below.1)
 
+-- one packet, again and again
+abbrev pub AllAre : Packet → List (ℕ × Packet) → Type 0
+AllAre packet sends = AllByRecursion (λ sent. sent.1 ≡ packet) sends
+
+all_more : (place : ℕ) (sends : List (ℕ × Packet)) (packet : Packet) → AllAre packet sends → AllAre packet (sends ++ (place, packet) ∷ [])
+all_more place [] packet all = (refl, tt)
+all_more place (x ∷ sends) packet all = (all.0, all_more place sends packet all.1)
+
+like_first : (first packet : Packet) (others : List (ℕ × Packet)) → first ≡ packet → AllAre packet others → AllByRecursion (λ other. other.1 ≡ first) others
+like_first first packet [] e all = tt
+like_first first packet (x ∷ others) e all = (all.0 ∙ sym e, like_first first packet others e all.1)
+
+all_alike : (packet : Packet) (sends : List (ℕ × Packet)) → AllAre packet sends → AreAlike sends
+all_alike packet [] all = tt
+all_alike packet (x ∷ others) all = like_first x.1 packet others all.0 all.1
+
 module _ (names : List Node) (clock : ℕ) (message : Message) (goes : List Bool) (named : is_sayable message ≡ true) (stamp : clock ≤ MAX_STAMP) (small : is_exchange message ≡ false) where
   abbrev packet : Packet
   packet = record { stamp = clock; message = message }
@@ -62,16 +78,25 @@ module _ (names : List Node) (clock : ℕ) (message : Message) (goes : List Bool
   below_here zero = tt
   below_here (suc n) = one_below n (get_or goes n false) (sent_below clock message goes n) (below_here n)
 
-  one_sendable_more : (n : ℕ) (b : Bool) (xs : List (ℕ × Packet)) → n + 1 < length names → AreBelow n xs → AreSendable names xs → AreSendable names (xs ++ cond b ((n, packet) ∷ []) [])
-  one_sendable_more n true xs within below before = record {
+  one_alike : (n : ℕ) (b : Bool) (xs : List (ℕ × Packet)) → AllAre packet xs → AllAre packet (xs ++ cond b ((n, packet) ∷ []) [])
+  one_alike n true xs all = all_more n xs packet all
+  one_alike n false xs all = subst (AllAre packet) (sym (and_nothing xs)) all
+
+  alike_here : (n : ℕ) → AllAre packet (sent_below clock message goes n)
+  alike_here zero = tt
+  alike_here (suc n) = one_alike n (get_or goes n false) (sent_below clock message goes n) (alike_here n)
+
+  one_sendable_more : (n : ℕ) (b : Bool) (xs : List (ℕ × Packet)) → n + 1 < length names → AreBelow n xs → AllAre packet xs → AreSendable names xs → AreSendable names (xs ++ cond b ((n, packet) ∷ []) [])
+  one_sendable_more n true xs within below all before = record {
     each = each_more names xs (n, packet) before.each (record { place = within; named = named; stamp = stamp; small = small });
     apart = ascends_more 0 n xs packet (omega arith) before.apart below;
+    alike = all_alike packet (xs ++ (n, packet) ∷ []) (all_more n xs packet all);
   }
-  one_sendable_more n false xs within below before = subst (AreSendable names) (sym (and_nothing xs)) before
+  one_sendable_more n false xs within below all before = subst (AreSendable names) (sym (and_nothing xs)) before
 
   pub sendable_below : (n : ℕ) → n + 1 ≤ length names → AreSendable names (sent_below clock message goes n)
-  sendable_below zero within = record { each = tt; apart = tt }
-  sendable_below (suc n) within = one_sendable_more n (get_or goes n false) (sent_below clock message goes n) (later n (length names) within) (below_here n) (sendable_below n (before n (length names) within))
+  sendable_below zero within = record { each = tt; apart = tt; alike = tt }
+  sendable_below (suc n) within = one_sendable_more n (get_or goes n false) (sent_below clock message goes n) (later n (length names) within) (below_here n) (alike_here n) (sendable_below n (before n (length names) within))
     where
       later : (n k : ℕ) → suc n + 1 ≤ k → n + 1 < k
       later n k l = omega (arith, l)

@@ -1,4 +1,4 @@
--- What an event of a node sends can be written: small packets, at most one to each peer.
+-- What an event of a node sends can be written: one small packet, to a peer or to several.
 use Rattle.std.specs.Prelude.{◌≡◌, ◌≤◌, ◌<◌, ◌+◌, ℕ, true, false, List, [], ◌∷◌, length}
 use Rattle.std.specs.List.{AllByRecursion}
 use Rattle.pg_message.specs.declared.packet.Packet.{Packet}
@@ -18,10 +18,16 @@ abbrev pub Ascends : ℕ → List (ℕ × Packet) → Type 0
 Ascends place [] = Unit {0}
 Ascends place (sent ∷ others) = (place ≤ sent.0) × Ascends (sent.0 + 1) others
 
--- each can be sent, and they go to different peers, in the order of the peers
+-- all are one packet
+abbrev pub AreAlike : List (ℕ × Packet) → Type 0
+AreAlike [] = Unit {0}
+AreAlike (sent ∷ others) = AllByRecursion (λ other. other.1 ≡ sent.1) others
+
+-- each can be sent, they go to different peers, in the order of the peers, and are one packet
 pub record AreSendable (names : List Node) (sends : List (ℕ × Packet)) : Type 0 where
   pub each : AllByRecursion (IsSendable names) sends
   pub apart : Ascends 0 sends
+  pub alike : AreAlike sends
 
 -- what is sent can be written in the outboxes of so many peers
 abbrev pub FitLinks : ℕ → List (ℕ × Packet) → Type 0

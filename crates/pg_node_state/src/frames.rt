@@ -1,6 +1,6 @@
 //! The frames of what a node sends.
 
-ghost use Rattle.std.specs.Prelude.{◌≡◌, ◌≤◌, ◌+◌, ◌++◌, true, false};
+ghost use Rattle.std.specs.Prelude.{◌≡◌, ◌≤◌, ◌+◌, ◌++◌, length, true, false};
 ghost use Rattle.pg_message.specs.declared.packet.TheConstants.{MAX_STAMP};
 ghost use Rattle.pg_message.specs.Writing.{is_exchange, is_sayable};
 ghost use Rattle.pg_node_state.specs.Frames.{frame_of, IsSmallFrame};
@@ -19,6 +19,7 @@ pub fn write_small(packet: &Packet, out: &mut BytesMut)
     requires small { is_exchange packet.now.message ≡ false }
     requires room { 4 + MAX_SMALL_LEN ≤ out.old.spare }
     ensures items { out.new.items ≡ out.old.items ++ frame_of packet.now }
+    ensures spare { out.old.spare ≤ out.new.spare + length (frame_of packet.now) }
     ensures small { IsSmallFrame packet.now }
 {
     write_packet_into(packet, out).unwrap();

@@ -22,6 +22,7 @@ mod fault;
 mod first;
 mod fresh;
 mod made;
+mod numbered;
 mod opening;
 mod orders;
 mod own;

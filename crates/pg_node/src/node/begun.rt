@@ -15,6 +15,7 @@ ghost use Rattle.pg_node.specs.Links.{link_of, links_in};
 ghost use Rattle.pg_node_state.specs.States.{names_of as names_known, kept_by};
 
 use crate::node::Node;
+use crate::node::frame::Frame;
 use crate::node::wire::Wire;
 use pg_group::GroupTable;
 use pg_message::Packet;
@@ -73,6 +74,10 @@ impl<T: GroupTable + Drop> Node<T> {
             Ok(piece) => piece,
             Err(AllocError) => return Err(NodeFault::OutOfMemory),
         };
+        let frame = match Frame::new(alloc) {
+            Ok(frame) => frame,
+            Err(AllocError) => return Err(NodeFault::OutOfMemory),
+        };
         let wires = match opening_wires(alloc, &state) {
             Ok(wires) => wires,
             Err(fault) => return Err(fault),
@@ -81,6 +86,7 @@ impl<T: GroupTable + Drop> Node<T> {
             state,
             wires,
             piece,
+            frame,
             alloc,
         })
     }

@@ -41,6 +41,33 @@ impl<T: GroupTable + Drop> Node<T> {
         ensures sent { (done : Done) → result ≡ Ok (Some done)
             → (place : ℕ) → links_of self.new place ≡ at_link peer passed (sent_out done.sends.items (links_of self.old)) place }
         ensures small { (done : Done) → result ≡ Ok (Some done) → AreSmallFrames done.sends.items }
+        ensures fits { (done : Done) → result ≡ Ok (Some done) → AreSendable (names_of (held_by self.old)) done.sends.items }
+        ensures none { result ≡ Ok None → links_of self.new ≡ links_of self.old }
+        ensures marked { IfErr result (λ fault. links_of self.new ≡ at_link peer (λ l. marked l fault) (links_of self.old)) }
+        ensures err { OnErr result (state_of (held_by self.new) ≡ state_of (held_by self.old)) }
+        ensures err_answers { OnErr result (answers_of (held_by self.new) ≡ answers_of (held_by self.old)) }
+        ensures names { names_of (held_by self.new) ≡ names_of (held_by self.old) }
+        ensures ports { ports_of (held_by self.new) ≡ ports_of (held_by self.old) }
+    {
+        match self.own_reply(peer) {
+            Some(reply) => match self.take_own_reply(peer, reply) {
+                Ok(done) => Ok(Some(done)),
+                Err(fault) => Err(fault),
+            },
+            None => self.take_packet(peer),
+        }
+    }
+
+    /// The same of a packet that is read whole.
+    fn take_packet(&mut self, peer: usize) -> Result<Option<Done>, NodeFault>
+        requires place { peer + 1 < length (names_of (held_by self.old)) }
+        ensures event { TakesNext (names_of (held_by self.old))
+            (step_link (nodes_of (held_by self.old)) (name_at (names_of (held_by self.old)) (peer + 1)) (links_of self.old peer) (state_of (held_by self.old)))
+            result (state_of (held_by self.old)) (state_of (held_by self.new)) (answers_of (held_by self.old)) (answers_of (held_by self.new)) }
+        ensures sent { (done : Done) → result ≡ Ok (Some done)
+            → (place : ℕ) → links_of self.new place ≡ at_link peer passed (sent_out done.sends.items (links_of self.old)) place }
+        ensures small { (done : Done) → result ≡ Ok (Some done) → AreSmallFrames done.sends.items }
+        ensures fits { (done : Done) → result ≡ Ok (Some done) → AreSendable (names_of (held_by self.old)) done.sends.items }
         ensures none { result ≡ Ok None → links_of self.new ≡ links_of self.old }
         ensures marked { IfErr result (λ fault. links_of self.new ≡ at_link peer (λ l. marked l fault) (links_of self.old)) }
         ensures err { OnErr result (state_of (held_by self.new) ≡ state_of (held_by self.old)) }
@@ -69,6 +96,7 @@ impl<T: GroupTable + Drop> Node<T> {
         ensures sent { (done : Done) → result ≡ Ok (Some done)
             → (place : ℕ) → links_of self.new place ≡ at_link peer passed (sent_out done.sends.items (links_of self.old)) place }
         ensures small { (done : Done) → result ≡ Ok (Some done) → AreSmallFrames done.sends.items }
+        ensures fits { (done : Done) → result ≡ Ok (Some done) → AreSendable (names_of (held_by self.old)) done.sends.items }
         ensures none { result ≡ Ok None → links_of self.new ≡ links_of self.old }
         ensures marked { IfErr result (λ fault. links_of self.new ≡ at_link peer (λ l. marked l fault) (links_of self.old)) }
         ensures err { OnErr result (state_of (held_by self.new) ≡ state_of (held_by self.old)) }
@@ -137,7 +165,7 @@ impl<T: GroupTable + Drop> Node<T> {
         }
         match self.state.take(peer, packet) {
             Ok(done) => {
-                send_all(&mut self.wires, done.sends.as_slice());
+                send_all(&mut self.wires, &mut self.frame, done.sends.as_slice());
                 let wire = &mut self.wires[peer];
                 wire.pass();
                 Ok(done)
@@ -176,7 +204,7 @@ impl<T: GroupTable + Drop> Node<T> {
         }
         match self.state.command(port, command) {
             Ok(done) => {
-                send_all(&mut self.wires, done.sends.as_slice());
+                send_all(&mut self.wires, &mut self.frame, done.sends.as_slice());
                 Ok(done)
             }
             Err(fault) => Err(fault),
@@ -208,7 +236,7 @@ impl<T: GroupTable + Drop> Node<T> {
         }
         match self.state.retry(op) {
             Ok(done) => {
-                send_all(&mut self.wires, done.sends.as_slice());
+                send_all(&mut self.wires, &mut self.frame, done.sends.as_slice());
                 Ok(done)
             }
             Err(fault) => Err(fault),

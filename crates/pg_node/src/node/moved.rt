@@ -1,7 +1,7 @@
 //! What is read of a node over bytes, and how bytes move between its links and its peers.
 
-ghost use Rattle.std.specs.Prelude.{◌≡◌, ◌≤◌, ◌<◌, ◌+◌, ◌++◌, ℕ, List, true, false};
-ghost use Rattle.std.specs.Prelude.{length, take, min, Err, IfOk, IfErr, OnErr};
+ghost use Rattle.std.specs.Prelude.{◌≡◌, ◌↔◌, ◌≤◌, ◌<◌, ◌+◌, ◌++◌, ℕ, List, true, false};
+ghost use Rattle.std.specs.Prelude.{length, take, min, None, Ok, Err, IfOk, IfErr, OnErr};
 
 use crate::node::Node;
 use crate::node::wire::Wire;
@@ -14,7 +14,7 @@ impl<T: GroupTable + Drop> Node<T> {
     ghost use Rattle.pg_step.specs.declared.refusal.Refusal.TheVariants.{NodeLost};
     ghost use Rattle.pg_node_state.specs.declared.state.fault.NodeFault.TheVariants.{Refused, Damaged, OutOfMemory};
     ghost use Rattle.pg_node.specs.Links.{at_link, with_fed, without_front};
-    ghost use Rattle.pg_node.specs.Nodes.{held_by, links_of, has_lost};
+    ghost use Rattle.pg_node.specs.Nodes.{held_by, links_of, has_lost, read_next};
     ghost use Rattle.pg_node_state.specs.States.{names_of};
 
     /// The node over packets.
@@ -44,6 +44,20 @@ impl<T: GroupTable + Drop> Node<T> {
         ensures { result ≡ (links_of self.now peer).damaged }
     {
         self.wires[peer].damaged
+    }
+
+    /// Whether nothing is there to be taken of a peer yet: its loss was not seen, the link is not damaged, and no whole
+    /// frame came. `take` gives `None` exactly then.
+    ///
+    /// Cost: no memory.
+    pub fn is_idle(&self, peer: usize) -> bool
+        requires place { peer + 1 < length (names_of (held_by self.now)) }
+        ensures { (result ≡ true) ↔ (read_next (has_lost (held_by self.now) peer) (links_of self.now peer) ≡ Ok None) }
+    {
+        if self.state.is_lost(peer) {
+            return false;
+        }
+        self.wires[peer].is_idle()
     }
 
     /// Moves up to `max` bytes from the front of the outbox of a peer into a link, and returns how many it took.

@@ -1,7 +1,7 @@
 //! The link of a node to one peer.
 
 ghost use Rattle.std.specs.Prelude.{◌≡◌, ◌≤◌, ◌+◌, ◌++◌, ◌^◌, [], true, false, length};
-ghost use Rattle.std.specs.Prelude.{take, min, Err, IfOk, IfErr, IfSome, OnOk, OnErr};
+ghost use Rattle.std.specs.Prelude.{take, min, Some, Ok, Err, IfOk, IfErr, IfSome, OnOk, OnErr};
 ghost use Rattle.pg_message.specs.declared.packet.TheConstants.{MAX_STAMP};
 ghost use Rattle.pg_message.specs.Writing.{is_exchange, is_sayable};
 ghost use Rattle.pg_node_state.specs.Frames.{frame_of, IsSmallFrame};
@@ -12,9 +12,10 @@ use bytes::BytesMut;
 use pg_frame::Deframer;
 use pg_message::Packet;
 use pg_node_state::{NodeFault, write_small};
-use pg_reader::read_packet;
+use pg_reader::{OwnReply, read_own_reply, read_packet};
 use pg_ring::{Inlet, Link};
 use pg_step::Refusal;
+use pg_term::Atom;
 use pg_writer::MAX_SMALL_LEN;
 use std::alloc::{AllocError, Global};
 
@@ -34,7 +35,8 @@ impl Wire {
     ghost use Rattle.pg_node_state.specs.declared.state.fault.NodeFault.TheVariants.{Damaged, OutOfMemory};
     ghost use Rattle.pg_node_state.specs.Frames.{frame_of, IsSmallFrame};
     ghost use Rattle.pg_node.specs.Links.{idle_link, link_of, with_more, with_fed, without_front, HasRoom};
-    ghost use Rattle.pg_node.specs.Bytes.{next_packet, Tells, marked, passed, closed, is_drained};
+    ghost use Rattle.pg_reader.specs.Own.{own_reply};
+    ghost use Rattle.pg_node.specs.Bytes.{next_packet, Tells, marked, passed, closed, is_drained, is_idle};
 
     /// A link where nothing came in and nothing goes out. It takes no memory yet.
     pub(crate) fn new(alloc: Global) -> Wire
@@ -70,6 +72,15 @@ impl Wire {
         write_small(packet, &mut self.outbox);
     }
 
+    /// Appends a small frame to the outbox, where there is room. It takes no memory.
+    pub(crate) fn append(&mut self, frame: &[u8])
+        requires short { length frame.now ≤ 4 + MAX_SMALL_LEN }
+        requires room { HasRoom self.old }
+        ensures { link_of self.new ≡ with_more (link_of self.old) frame.now }
+    {
+        self.outbox.extend_reserved(frame);
+    }
+
     /// Moves up to `max` bytes of the outbox's front into the link, and returns how many it took. It takes no memory.
     pub(crate) fn put<L: Link>(&mut self, link: &mut L, max: usize) -> usize
         ensures within { result ≤ max }
@@ -81,7 +92,9 @@ impl Wire {
         let bytes = self.outbox.as_slice();
         let some = max.min(bytes.len());
         let count = link.put(&bytes[..some]);
-        self.outbox.advance(count);
+        if count > 0 {
+            self.outbox.advance(count);
+        }
         count
     }
 
@@ -109,7 +122,9 @@ impl Wire {
         }
         self.deframer.make_room(piece.len())?;
         let count = inlet.take(piece);
-        self.deframer.feed(&piece[..count]).unwrap();
+        if count > 0 {
+            self.deframer.feed(&piece[..count]).unwrap();
+        }
         Ok(count)
     }
 
@@ -149,6 +164,20 @@ impl Wire {
         }
     }
 
+    /// The next packet, where that is a reply which is read as numbers (`read_own_reply`) by the node of this name. It takes no
+    /// memory.
+    pub(crate) fn own_reply(&self, own: &Atom) -> Option<OwnReply>
+        ensures { IfSome result (λ reply. next_packet (link_of self.now) ≡ Ok (Some (own_reply own.now reply))) }
+    {
+        if self.damaged {
+            return None;
+        }
+        match self.deframer.front() {
+            Ok(Some(body)) => read_own_reply(own, body),
+            _ => None,
+        }
+    }
+
     /// Damages the link, where this fault of what came in does. It takes no memory.
     pub(crate) fn mark(&mut self, fault: NodeFault)
         ensures { link_of self.new ≡ marked (link_of self.old) fault }
@@ -170,6 +199,13 @@ impl Wire {
         ensures { link_of self.new ≡ closed (link_of self.old) }
     {
         self.outbox.clear();
+    }
+
+    /// Whether nothing is there to be read yet: no whole frame came, and no fault. It takes no memory.
+    pub(crate) fn is_idle(&self) -> bool
+        ensures { result ≡ is_idle (link_of self.now) }
+    {
+        !self.damaged && matches!(self.deframer.front(), Ok(None))
     }
 
     /// Whether nothing is left to be taken: what came in had a fault, or no whole frame is there. It takes no memory.

@@ -3,8 +3,9 @@
 ghost use Rattle.std.specs.Prelude.{◌≡◌, ℕ, length, OnOk};
 ghost use Rattle.pg_node_state.specs.Frames.{frames_to, AreSmallFrames};
 ghost use Rattle.pg_node_state.specs.Sendable.{FitLinks};
-ghost use Rattle.pg_node.specs.Links.{links_in, with_more, HaveRoom};
+ghost use Rattle.pg_node.specs.Links.{links_in, with_more, HaveRoom, AreOneFrame};
 
+use crate::node::frame::Frame;
 use crate::node::wire::Wire;
 use pg_message::Packet;
 use std::alloc::AllocError;
@@ -25,16 +26,39 @@ pub(crate) fn make_room(wires: &mut Vec<Wire>) -> Result<(), AllocError>
 }
 
 /// Appends packets as frames to the outboxes of the peers that they go to, where there is room for one in each. It takes no
-/// memory.
-pub(crate) fn send_all(wires: &mut Vec<Wire>, sends: &[(usize, Packet)])
+/// memory. `frame`: where the frame is written that goes to several.
+pub(crate) fn send_all(wires: &mut Vec<Wire>, frame: &mut Frame, sends: &[(usize, Packet)])
     requires fit { FitLinks (length wires.old.items) sends.now }
     requires room { HaveRoom wires.old.items }
     ensures sent { (place : ℕ) → links_in wires.new.items place ≡ with_more (links_in wires.old.items place) (frames_to sends.now place) }
     ensures small { AreSmallFrames sends.now }
     ensures len { length wires.new.items ≡ length wires.old.items }
 {
+    match sends {
+        [] => {}
+        [sent] => {
+            let wire = &mut wires[sent.0];
+            wire.send(&sent.1);
+        }
+        [first, ..] => {
+            frame.set(&first.1);
+            append_all(wires, frame.as_slice(), sends);
+        }
+    }
+}
+
+/// Appends one small frame to the outboxes of the peers that it goes to, where there is room for it in each. It takes no
+/// memory. `sends`: the packets of which it is the frame.
+fn append_all(wires: &mut Vec<Wire>, frame: &[u8], sends: &[(usize, Packet)])
+    requires fit { FitLinks (length wires.old.items) sends.now }
+    requires room { HaveRoom wires.old.items }
+    requires one { AreOneFrame frame.now sends.now }
+    ensures sent { (place : ℕ) → links_in wires.new.items place ≡ with_more (links_in wires.old.items place) (frames_to sends.now place) }
+    ensures small { AreSmallFrames sends.now }
+    ensures len { length wires.new.items ≡ length wires.old.items }
+{
     for sent in sends {
         let wire = &mut wires[sent.0];
-        wire.send(&sent.1);
+        wire.append(frame);
     }
 }

@@ -17,6 +17,7 @@ use std::alloc::AllocError;
 impl<T: GroupTable + Drop> NodeState<T> {
     ghost use Rattle.pg_multicall.specs.Gathered.{what_of};
     ghost use Rattle.pg_multicall.specs.declared.gather.Taken.TheVariants.{Counted};
+    ghost use Rattle.pg_refs.specs.Numbered.{numbered};
     ghost use Rattle.pg_opens.specs.Places.{name_at};
     ghost use Rattle.pg_opens.specs.Readings.{gathering_of};
     ghost use Rattle.pg_opens.specs.declared.command.Gathering.TheVariants as gatherings;
@@ -51,9 +52,35 @@ impl<T: GroupTable + Drop> NodeState<T> {
         ensures ports { ports_of self.new ≡ ports_of self.old }
         ensures fits { IfOk result (λ done. AreSendable (names_of self.old) done.sends.items) }
     {
-        let Some(number) = number_of(self.opens.name(0), reference) else {
-            return Ok(self.note_odd(clock, Odd::Stranger));
-        };
+        match number_of(self.opens.name(0), reference) {
+            Some(number) => self.take_numbered(clock, peer, number, said),
+            None => Ok(self.note_odd(clock, Odd::Stranger)),
+        }
+    }
+
+    /// Takes the reply of a peer, which is not lost, to the reference of this number.
+    ///
+    /// Errors: those of `take_reply`.
+    pub(crate) fn take_numbered(
+        &mut self,
+        clock: u32,
+        peer: usize,
+        number: u32,
+        said: Said,
+    ) -> Result<Done, NodeFault>
+        requires later { self.old.clock < clock }
+        requires within { clock ≤ MAX_STAMP }
+        requires place { peer + 1 < length (names_of self.old) }
+        ensures light { is_counted (what_of true (gathered (use_of (left_of self.old) (numbered (left_of self.old).own number) (kept_by self.old)) (name_at (names_of self.old) (peer + 1)))) ≡ false
+            → result ≢ Err OutOfMemory }
+        ensures comes { ComesAt clock (names_of self.old) (reply_taken (left_of self.old) (name_at (names_of self.old) (peer + 1)) (numbered (left_of self.old).own number) said (kept_by self.old))
+            result (state_of self.new) (answers_of self.old) (answers_of self.new) }
+        ensures err { OnErr result (state_of self.new ≡ state_of self.old) }
+        ensures err_answers { OnErr result (answers_of self.new ≡ answers_of self.old) }
+        ensures names { names_of self.new ≡ names_of self.old }
+        ensures ports { ports_of self.new ≡ ports_of self.old }
+        ensures fits { IfOk result (λ done. AreSendable (names_of self.old) done.sends.items) }
+    {
         let kind = is_kind(self.opens.gathering(number), said);
         match self.opens.heard(number, peer + 1) {
             Taken::Stranger => Ok(self.note_odd(clock, Odd::Stranger)),

@@ -7,6 +7,7 @@ use Rattle.pg_node.specs.Bytes.{next_packet}
 use Rattle.pg_node_state.specs.Frames.{AreSmallFrames}
 use Rattle.pg_node.specs.Links.{links_in}
 use Rattle.pg_node.specs.Nodes.{taken_of, TakesNext}
+use Rattle.pg_node_state.specs.Sendable.{AreSendable}
 use Rattle.pg_node_state.specs.States.{names_of, nodes_of, state_of, answers_of, stamped_of}
 use Rattle.pg_node.proofs.Events.{takes_ok, takes_err}
 use Rattle.pg_node.proofs.node.Node.take_next.Goals as goal
@@ -36,3 +37,6 @@ returns-in-Err-clause-event g c =
 
 pub returns-in-Ok-clause-small : goal.returns-in-Ok-clause-small
 returns-in-Ok-clause-small g c = λ done is. let same : c.in-Ok.done ≡ done = cc in subst (λ (d : Done). AreSmallFrames d.sends.items) same c.in-Ok.ensures.small
+
+pub returns-in-Ok-clause-fits : goal.returns-in-Ok-clause-fits
+returns-in-Ok-clause-fits g c = λ done is. let same : c.in-Ok.done ≡ done = cc in subst (λ (d : Done). AreSendable (names_of c.args.self.now.state) d.sends.items) same c.in-Ok.ensures.fits

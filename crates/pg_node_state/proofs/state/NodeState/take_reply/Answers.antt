@@ -1,93 +1,46 @@
-use Rattle.std.proofs.Common.{◌∙◌, ◌+◌, ◌^◌, ◌&&◌, ℕ, true, cond, nat_lt, Some}
-use Rattle.std.proofs.Common.{None, Result, Ok, Err, sym, ap, subst, arith}
+use Rattle.std.proofs.Common.{◌∙◌, ◌+◌, ◌^◌, ◌&&◌, ℕ, cond, nat_lt, Some, true, false}
+use Rattle.std.proofs.Common.{◌≡◌, ◌≢◌, None, Result, Ok, Err, sym, ap, subst, arith}
 use Rattle.pg_term.specs.RefParts.{RefParts, ref_eq}
 use Rattle.pg_refs.specs.Numbered.{numbered, number_in}
-use Rattle.pg_multicall.specs.declared.gather.Taken.TheVariants as taken
 use Rattle.pg_opens.specs.Places.{name_at}
 use Rattle.pg_step.specs.declared.refusal.Refusal.{Refusal}
 use Rattle.pg_multicall.specs.Gathered.{what_of}
-use Rattle.pg_step.specs.Attempts.{gathered}
+use Rattle.pg_step.specs.Attempts.{gathered, use_of, reply_taken}
 use Rattle.pg_step.specs.Nodes.{Node, Nodes}
-use Rattle.pg_step.specs.State.{Use}
 use Rattle.pg_step.specs.Turns.{NodeTurn}
 use Rattle.pg_node_state.specs.declared.state.fault.NodeFault.TheVariants.{OutOfMemory}
 use Rattle.pg_node_state.specs.States.{names_of, left_of, kept_by, state_of, answers_of, is_counted, ComesAt}
-use Rattle.pg_opens.proofs.Named.{clash}
-use Rattle.pg_node_state.proofs.Replied.{fresh_beyond, no_number, leads, number_is, use_is}
+use Rattle.pg_node_state.proofs.Replied.{fresh_beyond, no_number, reference_is}
 use Rattle.pg_node_state.proofs.state.NodeState.take_reply.Goals as goal
 
-pub returns-in_default-clause-comes : goal.returns-in_default-clause-comes
-returns-in_default-clause-comes g c =
+pub returns-in-None-clause-comes : goal.returns-in-None-clause-comes
+returns-in-None-clause-comes g c =
     let old = c.args.self.now in
     let m : Nodes = left_of old in
     let p : Node = name_at (names_of old) (c.args.peer + 1) in
     let reference : RefParts = c.args.reference.now in
     let number : ℕ = number_in reference in
     let read = ap (λ (n : Node). cond (ref_eq (numbered n number) reference && nat_lt number (2 ^ 32)) (Some number) None) (sym c.name.ensures) ∙ sym c.number_of.ensures in
-    subst (λ (r : Result NodeTurn Refusal). ComesAt c.args.clock (names_of old) r (Ok c.note_odd.result) (state_of c.note_odd.new.self) (answers_of old) (answers_of c.note_odd.new.self)) (sym (no_number m p reference c.args.said (kept_by old) (read ∙ c.in_default.is) (λ l. fresh_beyond old.opens number (omega (arith, old.made, old.within, l))))) c.note_odd.ensures.happens
+    subst (λ (r : Result NodeTurn Refusal). ComesAt c.args.clock (names_of old) r (Ok c.note_odd.result) (state_of c.note_odd.new.self) (answers_of old) (answers_of c.note_odd.new.self)) (sym (no_number m p reference c.args.said (kept_by old) (read ∙ c.in-None.is) (λ l. fresh_beyond old.opens number (omega (arith, old.made, old.within, l))))) c.note_odd.ensures.happens
 
-pub returns-in-Stranger-clause-comes : goal.returns-in-Stranger-clause-comes
-returns-in-Stranger-clause-comes g c =
+pub returns-in-Some-clause-comes : goal.returns-in-Some-clause-comes
+returns-in-Some-clause-comes g c =
     let old = c.args.self.now in
     let m : Nodes = left_of old in
     let p : Node = name_at (names_of old) (c.args.peer + 1) in
     let reference : RefParts = c.args.reference.now in
     let number : ℕ = number_in reference in
     let read = ap (λ (n : Node). cond (ref_eq (numbered n number) reference && nat_lt number (2 ^ 32)) (Some number) None) (sym c.name.ensures) ∙ sym c.number_of.ensures in
-    let n : ℕ = c.in-Some.number in
-    let goes = leads m p reference c.args.said (kept_by old) n (read ∙ c.in-Some.is) in
-    let kind = c.is_kind-kind.ensures ((kept_by old).uses n) c.gathering.ensures in
-    subst (λ (r : Result NodeTurn Refusal). ComesAt c.args.clock (names_of old) r (Ok c.note_odd-in-Stranger.result) (state_of c.note_odd-in-Stranger.new.self) (answers_of old) (answers_of c.note_odd-in-Stranger.new.self)) (sym (goes taken.Stranger c.is_kind-kind.result (sym c.in-Stranger.is ∙ c.heard.ensures) kind)) c.note_odd-in-Stranger.ensures.happens
+    subst (λ (r : RefParts). ComesAt c.args.clock (names_of old) (reply_taken m p r c.args.said (kept_by old)) c.take_numbered.result (state_of c.take_numbered.new.self) (answers_of old) (answers_of c.take_numbered.new.self))
+    (reference_is m p reference c.args.said (kept_by old) c.in-Some.number (read ∙ c.in-Some.is)) c.take_numbered.ensures.comes
 
-pub returns-in-Double-clause-comes : goal.returns-in-Double-clause-comes
-returns-in-Double-clause-comes g c =
+pub returns-in-Some-clause-light : goal.returns-in-Some-clause-light
+returns-in-Some-clause-light g c =
     let old = c.args.self.now in
     let m : Nodes = left_of old in
     let p : Node = name_at (names_of old) (c.args.peer + 1) in
     let reference : RefParts = c.args.reference.now in
     let number : ℕ = number_in reference in
     let read = ap (λ (n : Node). cond (ref_eq (numbered n number) reference && nat_lt number (2 ^ 32)) (Some number) None) (sym c.name.ensures) ∙ sym c.number_of.ensures in
-    let n : ℕ = c.in-Some.number in
-    let goes = leads m p reference c.args.said (kept_by old) n (read ∙ c.in-Some.is) in
-    let kind = c.is_kind-kind.ensures ((kept_by old).uses n) c.gathering.ensures in
-    subst (λ (r : Result NodeTurn Refusal). ComesAt c.args.clock (names_of old) r (Ok c.note_odd-in-Double.result) (state_of c.note_odd-in-Double.new.self) (answers_of old) (answers_of c.note_odd-in-Double.new.self)) (sym (goes taken.Double true (sym c.in-Double.is ∙ c.heard.ensures) (sym c.if-kind.true ∙ kind))) c.note_odd-in-Double.ensures.happens
-
-pub returns-in-Ok-clause-comes : goal.returns-in-Ok-clause-comes
-returns-in-Ok-clause-comes g c =
-    let old = c.args.self.now in
-    let m : Nodes = left_of old in
-    let p : Node = name_at (names_of old) (c.args.peer + 1) in
-    let reference : RefParts = c.args.reference.now in
-    let number : ℕ = number_in reference in
-    let read = ap (λ (n : Node). cond (ref_eq (numbered n number) reference && nat_lt number (2 ^ 32)) (Some number) None) (sym c.name.ensures) ∙ sym c.number_of.ensures in
-    let n : ℕ = c.in-Some.number in
-    let goes = leads m p reference c.args.said (kept_by old) n (read ∙ c.in-Some.is) in
-    let kind = c.is_kind-kind.ensures ((kept_by old).uses n) c.gathering.ensures in
-    subst (λ (r : Result NodeTurn Refusal). ComesAt c.args.clock (names_of old) r (Ok c.in-Ok.done) (state_of c.count.new.self) (answers_of old) (answers_of c.count.new.self)) (sym (goes taken.Counted true (sym c.in-Counted.is ∙ c.heard.ensures) (sym c.if-kind-2.true ∙ kind))) c.in-Ok.ensures.happens
-
-pub returns-in-Err-clause-comes : goal.returns-in-Err-clause-comes
-returns-in-Err-clause-comes g c =
-    let old = c.args.self.now in
-    let m : Nodes = left_of old in
-    let p : Node = name_at (names_of old) (c.args.peer + 1) in
-    let reference : RefParts = c.args.reference.now in
-    let number : ℕ = number_in reference in
-    let read = ap (λ (n : Node). cond (ref_eq (numbered n number) reference && nat_lt number (2 ^ 32)) (Some number) None) (sym c.name.ensures) ∙ sym c.number_of.ensures in
-    let n : ℕ = c.in-Some.number in
-    let goes = leads m p reference c.args.said (kept_by old) n (read ∙ c.in-Some.is) in
-    let kind = c.is_kind-kind.ensures ((kept_by old).uses n) c.gathering.ensures in
-    subst (λ (r : Result NodeTurn Refusal). ComesAt c.args.clock (names_of old) r (Err OutOfMemory) (state_of c.count.new.self) (answers_of old) (answers_of c.count.new.self)) (sym (goes taken.Counted true (sym c.in-Counted.is ∙ c.heard.ensures) (sym c.if-kind-2.true ∙ kind))) tt
-
-pub returns-in-Err-clause-light : goal.returns-in-Err-clause-light
-returns-in-Err-clause-light g c = λ light is.
-    let old = c.args.self.now in
-    let m : Nodes = left_of old in
-    let p : Node = name_at (names_of old) (c.args.peer + 1) in
-    let reference : RefParts = c.args.reference.now in
-    let number : ℕ = number_in reference in
-    let read = ap (λ (n : Node). cond (ref_eq (numbered n number) reference && nat_lt number (2 ^ 32)) (Some number) None) (sym c.name.ensures) ∙ sym c.number_of.ensures in
-    let n : ℕ = c.in-Some.number in
-    let same = use_is m p reference c.args.said (kept_by old) n (read ∙ c.in-Some.is)
-    ∙ ap (λ (k : ℕ). (kept_by old).uses k) (number_is m p reference c.args.said (kept_by old) n (read ∙ c.in-Some.is)) in
-    let counted = ap is_counted (sym (sym c.in-Counted.is ∙ c.heard.ensures)) in
-    clash (sym (ap (λ (u : Use). is_counted (what_of true (gathered u p))) same ∙ counted) ∙ light)
+    subst (λ (r : RefParts). is_counted (what_of true (gathered (use_of m r (kept_by old)) p)) ≡ false → c.take_numbered.result ≢ Err OutOfMemory)
+    (reference_is m p reference c.args.said (kept_by old) c.in-Some.number (read ∙ c.in-Some.is)) c.take_numbered.ensures.light

@@ -1,0 +1,73 @@
+//! Replies to references of the node itself, which are taken as numbers.
+
+ghost use Rattle.std.specs.Prelude.{◌≡◌, ◌<◌, ◌+◌, ℕ, Some, Ok, IfOk, IfErr, IfSome, OnErr, length};
+
+use crate::node::Node;
+use crate::node::wires::{make_room, send_all};
+use pg_group::GroupTable;
+use pg_node_state::{Done, NodeFault};
+use pg_reader::OwnReply;
+use std::alloc::AllocError;
+
+impl<T: GroupTable + Drop> Node<T> {
+    ghost use Rattle.pg_opens.specs.Places.{name_at};
+    ghost use Rattle.pg_reader.specs.Own.{own_reply};
+    ghost use Rattle.pg_step.specs.Step.{step_take};
+    ghost use Rattle.pg_node.specs.Bytes.{next_packet, marked, passed};
+    ghost use Rattle.pg_node.specs.Links.{at_link};
+    ghost use Rattle.pg_node.specs.Nodes.{held_by, links_of, has_lost, read_next, sent_out, ComesInRoom};
+    ghost use Rattle.pg_node_state.specs.Frames.{AreSmallFrames};
+    ghost use Rattle.pg_node_state.specs.Issued.{ports_of};
+    ghost use Rattle.pg_node_state.specs.Sendable.{AreSendable};
+    ghost use Rattle.pg_node_state.specs.States.{names_of, nodes_of, state_of, answers_of, stamped_of};
+
+    /// The next packet of a peer, where that is a reply which is read as numbers, and the loss of the peer was not seen.
+    pub(crate) fn own_reply(&self, peer: usize) -> Option<OwnReply>
+        requires place { peer + 1 < length (names_of (held_by self.now)) }
+        ensures { IfSome result (λ reply. read_next (has_lost (held_by self.now) peer) (links_of self.now peer)
+            ≡ Ok (Some (own_reply (name_at (names_of (held_by self.now)) 0) reply))) }
+    {
+        if self.state.is_lost(peer) {
+            return None;
+        }
+        self.wires[peer].own_reply(self.state.own())
+    }
+
+    /// Takes the reply that `own_reply` has read of a peer, as `take_read` does where it is read as a packet.
+    pub(crate) fn take_own_reply(&mut self, peer: usize, reply: OwnReply) -> Result<Done, NodeFault>
+        requires place { peer + 1 < length (names_of (held_by self.old)) }
+        requires next { next_packet (links_of self.old peer) ≡ Ok (Some (own_reply (name_at (names_of (held_by self.old)) 0) reply)) }
+        ensures event { ComesInRoom (names_of (held_by self.old))
+            (step_take (nodes_of (held_by self.old)) (name_at (names_of (held_by self.old)) (peer + 1)) (stamped_of (own_reply (name_at (names_of (held_by self.old)) 0) reply)) (state_of (held_by self.old)))
+            result (state_of (held_by self.new)) (answers_of (held_by self.old)) (answers_of (held_by self.new)) }
+        ensures sent { IfOk result (λ done. (place : ℕ) → links_of self.new place ≡ at_link peer passed (sent_out done.sends.items (links_of self.old)) place) }
+        ensures small { IfOk result (λ done. AreSmallFrames done.sends.items) }
+        ensures fits { IfOk result (λ done. AreSendable (names_of (held_by self.old)) done.sends.items) }
+        ensures marked { IfErr result (λ fault. links_of self.new ≡ at_link peer (λ l. marked l fault) (links_of self.old)) }
+        ensures err { OnErr result (state_of (held_by self.new) ≡ state_of (held_by self.old)) }
+        ensures err_answers { OnErr result (answers_of (held_by self.new) ≡ answers_of (held_by self.old)) }
+        ensures names { names_of (held_by self.new) ≡ names_of (held_by self.old) }
+        ensures ports { ports_of (held_by self.new) ≡ ports_of (held_by self.old) }
+    {
+        match make_room(&mut self.wires) {
+            Ok(()) => {}
+            Err(AllocError) => return Err(NodeFault::OutOfMemory),
+        }
+        match self
+            .state
+            .take_own_reply(peer, reply.stamp, reply.number, reply.said)
+        {
+            Ok(done) => {
+                send_all(&mut self.wires, &mut self.frame, done.sends.as_slice());
+                let wire = &mut self.wires[peer];
+                wire.pass();
+                Ok(done)
+            }
+            Err(fault) => {
+                let wire = &mut self.wires[peer];
+                wire.mark(fault);
+                Err(fault)
+            }
+        }
+    }
+}

@@ -1,0 +1,58 @@
+//! What a node makes of a reply that is read as numbers.
+
+ghost use Rattle.std.specs.Prelude.{◌≡◌, ◌≢◌, ◌<◌, ◌+◌, true, Err, IfOk, OnErr, length};
+ghost use Rattle.pg_message.specs.declared.message.Message.TheVariants as messages;
+
+use crate::state::{Done, NodeFault, NodeState};
+use pg_group::GroupTable;
+use pg_message::{MAX_STAMP, Said};
+use pg_step::Refusal;
+
+impl<T: GroupTable + Drop> NodeState<T> {
+    ghost use Rattle.pg_refs.specs.Numbered.{numbered};
+    ghost use Rattle.pg_opens.specs.Places.{name_at};
+    ghost use Rattle.pg_step.specs.Step.{step_take};
+    ghost use Rattle.pg_node_state.specs.Issued.{ports_of};
+    ghost use Rattle.pg_node_state.specs.declared.state.fault.NodeFault.TheVariants.{OutOfMemory};
+    ghost use Rattle.pg_node_state.specs.States.{names_of, nodes_of, left_of, kept_by, state_of};
+    ghost use Rattle.pg_node_state.specs.States.{answers_of, takes_none, Comes};
+    ghost use Rattle.pg_node_state.specs.Sendable.{AreSendable};
+
+    /// Takes a reply of a peer to a reference of the node itself, as `take` does where the packet says that: no packet
+    /// is built. `peer`: its place among the peers. `number`: that of the reference, as `pg_refs::reference_of` numbers
+    /// it.
+    ///
+    /// Errors: those of `take`; they change nothing.
+    ///
+    /// Cost: that of what is sent.
+    pub fn take_own_reply(
+        &mut self,
+        peer: usize,
+        stamp: u32,
+        number: u32,
+        said: Said,
+    ) -> Result<Done, NodeFault>
+        requires place { peer + 1 < length (names_of self.old) }
+        ensures event { Comes (names_of self.old)
+            (step_take (nodes_of self.old) (name_at (names_of self.old) (peer + 1))
+            (record { stamp = stamp; packet = messages.Reply (numbered (nodes_of self.old).own number) said }) (state_of self.old))
+            result (state_of self.new) (answers_of self.old) (answers_of self.new) }
+        ensures light { takes_none (left_of self.old) (name_at (names_of self.old) (peer + 1)) (kept_by self.old)
+            (messages.Reply (numbered (nodes_of self.old).own number) said) ≡ true
+            → result ≢ Err OutOfMemory }
+        ensures err { OnErr result (state_of self.new ≡ state_of self.old) }
+        ensures err_answers { OnErr result (answers_of self.new ≡ answers_of self.old) }
+        ensures names { names_of self.new ≡ names_of self.old }
+        ensures ports { ports_of self.new ≡ ports_of self.old }
+        ensures fits { IfOk result (λ done. AreSendable (names_of self.old) done.sends.items) }
+    {
+        if self.opens.is_lost(peer + 1) {
+            return Err(NodeFault::Refused(Refusal::NodeLost));
+        }
+        let latest = self.clock.max(stamp);
+        if latest >= MAX_STAMP {
+            return Err(NodeFault::Refused(Refusal::ClockFull));
+        }
+        self.take_numbered(latest + 1, peer, number, said)
+    }
+}
