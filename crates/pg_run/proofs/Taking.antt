@@ -14,12 +14,13 @@ use Rattle.pg_message.specs.Reading.{packet_spelled}
 use Rattle.pg_node.specs.declared.node.Node.{Node}
 use Rattle.pg_node_state.specs.declared.state.done.Done.{Done}
 use Rattle.pg_node_state.specs.declared.state.fault.NodeFault.{NodeFault}
-use Rattle.pg_node_state.specs.declared.state.fault.NodeFault.TheVariants.{Damaged}
+use Rattle.pg_node_state.specs.declared.state.fault.NodeFault.TheVariants.{Refused, OutOfMemory}
+use Rattle.pg_node_state.specs.declared.state.fault.NodeFault.TheVariants.{TooLong, Message, Damaged}
 use Rattle.pg_node.specs.Bytes.{next_packet, packet_at, packet_in, passed, closed, is_drained}
 use Rattle.pg_node_state.specs.Issued.{ports_of}
 use Rattle.pg_node_state.specs.Frames.{AreSmallFrames}
 use Rattle.pg_node.specs.Links.{Link, at_link}
-use Rattle.pg_node.specs.Nodes.{held_by, has_lost, links_of, sent_out, step_link, ComesInRoom}
+use Rattle.pg_node.specs.Nodes.{held_by, has_lost, links_of, sent_out, step_link, taken_as, taken_of, ComesInRoom, TakesNext}
 use Rattle.pg_node_state.specs.Sendable.{AreSendable}
 use Rattle.pg_node_state.specs.States.{names_of, nodes_of, state_of, answers_of, stamped_of, step_see_loss, Gave, Comes}
 use Rattle.pg_opens.specs.Places.{name_at}
@@ -34,6 +35,7 @@ use Rattle.pg_run.proofs.Fronts.{front_alone, front_alone_len, front_taken}
 use Rattle.pg_run.proofs.Moving.{Closes, link_there, link_else, marks_kept}
 use Rattle.pg_step.specs.declared.answer.Answer.{Answer}
 use Rattle.pg_step.specs.declared.refusal.Refusal.{Refusal}
+use Rattle.pg_step.specs.Nodes.{Node as Name, Nodes}
 use Rattle.pg_step.specs.State.{State}
 use Rattle.pg_step.specs.declared.refusal.Refusal.TheVariants.{NodeLost, NotDrained, ClockFull}
 use Rattle.pg_step.specs.Losses.{see_loss}
@@ -77,6 +79,93 @@ pub next_is : (link : Link) (packet : Packet) → next_packet link ≡ Ok (Some 
 next_is link packet e =
     let read = read_at (front_of link.unread) packet (undamaged link.damaged (packet_at (front_of link.unread)) packet e) in
     record { body = read.0; front = read.1; spelled = read.2 }
+
+-- ---- what a node took
+
+-- the packet that was taken, which was the next, and what it led to
+pub record TookPacket (names : List Name) (set : Nodes) (p : Name) (link : Link) (done : Done) (s0 s : Timed State) (before after : ℕ → List Answer) : Type 0 where
+  pub packet : Packet
+  pub next : next_packet link ≡ Ok (Some packet)
+  pub came : ComesInRoom names (step_take set p (stamped_of packet) s0) (Ok done) s before after
+
+module _ (names : List Name) (set : Nodes) (p : Name) (link : Link) (s0 s : Timed State) (before after : ℕ → List Answer) where
+  pub took_packet : (done : Done) → TakesNext names (step_link set p link s0) (Ok (Some done)) s0 s before after → TookPacket names set p link done s0 s before after
+  took_packet done took = by_lost (s0.state.lost p) took
+    where
+      by_turn : (packet : Packet) (r : Result TimedTurn Refusal) → next_packet link ≡ Ok (Some packet) → step_take set p (stamped_of packet) s0 ≡ r
+          → TakesNext names (taken_as r) (Ok (Some done)) s0 s before after → TookPacket names set p link done s0 s before after
+      by_turn packet (Ok t) next is h = record { packet = packet; next = next; came = subst (λ r. ComesInRoom names r (Ok done) s before after) (sym is) h }
+      by_turn packet (Err refusal) next is h = absurd (cc)
+
+      by_read : (r : Result (Option Packet) NodeFault) → next_packet link ≡ r → TakesNext names (taken_of set p s0 r) (Ok (Some done)) s0 s before after
+          → TookPacket names set p link done s0 s before after
+      by_read (Ok (Some packet)) is h = by_turn packet (step_take set p (stamped_of packet) s0) is refl h
+      by_read (Ok None) is h = absurd h
+      by_read (Err (Refused x)) is h = absurd (cc)
+      by_read (Err (Message x)) is h = absurd (cc)
+      by_read (Err TooLong) is h = absurd (cc)
+      by_read (Err Damaged) is h = absurd (cc)
+      by_read (Err OutOfMemory) is h = absurd (cc)
+
+      by_lost : (lost : Bool) → TakesNext names (cond lost (Err (Refused NodeLost)) (taken_of set p s0 (next_packet link))) (Ok (Some done)) s0 s before after
+          → TookPacket names set p link done s0 s before after
+      by_lost true h = absurd (cc)
+      by_lost false h = by_read (next_packet link) refl h
+
+  -- none was there, and nothing changed
+  pub took_nothing : TakesNext names (step_link set p link s0) (Ok None) s0 s before after → (next_packet link ≡ Ok None) × ((s ≡ s0) × (after ≡ before))
+  took_nothing took = by_lost (s0.state.lost p) took
+    where
+      by_turn : (r : Result TimedTurn Refusal) → TakesNext names (taken_as r) (Ok None) s0 s before after → ⊥
+      by_turn (Ok t) h = h
+      by_turn (Err refusal) h = absurd (cc)
+
+      by_read : (r : Result (Option Packet) NodeFault) → next_packet link ≡ r → TakesNext names (taken_of set p s0 r) (Ok None) s0 s before after
+          → (next_packet link ≡ Ok None) × ((s ≡ s0) × (after ≡ before))
+      by_read (Ok (Some packet)) is h = absurd (by_turn (step_take set p (stamped_of packet) s0) h)
+      by_read (Ok None) is h = (is, h)
+      by_read (Err (Refused x)) is h = absurd (cc)
+      by_read (Err (Message x)) is h = absurd (cc)
+      by_read (Err TooLong) is h = absurd (cc)
+      by_read (Err Damaged) is h = absurd (cc)
+      by_read (Err OutOfMemory) is h = absurd (cc)
+
+      by_lost : (lost : Bool) → TakesNext names (cond lost (Err (Refused NodeLost)) (taken_of set p s0 (next_packet link))) (Ok None) s0 s before after
+          → (next_packet link ≡ Ok None) × ((s ≡ s0) × (after ≡ before))
+      by_lost true h = absurd (cc)
+      by_lost false h = by_read (next_packet link) refl h
+
+  -- the fault is one that was told
+  pub took_fault : (told : Result (Option TimedTurn) NodeFault) (fault : NodeFault) → TakesNext names told (Err fault) s0 s before after → IsTold told fault
+  took_fault told OutOfMemory h = tt
+  took_fault (Ok (Some t)) (Refused y) h = absurd h
+  took_fault (Ok (Some t)) (Message y) h = absurd h
+  took_fault (Ok (Some t)) TooLong h = absurd h
+  took_fault (Ok (Some t)) Damaged h = absurd h
+  took_fault (Ok None) (Refused y) h = absurd h
+  took_fault (Ok None) (Message y) h = absurd h
+  took_fault (Ok None) TooLong h = absurd h
+  took_fault (Ok None) Damaged h = absurd h
+  took_fault (Err (Refused x)) (Refused y) h = cc
+  took_fault (Err (Refused x)) (Message y) h = absurd (cc)
+  took_fault (Err (Refused x)) TooLong h = absurd (cc)
+  took_fault (Err (Refused x)) Damaged h = absurd (cc)
+  took_fault (Err (Message x)) (Refused y) h = absurd (cc)
+  took_fault (Err (Message x)) (Message y) h = cc
+  took_fault (Err (Message x)) TooLong h = absurd (cc)
+  took_fault (Err (Message x)) Damaged h = absurd (cc)
+  took_fault (Err TooLong) (Refused y) h = absurd (cc)
+  took_fault (Err TooLong) (Message y) h = absurd (cc)
+  took_fault (Err TooLong) TooLong h = refl
+  took_fault (Err TooLong) Damaged h = absurd (cc)
+  took_fault (Err Damaged) (Refused y) h = absurd (cc)
+  took_fault (Err Damaged) (Message y) h = absurd (cc)
+  took_fault (Err Damaged) TooLong h = absurd (cc)
+  took_fault (Err Damaged) Damaged h = refl
+  took_fault (Err OutOfMemory) (Refused y) h = absurd (cc)
+  took_fault (Err OutOfMemory) (Message y) h = absurd (cc)
+  took_fault (Err OutOfMemory) TooLong h = absurd (cc)
+  took_fault (Err OutOfMemory) Damaged h = absurd (cc)
 
 -- ---- the links behind it
 
@@ -259,7 +348,7 @@ module _ {T L I : Type 0} {g : Ghosts T} (accepts : L → List ℕ → L → Typ
               state = ap state_of held ∙ happened.happens.state;
               answers = subst (λ (n : Node T g). Gives a happened.turn n) (sym node) happened.happens.answers;
               sends = ap (λ (t : TimedTurn). t.sends) is;
-              fits = record { each = tt; apart = tt };
+              fits = record { each = tt; apart = tt; alike = tt };
               small = tt;
               came = refl;
             })
@@ -273,18 +362,6 @@ module _ {T L I : Type 0} {g : Ghosts T} (accepts : L → List ℕ → L → Typ
             (λ place damaged. refl);
       }
 
-  -- what came of it, behind a stretch in which nothing happened
-  pub took_from : ((a b c : L) (xs ys : List ℕ) → accepts a xs b → accepts b ys c → accepts a (xs ++ ys) c)
-      → ((a b c : I) (xs ys : List ℕ) → gives a xs b → gives b ys c → gives a (xs ++ ys) c)
-      → (peer : ℕ) (r : Result Bool NodeFault) (a m b : LinkedNode T L I g) → Follows accepts gives [] a m → TookNext accepts gives peer r m b → TookNext accepts gives peer r a b
-  took_from link_composes inlet_composes peer (Ok true) a m b h took = record {
-    act = took.act;
-    wanted = took.wanted;
-    follows = follows_on accepts gives link_composes inlet_composes [] (took.act ∷ []) a m b h took.follows;
-  }
-  took_from link_composes inlet_composes peer (Ok false) a m b h took = follows_on accepts gives link_composes inlet_composes [] [] a m b h took
-  took_from link_composes inlet_composes peer (Err fault) a m b h took = follows_on accepts gives link_composes inlet_composes [] [] a m b h took
-
 -- a loss is seen where the link is drained
 drained_by : (lost drained : Bool) (rest : Result TimedTurn Refusal) (turn : TimedTurn) → cond lost (Err NodeLost) (cond drained rest (Err NotDrained)) ≡ Ok turn → drained ≡ true
 drained_by true drained rest turn made = absurd (cc)
@@ -296,16 +373,3 @@ pub was_drained : {T : Type 0} {g : Ghosts T} (node : Node T g) (peer last : ℕ
 was_drained node peer last done s before after came =
     let happened = happened_by (names_of (held_by node)) (told_of_loss node peer last) done s before after came in
     drained_by (has_lost (held_by node) peer) (is_drained (links_of node peer)) _ happened.turn happened.made
-
--- what is told of a peer goes by the node over packets and by the link
-module _ {T : Type 0} {g : Ghosts T} (peer : ℕ) where
-  abbrev told_with : NodeState T g → (ℕ → Link) → Result (Option TimedTurn) NodeFault
-  told_with s links = step_link (nodes_of s) (name_at (names_of s) (peer + 1)) (links peer) (state_of s)
-
-  pub told_same : (n m : Node T g) → held_by m ≡ held_by n → links_of m ≡ links_of n → told_of_peer m peer ≡ told_of_peer n peer
-  told_same n m e f = ap (λ (s : NodeState T g). told_with s (links_of m)) e ∙ ap (λ (ls : ℕ → Link). told_with (held_by n) ls) f
-
-  pub told_err : (r : Result Bool NodeFault) (n m : Node T g) → held_by m ≡ held_by n → links_of m ≡ links_of n → IfErr r (λ fault. IsTold (told_of_peer m peer) fault)
-      → IfErr r (λ fault. IsTold (told_of_peer n peer) fault)
-  told_err (Ok took) n m e f told = tt
-  told_err (Err fault) n m e f told = subst (λ t. IsTold t fault) (told_same n m e f) told

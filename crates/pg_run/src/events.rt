@@ -7,7 +7,6 @@ use crate::held::Held;
 use crate::linked::LinkedNode;
 use crate::log::NodeEvent;
 use pg_group::GroupTable;
-use pg_message::Packet;
 use pg_node::NodeFault;
 use pg_ring::{Inlet, Link};
 use pg_step::{Command, OpId};
@@ -38,53 +37,19 @@ impl<T: GroupTable + Drop, L: Link + Drop, I: Inlet + Drop> LinkedNode<T, L, I> 
         ensures none { result ≡ Ok false → next_packet (links_of (node_of self.old) peer) ≡ Ok None }
         ensures fault { IfErr result (IsTold (told_of_peer (node_of self.old) peer)) }
     {
+        if self.node.is_idle(peer) {
+            return Ok(false);
+        }
         if self.log.reserve(1).is_err() {
             return Err(NodeFault::OutOfMemory);
         }
-        match self.node.next(peer) {
-            Ok(next) => {
-                let took = self.take_next(peer, &next);
-                drop(next);
-                took
-            }
-            Err(fault) => Err(fault),
-        }
-    }
-
-    /// Takes the packet, if there is one, that was read of a peer. There is room for it in the log.
-    fn take_next(&mut self, peer: usize, next: &Option<Packet>) -> Result<bool, NodeFault>
-        requires place { peer < length (peers_of self.old) }
-        requires few { IfSome next.now (λ packet. IsShort (2 ^ 32) packet.message) }
-        requires next { next_packet (links_of (node_of self.old) peer) ≡ Ok next.now }
-        requires here { (kept_by (held_by (node_of self.old))).lost (name_at (names_of (held_by (node_of self.old))) (peer + 1)) ≡ false }
-        requires room { vec_len self.old.log < vec_capacity self.old.log }
-        ensures took { TookNext L.accepts I.gives peer result self.old self.new }
-        ensures none { result ≡ Ok false → next.now ≡ None }
-        ensures fault { IfErr result (λ fault. IsTold (told_of_peer (node_of self.old) peer) fault) }
-    {
-        match next {
-            None => Ok(false),
-            Some(packet) => self.take_read(peer, packet),
-        }
-    }
-
-    /// Takes the packet that was read of a peer. There is room for it in the log.
-    fn take_read(&mut self, peer: usize, packet: &Packet) -> Result<bool, NodeFault>
-        requires place { peer < length (peers_of self.old) }
-        requires few { IsShort (2 ^ 32) packet.now.message }
-        requires next { next_packet (links_of (node_of self.old) peer) ≡ Ok (Some packet.now) }
-        requires here { (kept_by (held_by (node_of self.old))).lost (name_at (names_of (held_by (node_of self.old))) (peer + 1)) ≡ false }
-        requires room { vec_len self.old.log < vec_capacity self.old.log }
-        ensures took { TookNext L.accepts I.gives peer result self.old self.new }
-        ensures done { IfOk result (λ took. took ≡ true) }
-        ensures fault { IfErr result (λ fault. IsTold (told_of_peer (node_of self.old) peer) fault) }
-    {
-        match self.node.take_read(peer, packet) {
-            Ok(done) => {
+        match self.node.take(peer) {
+            Ok(Some(done)) => {
                 drop(done);
                 self.keep(NodeEvent::Take(peer));
                 Ok(true)
             }
+            Ok(None) => Ok(false),
             Err(fault) => Err(fault),
         }
     }

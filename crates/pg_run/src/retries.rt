@@ -156,7 +156,7 @@ fn retry_of<T: GroupTable + Drop, L: Link + Drop, I: Inlet + Drop>(
     match linked.retry(op) {
         Ok(()) => {
             pauses.tried(op);
-            linked.put_all();
+            linked.put_waiting();
             Phase::of(true, None)
         }
         Err(fault) => Phase::of(false, Some(fault)),

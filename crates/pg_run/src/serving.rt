@@ -78,7 +78,7 @@ fn command_at<T: GroupTable + Drop, L: Link + Drop, I: Inlet + Drop>(
     let port = &mut ports[usize::from(place)];
     let phase = serve(linked, port, place);
     if phase.busy {
-        linked.put_all();
+        linked.put_waiting();
     }
     phase
 }

@@ -20,13 +20,13 @@ returns-then-from-port_count-clause-tried g c = λ whole.
 
 pub returns-in-Ok-clause-goes : goal.returns-in-Ok-clause-goes
 returns-in-Ok-clause-goes g c =
-    goes_on g.L.Link.accepts g.I.Inlet.gives g.met.L.Link.composes g.met.I.Inlet.composes c.args.linked.now c.retry.new.self c.put_all.new.self
-    (goes_by_retry g.L.Link.accepts g.I.Inlet.gives c.args.op c.retry.result c.args.linked.now c.retry.new.self c.retry.ensures.acted) c.put_all.ensures.goes
+    goes_on g.L.Link.accepts g.I.Inlet.gives g.met.L.Link.composes g.met.I.Inlet.composes c.args.linked.now c.retry.new.self c.put_waiting.new.self
+    (goes_by_retry g.L.Link.accepts g.I.Inlet.gives c.args.op c.retry.result c.args.linked.now c.retry.new.self c.retry.ensures.acted) c.put_waiting.ensures.goes
 
 pub returns-in-Ok-clause-tried : goal.returns-in-Ok-clause-tried
 returns-in-Ok-clause-tried g c = λ whole.
-    retried_between g.L.Link.accepts g.I.Inlet.gives g.met.L.Link.rests g.met.I.Inlet.rests g.met.L.Link.composes g.met.I.Inlet.composes c.args.op c.args.linked.now c.args.linked.now c.retry.new.self c.put_all.new.self (stays g.L.Link.accepts g.I.Inlet.gives g.met.L.Link.rests g.met.I.Inlet.rests g.met.L.Link.composes g.met.I.Inlet.composes c.args.linked.now)
-    (retried_ok g.L.Link.accepts g.I.Inlet.gives g.met.L.Link.rests g.met.I.Inlet.rests g.met.L.Link.composes g.met.I.Inlet.composes c.args.op c.retry.result _ c.args.linked.now c.retry.new.self c.in-Ok.is c.retry.ensures.acted) (c.put_all.ensures.goes.acts, c.put_all.ensures.goes.follows)
+    retried_between g.L.Link.accepts g.I.Inlet.gives g.met.L.Link.rests g.met.I.Inlet.rests g.met.L.Link.composes g.met.I.Inlet.composes c.args.op c.args.linked.now c.args.linked.now c.retry.new.self c.put_waiting.new.self (stays g.L.Link.accepts g.I.Inlet.gives g.met.L.Link.rests g.met.I.Inlet.rests g.met.L.Link.composes g.met.I.Inlet.composes c.args.linked.now)
+    (retried_ok g.L.Link.accepts g.I.Inlet.gives g.met.L.Link.rests g.met.I.Inlet.rests g.met.L.Link.composes g.met.I.Inlet.composes c.args.op c.retry.result _ c.args.linked.now c.retry.new.self c.in-Ok.is c.retry.ensures.acted) (c.put_waiting.ensures.goes.acts, c.put_waiting.ensures.goes.follows)
 
 pub returns-in-Err-clause-tried : goal.returns-in-Err-clause-tried
 returns-in-Err-clause-tried g c = λ whole.

@@ -16,8 +16,8 @@ returns-then-phase-clause-serves g c =
     (subst (λ k. k < length c.args.ports.now.items) (sym c.from.ensures) c.requires.place) c.index_mut-port.ensures.value
     (subst (λ k. ServesPort g.L.Link.accepts g.I.Inlet.gives k c.args.linked.now c.index_mut-port.result.now c.serve-phase.new.linked c.serve-phase.new.port) (sym c.from.ensures) c.serve-phase.ensures.serves)
     in
-    serves_on g.L.Link.accepts g.I.Inlet.gives g.met.L.Link.composes g.met.I.Inlet.composes c.args.linked.now c.serve-phase.new.linked c.put_all.new.self c.args.ports.now.items _ _
-    served (serves_going g.L.Link.accepts g.I.Inlet.gives c.serve-phase.new.linked c.put_all.new.self _ c.put_all.ensures.goes)
+    serves_on g.L.Link.accepts g.I.Inlet.gives g.met.L.Link.composes g.met.I.Inlet.composes c.args.linked.now c.serve-phase.new.linked c.put_waiting.new.self c.args.ports.now.items _ _
+    served (serves_going g.L.Link.accepts g.I.Inlet.gives c.serve-phase.new.linked c.put_waiting.new.self _ c.put_waiting.ensures.goes)
 
 pub returns-else-phase-clause-serves : goal.returns-else-phase-clause-serves
 returns-else-phase-clause-serves g c =
@@ -27,7 +27,7 @@ returns-else-phase-clause-serves g c =
 
 pub returns-then-phase-clause-logs : goal.returns-then-phase-clause-logs
 returns-then-phase-clause-logs g c =
-    logs_still IsCommand (log_of c.args.linked.now) (log_of c.serve-phase.new.linked) (log_of c.put_all.new.self) c.serve-phase.ensures.logs c.put_all.ensures.log
+    logs_still IsCommand (log_of c.args.linked.now) (log_of c.serve-phase.new.linked) (log_of c.put_waiting.new.self) c.serve-phase.ensures.logs c.put_waiting.ensures.log
 
 pub returns-then-phase-clause-count : goal.returns-then-phase-clause-count
 returns-then-phase-clause-count g c =
@@ -42,8 +42,8 @@ returns-else-phase-clause-count g c =
 pub returns-then-phase-clause-wanting : goal.returns-then-phase-clause-wanting
 returns-then-phase-clause-wanting g c = λ short.
     let a = c.args.linked.now in
-    wanting_between g.L.Link.accepts g.I.Inlet.gives g.met.L.Link.rests g.met.I.Inlet.rests g.met.L.Link.composes g.met.I.Inlet.composes a a c.serve-phase.new.linked c.put_all.new.self (stays g.L.Link.accepts g.I.Inlet.gives g.met.L.Link.rests g.met.I.Inlet.rests g.met.L.Link.composes g.met.I.Inlet.composes a)
-    (c.serve-phase.ensures.wanting short) (c.put_all.ensures.goes.acts, c.put_all.ensures.goes.follows)
+    wanting_between g.L.Link.accepts g.I.Inlet.gives g.met.L.Link.rests g.met.I.Inlet.rests g.met.L.Link.composes g.met.I.Inlet.composes a a c.serve-phase.new.linked c.put_waiting.new.self (stays g.L.Link.accepts g.I.Inlet.gives g.met.L.Link.rests g.met.I.Inlet.rests g.met.L.Link.composes g.met.I.Inlet.composes a)
+    (c.serve-phase.ensures.wanting short) (c.put_waiting.ensures.goes.acts, c.put_waiting.ensures.goes.follows)
 
 pub returns-else-phase-clause-wanting : goal.returns-else-phase-clause-wanting
 returns-else-phase-clause-wanting g c = c.serve-phase.ensures.wanting

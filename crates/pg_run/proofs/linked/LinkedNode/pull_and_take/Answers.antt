@@ -18,7 +18,7 @@ returns-clause-goes g c =
     (goes_by_take g.L.Link.accepts g.I.Inlet.gives c.args.peer c.take.result c.pull.new.self c.take.new.self c.take.ensures.took)
     in
     elim c.if-taken.branch [
-      | then-taken w ↦ subst (λ x. GoesOn g.L.Link.accepts g.I.Inlet.gives c.args.self.now x) (sym w.self-is) (goes_on g.L.Link.accepts g.I.Inlet.gives g.met.L.Link.composes g.met.I.Inlet.composes c.args.self.now c.take.new.self w.put_all.new.self taken w.put_all.ensures.goes)
+      | then-taken w ↦ subst (λ x. GoesOn g.L.Link.accepts g.I.Inlet.gives c.args.self.now x) (sym w.self-is) (goes_on g.L.Link.accepts g.I.Inlet.gives g.met.L.Link.composes g.met.I.Inlet.composes c.args.self.now c.take.new.self w.put_waiting.new.self taken w.put_waiting.ensures.goes)
       | else-taken w ↦ subst (λ x. GoesOn g.L.Link.accepts g.I.Inlet.gives c.args.self.now x) (sym w.self-is) taken
     ]
 
@@ -30,7 +30,7 @@ returns-clause-tried g c = λ whole.
     in
     elim c.if-taken.branch [
       | then-taken w ↦ subst (λ x. HasTried g.L.Link.accepts g.I.Inlet.gives c.args.peer c.args.self.now x) (sym w.self-is)
-          (tried_between g.L.Link.accepts g.I.Inlet.gives g.met.L.Link.rests g.met.I.Inlet.rests g.met.L.Link.composes g.met.I.Inlet.composes c.args.peer c.args.self.now c.args.self.now c.take.new.self w.put_all.new.self (stays g.L.Link.accepts g.I.Inlet.gives g.met.L.Link.rests g.met.I.Inlet.rests g.met.L.Link.composes g.met.I.Inlet.composes c.args.self.now) tried (w.put_all.ensures.goes.acts, w.put_all.ensures.goes.follows))
+          (tried_between g.L.Link.accepts g.I.Inlet.gives g.met.L.Link.rests g.met.I.Inlet.rests g.met.L.Link.composes g.met.I.Inlet.composes c.args.peer c.args.self.now c.args.self.now c.take.new.self w.put_waiting.new.self (stays g.L.Link.accepts g.I.Inlet.gives g.met.L.Link.rests g.met.I.Inlet.rests g.met.L.Link.composes g.met.I.Inlet.composes c.args.self.now) tried (w.put_waiting.ensures.goes.acts, w.put_waiting.ensures.goes.follows))
       | else-taken w ↦ subst (λ x. HasTried g.L.Link.accepts g.I.Inlet.gives c.args.peer c.args.self.now x) (sym w.self-is) tried
     ]
 
@@ -43,7 +43,7 @@ returns-clause-logs g c =
     (logs_take g.L.Link.accepts g.I.Inlet.gives c.args.peer c.take.result b d c.take.ensures.took)
     in
     elim c.if-taken.branch [
-      | then-taken w ↦ logs_still IsTake (log_of a) (log_of d) _ taken (rw w.self-is w.put_all.ensures.log)
+      | then-taken w ↦ logs_still IsTake (log_of a) (log_of d) _ taken (rw w.self-is w.put_waiting.ensures.log)
       | else-taken w ↦ rw w.self-is taken
     ]
 
@@ -62,7 +62,7 @@ returns-clause-pulled g c = λ whole.
     in
     elim c.if-taken.branch [
       | then-taken w ↦ subst (λ x. HasPulled g.L.Link.accepts g.I.Inlet.gives g.I.Inlet.moves c.args.peer a x) (sym w.self-is)
-          (pulled_between g.L.Link.accepts g.I.Inlet.gives g.met.L.Link.rests g.met.I.Inlet.rests g.met.L.Link.composes g.met.I.Inlet.composes g.I.Inlet.moves c.args.peer a a b w.put_all.new.self (stays g.L.Link.accepts g.I.Inlet.gives g.met.L.Link.rests g.met.I.Inlet.rests g.met.L.Link.composes g.met.I.Inlet.composes a) pulled (w.put_all.ensures.goes.acts, w.put_all.ensures.goes.follows))
+          (pulled_between g.L.Link.accepts g.I.Inlet.gives g.met.L.Link.rests g.met.I.Inlet.rests g.met.L.Link.composes g.met.I.Inlet.composes g.I.Inlet.moves c.args.peer a a b w.put_waiting.new.self (stays g.L.Link.accepts g.I.Inlet.gives g.met.L.Link.rests g.met.I.Inlet.rests g.met.L.Link.composes g.met.I.Inlet.composes a) pulled (w.put_waiting.ensures.goes.acts, w.put_waiting.ensures.goes.follows))
       | else-taken w ↦ subst (λ x. HasPulled g.L.Link.accepts g.I.Inlet.gives g.I.Inlet.moves c.args.peer a x) (sym w.self-is) pulled
     ]
 
@@ -80,6 +80,6 @@ returns-clause-wanting g c = λ short.
     in
     elim c.if-taken.branch [
       | then-taken w ↦ subst (λ x. WasWanting g.L.Link.accepts g.I.Inlet.gives a x) (sym w.self-is)
-          (wanting_between g.L.Link.accepts g.I.Inlet.gives g.met.L.Link.rests g.met.I.Inlet.rests g.met.L.Link.composes g.met.I.Inlet.composes a a b w.put_all.new.self (stays g.L.Link.accepts g.I.Inlet.gives g.met.L.Link.rests g.met.I.Inlet.rests g.met.L.Link.composes g.met.I.Inlet.composes a) wanted (w.put_all.ensures.goes.acts, w.put_all.ensures.goes.follows))
+          (wanting_between g.L.Link.accepts g.I.Inlet.gives g.met.L.Link.rests g.met.I.Inlet.rests g.met.L.Link.composes g.met.I.Inlet.composes a a b w.put_waiting.new.self (stays g.L.Link.accepts g.I.Inlet.gives g.met.L.Link.rests g.met.I.Inlet.rests g.met.L.Link.composes g.met.I.Inlet.composes a) wanted (w.put_waiting.ensures.goes.acts, w.put_waiting.ensures.goes.follows))
       | else-taken w ↦ subst (λ x. WasWanting g.L.Link.accepts g.I.Inlet.gives a x) (sym w.self-is) wanted
     ]

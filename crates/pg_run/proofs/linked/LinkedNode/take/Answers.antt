@@ -1,50 +1,69 @@
-use Rattle.std.proofs.Common.{ap, refl, ◌∙◌, ◌+◌}
-use Rattle.pg_node.specs.Bytes.{next_packet}
-use Rattle.pg_node_state.specs.Issued.{ports_of}
+use Rattle.std.proofs.Common.{◌+◌, Option, None, Ok, ap, arith, refl, subst}
+use Rattle.pg_node.specs.Nodes.{held_by, has_lost, links_of, TakesNext}
+use Rattle.pg_node_state.specs.declared.state.done.Done.{Done}
 use Rattle.pg_node_state.specs.States.{names_of, nodes_of, state_of, answers_of}
 use Rattle.pg_opens.specs.Places.{name_at}
-use Rattle.pg_node.specs.Nodes.{held_by, links_of, has_lost}
-use Rattle.pg_node.proofs.Events.{tells_ok, read_is}
-use Rattle.pg_run.proofs.Acting.{nothing_held, fault_done, told_reading}
-use Rattle.pg_run.proofs.Taking.{took_from, told_err}
+use Rattle.pg_node.proofs.Events.{read_is}
+use Rattle.pg_run.proofs.Acting.{fault_done, log_after, nothing_done, nothing_held}
+use Rattle.pg_run.proofs.Following.{follows_itself}
+use Rattle.pg_run.proofs.Taking.{take_acts, took_fault, took_nothing, took_packet}
+use Rattle.pg_run.specs.Events.{told_of_peer}
 use Rattle.pg_run.proofs.linked.LinkedNode.take.Goals as goal
+
+pub returns-then-is_idle-clause-took : goal.returns-then-is_idle-clause-took
+returns-then-is_idle-clause-took g c = follows_itself g.L.Link.accepts g.I.Inlet.gives g.met.L.Link.rests g.met.I.Inlet.rests c.args.self.now
+
+pub returns-then-is_idle-clause-none : goal.returns-then-is_idle-clause-none
+returns-then-is_idle-clause-none g c = λ is.
+    let n = c.args.self.now.node in
+    (read_is (has_lost (held_by n) c.args.peer) (links_of n c.args.peer) None (c.is_idle.ensures.0 c.if-is_idle.true)).1
 
 pub returns-then-is_err-clause-took : goal.returns-then-is_err-clause-took
 returns-then-is_err-clause-took g c =
     nothing_held g.L.Link.accepts g.I.Inlet.gives g.met.L.Link.rests g.met.I.Inlet.rests c.args.self.now _ refl c.reserve.ensures.items refl refl
 
-pub returns-in-Ok-clause-took : goal.returns-in-Ok-clause-took
-returns-in-Ok-clause-took g c =
-    took_from g.L.Link.accepts g.I.Inlet.gives g.met.L.Link.rests g.met.I.Inlet.rests g.met.L.Link.composes g.met.I.Inlet.composes c.args.peer c.take_next-took.result c.args.self.now _ c.take_next-took.new.self
-    (nothing_held g.L.Link.accepts g.I.Inlet.gives g.met.L.Link.rests g.met.I.Inlet.rests c.args.self.now _ c.next.ensures.state c.reserve.ensures.items refl c.in-Ok.ensures.same)
-    c.take_next-took.ensures.took
+pub returns-in-Ok-Some-clause-took : goal.returns-in-Ok-Some-clause-took
+returns-in-Ok-Some-clause-took g c =
+    let n = c.args.self.now.node in
+    let m = c.take.new.self in
+    let p = name_at (names_of (held_by n)) (c.args.peer + 1) in
+    let took = took_packet (names_of (held_by n)) (nodes_of (held_by n)) p (links_of n c.args.peer) (state_of (held_by n)) (state_of (held_by m)) (answers_of (held_by n)) (answers_of (held_by m)) c.in-Ok-Some.done (subst (λ (o : Option Done). TakesNext (names_of (held_by n)) (told_of_peer n c.args.peer) (Ok o) (state_of (held_by n)) (state_of (held_by m)) (answers_of (held_by n)) (answers_of (held_by m)))
+    c.in-Ok-Some.field-0-is c.in-Ok-Some.ensures.event) in
+    take_acts g.L.Link.accepts g.I.Inlet.gives g.met.L.Link.rests g.met.I.Inlet.rests c.args.self.now c.keep.new.self m c.args.peer took.packet c.in-Ok-Some.done
+    (omega (arith, c.requires.place, c.args.self.now.linked)) took.next took.came
+    (c.in-Ok-Some.ensures.fits c.in-Ok-Some.done (ap (λ o. Ok o) c.in-Ok-Some.field-0-is)) (c.in-Ok-Some.ensures.small c.in-Ok-Some.done (ap (λ o. Ok o) c.in-Ok-Some.field-0-is)) (c.in-Ok-Some.ensures.sent c.in-Ok-Some.done (ap (λ o. Ok o) c.in-Ok-Some.field-0-is)) c.take.ensures.names c.take.ensures.ports
+    c.keep.ensures.node (log_after _ _ _ _ c.keep.ensures.log c.reserve.ensures.items) c.keep.ensures.peers
 
-pub returns-in-Ok-clause-fault : goal.returns-in-Ok-clause-fault
-returns-in-Ok-clause-fault g c = told_err c.args.peer c.take_next-took.result c.args.self.now.node c.next.new.self c.next.ensures.state c.in-Ok.ensures.same c.take_next-took.ensures.fault
+pub returns-in-Ok-None-clause-took : goal.returns-in-Ok-None-clause-took
+returns-in-Ok-None-clause-took g c =
+    let n = c.args.self.now.node in
+    let m = c.take.new.self in
+    let p = name_at (names_of (held_by n)) (c.args.peer + 1) in
+    let took = took_nothing (names_of (held_by n)) (nodes_of (held_by n)) p (links_of n c.args.peer) (state_of (held_by n)) (state_of (held_by m)) (answers_of (held_by n)) (answers_of (held_by m)) (subst (λ (o : Option Done). TakesNext (names_of (held_by n)) (told_of_peer n c.args.peer) (Ok o) (state_of (held_by n)) (state_of (held_by m)) (answers_of (held_by n)) (answers_of (held_by m)))
+    c.in-Ok-None.field-0-is c.in-Ok-None.ensures.event) in
+    nothing_done g.L.Link.accepts g.I.Inlet.gives g.met.L.Link.rests g.met.I.Inlet.rests c.args.self.now _ c.take.ensures.names c.take.ensures.ports took.1.0 took.1.1
+    c.reserve.ensures.items refl (c.in-Ok-None.ensures.none (ap (λ o. Ok o) c.in-Ok-None.field-0-is))
+
+pub returns-in-Ok-None-clause-none : goal.returns-in-Ok-None-clause-none
+returns-in-Ok-None-clause-none g c = λ is.
+    let n = c.args.self.now.node in
+    let m = c.take.new.self in
+    let p = name_at (names_of (held_by n)) (c.args.peer + 1) in
+    (took_nothing (names_of (held_by n)) (nodes_of (held_by n)) p (links_of n c.args.peer) (state_of (held_by n)) (state_of (held_by m)) (answers_of (held_by n)) (answers_of (held_by m)) (subst (λ (o : Option Done). TakesNext (names_of (held_by n)) (told_of_peer n c.args.peer) (Ok o) (state_of (held_by n)) (state_of (held_by m)) (answers_of (held_by n)) (answers_of (held_by m)))
+    c.in-Ok-None.field-0-is c.in-Ok-None.ensures.event)).0
 
 pub returns-in-Err-clause-took : goal.returns-in-Err-clause-took
 returns-in-Err-clause-took g c =
     let n = c.args.self.now.node in
-    let held = c.next.ensures.state in
+    let m = c.take.new.self in
     let p = name_at (names_of (held_by n)) (c.args.peer + 1) in
-    fault_done g.L.Link.accepts g.I.Inlet.gives g.met.L.Link.rests g.met.I.Inlet.rests c.args.self.now _ c.args.peer c.in-Err.fault (ap names_of held) (ap ports_of held) (ap state_of held) (ap answers_of held)
-    c.reserve.ensures.items refl c.in-Err.ensures.marked
-    (told_reading (nodes_of (held_by n)) p (links_of n c.args.peer) (state_of (held_by n)) c.in-Err.fault c.in-Err.ensures.told)
-
-pub take_next-took-requires-clause-next : goal.take_next-took-requires-clause-next
-take_next-took-requires-clause-next g c =
-    let n = c.args.self.now.node in
-    ap (λ ls. next_packet (ls c.args.peer)) c.in-Ok.ensures.same
-    ∙ (read_is (has_lost (held_by n) c.args.peer) (links_of n c.args.peer) c.in-Ok.next (tells_ok _ c.in-Ok.next c.in-Ok.ensures.told)).1
-
-pub take_next-took-requires-clause-here : goal.take_next-took-requires-clause-here
-take_next-took-requires-clause-here g c =
-    let n = c.args.self.now.node in
-    ap (λ s. has_lost s c.args.peer) c.next.ensures.state
-    ∙ (read_is (has_lost (held_by n) c.args.peer) (links_of n c.args.peer) c.in-Ok.next (tells_ok _ c.in-Ok.next c.in-Ok.ensures.told)).0
+    fault_done g.L.Link.accepts g.I.Inlet.gives g.met.L.Link.rests g.met.I.Inlet.rests c.args.self.now _ c.args.peer c.in-Err.fault c.take.ensures.names c.take.ensures.ports c.in-Err.ensures.err
+    c.in-Err.ensures.err_answers c.reserve.ensures.items refl c.in-Err.ensures.marked
+    (took_fault (names_of (held_by n)) (nodes_of (held_by n)) p (links_of n c.args.peer) (state_of (held_by n)) (state_of (held_by m)) (answers_of (held_by n)) (answers_of (held_by m)) (told_of_peer n c.args.peer) c.in-Err.fault c.in-Err.ensures.event)
 
 pub returns-in-Err-clause-fault : goal.returns-in-Err-clause-fault
 returns-in-Err-clause-fault g c =
     let n = c.args.self.now.node in
+    let m = c.take.new.self in
     let p = name_at (names_of (held_by n)) (c.args.peer + 1) in
-    told_reading (nodes_of (held_by n)) p (links_of n c.args.peer) (state_of (held_by n)) c.in-Err.fault c.in-Err.ensures.told
+    took_fault (names_of (held_by n)) (nodes_of (held_by n)) p (links_of n c.args.peer) (state_of (held_by n)) (state_of (held_by m)) (answers_of (held_by n)) (answers_of (held_by m)) (told_of_peer n c.args.peer) c.in-Err.fault c.in-Err.ensures.event
