@@ -24,7 +24,7 @@ use Rattle.pg_opens.specs.Places.{whole_in}
 use Rattle.pg_run.specs.declared.log.NodeEvent.{NodeEvent}
 use Rattle.pg_run.specs.declared.log.NodeEvent.TheVariants as entries
 use Rattle.pg_step.specs.Config.{Config, name_at, names_of, nodes_at}
-use Rattle.pg_step.specs.State.{State, formed, left}
+use Rattle.pg_step.specs.State.{State, formed, live_nodes}
 use Rattle.pg_step.specs.Step.{Action, Issue}
 use Rattle.pg_step.specs.declared.command.Command.TheVariants.{Finish}
 use Rattle.pg_joining.specs.Apart.{event_at}
@@ -99,7 +99,7 @@ EndedWereFinished = (config : Config) (w : TimedFrameWorld) (events : List (Even
     → pid.node ≡ name_at config i → ((plain w).node i).ended pid ≡ true → FinishedAt events i pid
 
 abbrev NoLossIsSeen : Type 0
-NoLossIsSeen = (config : Config) (w : TimedFrameWorld) (events : List (Event Action)) (i : ℕ) → Reaches config events w → left (nodes_at config i) ((plain w).node i) ≡ nodes_at config i
+NoLossIsSeen = (config : Config) (w : TimedFrameWorld) (events : List (Event Action)) (i : ℕ) → Reaches config events w → live_nodes (nodes_at config i) ((plain w).node i) ≡ nodes_at config i
 
 module _ (finished : EndedWereFinished) (unseen : NoLossIsSeen) (given : Config) (nodes : List NodeOf) (logs : List (Vec (ℕ × NodeEvent) Global)) (schedule : List FrameStep)
     (run : AreOneRun given nodes (map (λ v. v.items) logs) schedule) where
@@ -114,8 +114,8 @@ module _ (finished : EndedWereFinished) (unseen : NoLossIsSeen) (given : Config)
 
   formed_is : (i : ℕ) (node : NodeOf) → slice_get nodes i ≡ Some node → formed_in node ≡ is_formed run.config (plain run.w) i
   formed_is i node at =
-      ap (λ names. formed (left (whole_in names) (state_in node)) (state_in node)) (run.shown i node at).names
-      ∙ ap (λ s. formed (left (nodes_at run.config i) s) s) (sym (state_is i node at))
+      ap (λ names. formed (live_nodes (whole_in names) (state_in node)) (state_in node)) (run.shown i node at).names
+      ∙ ap (λ s. formed (live_nodes (nodes_at run.config i) s) s) (sym (state_is i node at))
       ∙ ap (λ m. formed m ((plain run.w).node i)) (unseen run.config run.w run.events i run.leads)
 
   -- ---- no end is pending where no log tells of one

@@ -32,7 +32,7 @@ use Rattle.pg_step.specs.Faults.{first_that_holds}
 use Rattle.pg_step.specs.LossLaws.{LosingFrameWorld, clock_after, is_drained, is_notice}
 use Rattle.pg_step.specs.StepLaws.{is_full}
 use Rattle.pg_step.specs.declared.refusal.Refusal.TheVariants.{NoSuchPlace, NodeLost, NotLost, NotDrained, ClockFull}
-use Rattle.pg_step.specs.State.{State, formed, left}
+use Rattle.pg_step.specs.State.{State, formed, live_nodes}
 use Rattle.pg_step.specs.Step.{Action, Issue, Retry}
 use Rattle.pg_step.specs.Turns.{Report}
 use Rattle.pg_step.specs.declared.command.Command.{Command}
@@ -40,7 +40,7 @@ use Rattle.pg_step.specs.declared.command.Command.TheVariants as commands
 use Rattle.pg_machine.specs.Machine.{Turn}
 use Rattle.pg_history.specs.History.{Entry, entries, issued, of_group}
 use Rattle.pg_history.specs.Reached.{FinishedAt}
-use Rattle.pg_history.specs.WithLosses.{NonePendingLeft, has_seen}
+use Rattle.pg_history.specs.WithLosses.{NonePendingLive, has_seen}
 use Rattle.pg_history.proofs.ends.Apart.{pair_second}
 use Rattle.pg_history.proofs.references.Keys.{atoms, read_at}
 use Rattle.pg_history.proofs.steps.Ways.{all_both}
@@ -419,7 +419,7 @@ module _ (config : Config) (w v : LosingFrameWorld) (i p : ℕ) (first : Stamped
 -- the laws that are cited
 abbrev Agreeing : Type 0
 Agreeing = (config : Config) (w : LosingFrameWorld) (es : List (LosingEvent Action)) (i j x : ℕ) (name : Term)
-    → IsDistinct same_atom (names_of config) → LosingReaches config es w → NonePendingLeft config w
+    → IsDistinct same_atom (names_of config) → LosingReaches config es w → NonePendingLive config w
     → is_place (length config) i ≡ true → is_place (length config) j ≡ true → is_place (length config) x ≡ true
     → w.gone i ≡ false → w.gone j ≡ false → w.gone x ≡ false
     → formed (nodes_at config i) (w.world.node i).state ≡ true → formed (nodes_at config j) (w.world.node j).state ≡ true
@@ -522,7 +522,7 @@ module _ (agreeing : Agreeing) (finishing : Finishing) (given : Config) (lost : 
         go (events.Command port c, wanted, first, rest, parts) = absurd (cc)
         go (events.Retry op, wanted, first, rest, parts) = absurd (cc)
 
-  -- ---- the nodes that are left
+  -- ---- the live nodes
 
   at : (k : ℕ) (d : NodeOf) → k < length nodes → slice_get nodes k ≡ Some (get_or nodes k d)
   at k d low = slice_get-get_or nodes k d low
@@ -533,8 +533,8 @@ module _ (agreeing : Agreeing) (finishing : Finishing) (given : Config) (lost : 
   formed_is : (k : ℕ) (d : NodeOf) → k < length nodes → formed_in (get_or nodes k d) ≡ formed (nodes_at run.config k) (run.u.world.node k).state
   formed_is k d low =
       let s = (run.u.world.node k).state in
-      ap (λ names. formed (left (whole_in names) (state_in (get_or nodes k d))) (state_in (get_or nodes k d))) (run.shown k (get_or nodes k d) (at k d low)).names
-      ∙ (ap (λ (z : State). formed (left (nodes_at run.config k) z) z) (sym (state_is k d low))
+      ap (λ names. formed (live_nodes (whole_in names) (state_in (get_or nodes k d))) (state_in (get_or nodes k d))) (run.shown k (get_or nodes k d) (at k d low)).names
+      ∙ (ap (λ (z : State). formed (live_nodes (nodes_at run.config k) z) z) (sym (state_is k d low))
       ∙ all_left s.merged s.lost (nodes_at run.config k).peers (waits run.config (map losing_event schedule) run.u run.reached k).lost)
 
   apart_from : (i p : ℕ) → was_lost lost i ≡ false → was_lost lost p ≡ true → i ≢ p
@@ -561,7 +561,7 @@ module _ (agreeing : Agreeing) (finishing : Finishing) (given : Config) (lost : 
         go true later = refl
         go false later = later
 
-    none_pending : NonePendingLeft run.config run.u
+    none_pending : NonePendingLive run.config run.u
     none_pending home i pid home_there i_there home_lives i_lives own ended = go ((run.u.world.node i).state.ended pid) refl
       where
         low_home : home < length nodes

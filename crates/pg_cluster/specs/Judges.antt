@@ -8,7 +8,7 @@ use Rattle.pg_term.specs.declared.term.Term.{Term}
 use Rattle.pg_group.specs.declared.table.GroupTable.{Ghosts}
 use Rattle.pg_node.specs.declared.node.Node.{Node}
 use Rattle.pg_node.specs.Nodes.{held_by}
-use Rattle.pg_node_state.specs.States.{kept_by, left_of}
+use Rattle.pg_node_state.specs.States.{kept_by, live_of}
 use Rattle.pg_run.specs.declared.log.NodeEvent.{NodeEvent}
 use Rattle.pg_run.specs.declared.log.NodeEvent.TheVariants as events
 use Rattle.pg_step.specs.declared.command.Command.TheVariants.{Finish}
@@ -55,7 +55,7 @@ module _ {T : Type 0} {g : Ghosts T} where
   state_in node = kept_by (held_by node)
 
   abbrev pub formed_in : Node T g → Bool
-  formed_in node = formed (left_of (held_by node)) (state_in node)
+  formed_in node = formed (live_of (held_by node)) (state_in node)
 
   -- one of these nodes sees the lock of the group free
   abbrev pub is_seen_free : List (Node T g) → Term → Bool

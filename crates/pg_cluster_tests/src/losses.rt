@@ -5,7 +5,7 @@ use crate::rows::check;
 use crate::setting::{Setting, THREE};
 use pg_step::Refusal;
 
-// What the two that are left do.
+// What the two live nodes do.
 const GO_ON: &[Row] = &[Asks(0, "create a g", "ok"), Asks(1, "create b h", "ok")];
 
 const LOSS: &[Row] = &[Lose(2)];
@@ -15,7 +15,7 @@ fn others_go_on(rt: HostRuntime) {
     check(&rt, rt.alloc(), THREE, &[(1, LOSS), (1, GO_ON)], 1);
 }
 
-// The lost node may hold locks, and others may wait for its replies: whatever the seed, those that are left agree.
+// The lost node may hold locks, and others may wait for its replies: whatever the seed, the live nodes agree.
 #[test]
 fn node_lost_at_work(rt: HostRuntime) {
     const AT_WORK: &[Row] = &[Submits(2, "create c g"), Lose(2)];

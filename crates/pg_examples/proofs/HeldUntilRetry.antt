@@ -10,7 +10,7 @@ use Rattle.pg_group.specs.declared.update.Update.TheVariants as update
 use Rattle.pg_machine.specs.Machine.{Take, Do}
 use Rattle.pg_step.specs.declared.command.Command.TheVariants as command
 use Rattle.pg_step.specs.Nodes.{Node, Nodes}
-use Rattle.pg_step.specs.State.{Status, left}
+use Rattle.pg_step.specs.State.{Status, live_nodes}
 use Rattle.pg_step.specs.State.Status.{Unasked, Yes}
 use Rattle.pg_step.specs.Step.{Issue, Retry}
 use Rattle.pg_step.specs.Turns.{becomes, and_then}
@@ -38,10 +38,10 @@ module _ (g : Term) (named : is_name g ≡ true) (same : same_term g g ≡ true)
   seen = walked three_nodes (losing_start three_nodes) (beginning g ++ granted)
 
   abbrev left_a : Nodes
-  left_a = left at_a (seen.world.node 0)
+  left_a = live_nodes at_a (seen.world.node 0)
 
   abbrev left_c : Nodes
-  left_c = left at_c (seen.world.node 2)
+  left_c = live_nodes at_c (seen.world.node 2)
 
   abbrev forgotten : Node → Status
   forgotten = upd same_atom (round_two true at_a (upd same_atom (round_one true at_a) c Yes)) b Unasked

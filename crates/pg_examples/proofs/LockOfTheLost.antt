@@ -11,7 +11,7 @@ use Rattle.pg_refs.specs.Numbered.{numbered}
 use Rattle.pg_machine.specs.Machine.{Take, Do}
 use Rattle.pg_step.specs.declared.command.Command.TheVariants as command
 use Rattle.pg_step.specs.Nodes.{Nodes}
-use Rattle.pg_step.specs.State.{left}
+use Rattle.pg_step.specs.State.{live_nodes}
 use Rattle.pg_step.specs.Step.{Issue}
 use Rattle.pg_step.specs.Peers.{update_request}
 use Rattle.pg_examples.specs.Examples.{a, b, c, op_at, three_nodes, lock_ref}
@@ -45,10 +45,10 @@ module _ (g : Term) (named : is_name g ≡ true) (same : same_term g g ≡ true)
   seen = walked three_nodes held lost
 
   abbrev left_b : Nodes
-  left_b = left at_b ((walked three_nodes seen (Sees 1 0 ∷ [])).world.node 1)
+  left_b = live_nodes at_b ((walked three_nodes seen (Sees 1 0 ∷ [])).world.node 1)
 
   abbrev left_c : Nodes
-  left_c = left at_c (seen.world.node 2)
+  left_c = live_nodes at_c (seen.world.node 2)
 
   abbrev rest : List Move
   rest =

@@ -14,7 +14,7 @@ use Rattle.pg_machine.specs.Machine.{Take, Do}
 use Rattle.pg_step.specs.declared.command.Command.TheVariants as command
 use Rattle.pg_step.specs.Config.{nodes_at, groups_at}
 use Rattle.pg_step.specs.Nodes.{Nodes, greatest}
-use Rattle.pg_step.specs.State.{State, left}
+use Rattle.pg_step.specs.State.{State, live_nodes}
 use Rattle.pg_step.specs.Step.{Issue}
 use Rattle.pg_step.specs.Turns.{NodeTurn, and_then}
 use Rattle.pg_step.specs.Attempts.{new_attempt, begin}
@@ -41,7 +41,7 @@ module _ (g : Term) (named : is_name g ≡ true) (same : same_term g g ≡ true)
   abbrev joins : Update
   joins = update.Join g a1
 
-  -- the one node that is left grants itself, begins and ends
+  -- the one live node grants itself, begins and ends
   abbrev alone : Bool → Bool → Nodes → ℕ → ℕ → State → NodeTurn
   alone granted holds m k n s = and_then (new_attempt (greatest m) (op_at 3) joins s) (λ t. and_then (ask_as true m (first m) k (op_at 3) joins (greatest m) unasked t) (λ r.
       and_then (ask_as granted m all k (op_at 3) joins (greatest m) (round_one true m) r) (λ v. and_then (begin m k (op_at 3) joins v) (finish_as holds m n (op_at 3) joins k))))
@@ -85,7 +85,7 @@ module _ (g : Term) (named : is_name g ≡ true) (same : same_term g g ≡ true)
   seen = walked (two_members g) lost seen_moves
 
   abbrev left_b : Nodes
-  left_b = left at_b (seen.world.node 1)
+  left_b = live_nodes at_b (seen.world.node 1)
 
   abbrev gone_a : Value
   gone_a = less both_there (λ pid. same_atom a pid.node)

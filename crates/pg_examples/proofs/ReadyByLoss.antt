@@ -9,7 +9,7 @@ use Rattle.pg_message.specs.Name.{is_name}
 use Rattle.pg_refs.specs.Numbered.{numbered}
 use Rattle.pg_machine.specs.Machine.{Take, Do}
 use Rattle.pg_step.specs.Nodes.{Node, Nodes}
-use Rattle.pg_step.specs.State.{Status, left}
+use Rattle.pg_step.specs.State.{Status, live_nodes}
 use Rattle.pg_step.specs.State.Status.{Unasked, Yes}
 use Rattle.pg_step.specs.Step.{Retry}
 use Rattle.pg_step.specs.Turns.{becomes, and_then}
@@ -31,7 +31,7 @@ module _ (g : Term) (named : is_name g ≡ true) (same : same_term g g ≡ true)
   seen = walked three_nodes (losing_start three_nodes) (beginning g ++ lost)
 
   abbrev left_a : Nodes
-  left_a = left at_a (seen.world.node 0)
+  left_a = live_nodes at_a (seen.world.node 0)
 
   abbrev forgotten : Node → Status
   forgotten = upd same_atom (round_one true at_a) c Unasked
@@ -47,7 +47,7 @@ module _ (g : Term) (named : is_name g ≡ true) (same : same_term g g ≡ true)
   tried = walked three_nodes seen retried
 
   abbrev left_b : Nodes
-  left_b = left at_b ((walked three_nodes tried (Sees 1 2 ∷ [])).world.node 1)
+  left_b = live_nodes at_b ((walked three_nodes tried (Sees 1 2 ∷ [])).world.node 1)
 
   abbrev rest : List Move
   rest =

@@ -8,7 +8,7 @@ use Rattle.pg_step.specs.declared.command.Command.TheVariants as command
 use Rattle.pg_step.specs.declared.command_fault.CommandFault.{CommandFault}
 use Rattle.pg_step.specs.declared.command_fault.CommandFault.TheVariants.{NameTooLarge, ForeignPid}
 use Rattle.pg_step.specs.Commands.{command_by, count_command, next_op}
-use Rattle.pg_step.specs.State.{State, Response, left}
+use Rattle.pg_step.specs.State.{State, Response, live_nodes}
 use Rattle.pg_step.specs.Turns.{and_then}
 use Rattle.pg_examples.specs.Examples.{a1, b1, c1, busy_node, keeping_node}
 use Rattle.pg_examples.specs.RefusedCommands.{at_a, answer_in, answer_to, opened_in, LargeNames, ForeignMembers}
@@ -16,7 +16,7 @@ use Rattle.pg_examples.specs.RefusedCommands.{RefusedEnds, ProcessesMade, Looked
 
 -- the answer to a command whose name is found to be too large or not, and which has this fault else
 abbrev named_as : Bool → Option CommandFault → State → Command → Option Response
-named_as fine fault s c = answer_in (Ok (and_then (count_command 0 s) (command_by (cond (not fine) (Some NameTooLarge) fault) (left at_a s) (next_op 0 s) c)))
+named_as fine fault s c = answer_in (Ok (and_then (count_command 0 s) (command_by (cond (not fine) (Some NameTooLarge) fault) (live_nodes at_a s) (next_op 0 s) c)))
 
 fine : (name : Term) → is_name name ≡ true → (fault : Option CommandFault) (s : State) (c : Command) → named_as (is_name name) fault s c ≡ named_as true fault s c
 fine name named fault s c = ap (λ b. named_as b fault s c) named
@@ -73,7 +73,7 @@ looked_for g named = record {
 
 -- what a command that is taken leaves open
 abbrev opened_as : Bool → (g : Term) → ℕ
-opened_as fine g = opened_in (Ok (and_then (count_command 0 (busy_node true 0 255)) (command_by (cond (not fine) (Some NameTooLarge) None) (left at_a (busy_node true 0 255)) (next_op 0 (busy_node true 0 255)) (command.Create g))))
+opened_as fine g = opened_in (Ok (and_then (count_command 0 (busy_node true 0 255)) (command_by (cond (not fine) (Some NameTooLarge) None) (live_nodes at_a (busy_node true 0 255)) (next_op 0 (busy_node true 0 255)) (command.Create g))))
 
 pub busy_node_refuses : (g : Term) → is_name g ≡ true → OpenCommands g
 unfolding upd

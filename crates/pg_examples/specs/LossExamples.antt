@@ -12,7 +12,7 @@ use Rattle.pg_step.specs.declared.command.Command.TheVariants as command
 use Rattle.pg_step.specs.Commands.{Reads}
 use Rattle.pg_machine.specs.Places.{is_pair, set_at}
 use Rattle.pg_machine.specs.Machine.{Event, Take, start_of}
-use Rattle.pg_step.specs.State.{State, left}
+use Rattle.pg_step.specs.State.{State, live_nodes}
 use Rattle.pg_step.specs.State.Stage.{Waiting}
 use Rattle.pg_step.specs.Attempts.{is_complete}
 use Rattle.pg_step.specs.Turns.{Report}
@@ -88,7 +88,7 @@ pub record HeldUntilRetry (g : Term) : Type 0 where
   -- c has granted a, and so has a itself; b is lost before it answers, and both see it
   pub first : Come three_nodes (losing_start three_nodes)
       (steps three_meet ++ steps (at 0 (command.Create g) ∷ Take 2 0 ∷ Take 0 2 ∷ []) ++ Lose 1 (λ y. 0) ∷ sees 0 1 ∷ sees 2 1 ∷ []) seen
-  pub ready : is_complete (left (nodes_at three_nodes 0) (seen.world.node 0)) ((seen.world.node 0).uses 1) ≡ true
+  pub ready : is_complete (live_nodes (nodes_at three_nodes 0) (seen.world.node 0)) ((seen.world.node 0).uses 1) ≡ true
   pub held_c : (seen.world.node 2).locks g ≡ Some lock_ref
   -- a create at c is denied, and waits
   pub second : Come three_nodes seen (steps (at 2 (command.Create g) ∷ [])) denied

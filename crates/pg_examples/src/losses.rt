@@ -29,7 +29,7 @@ pub fn drained()
     ensures { (g : Term) → is_name g ≡ true → Drained g }
 {}
 
-/// A node is lost that holds a lock. Who sees that frees it, and those that are left go on without the lost. A loss is seen
+/// A node is lost that holds a lock. Who sees that frees it, and the live nodes go on without the lost. A loss is seen
 /// once.
 pub fn lock_of_the_lost()
     ensures { (g : Term) → is_name g ≡ true → LockOfTheLost g }

@@ -9,7 +9,7 @@ use Rattle.pg_message.specs.declared.message.Message.{Message}
 use Rattle.pg_opens.specs.Places.{whole_in}
 use Rattle.pg_step.specs.declared.command.OpId.{OpId}
 use Rattle.pg_step.specs.Attempts.{waits}
-use Rattle.pg_step.specs.State.{left}
+use Rattle.pg_step.specs.State.{live_nodes}
 use Rattle.pg_frame_world.specs.declared.step.FrameStep.{FrameStep}
 use Rattle.pg_frame_world.specs.Losing.{seen_at}
 use Rattle.pg_account.specs.Losses.{is_lost}
@@ -34,7 +34,7 @@ IsStep next = (step : FrameStep) × (next ≡ Some (planned.Step step))
 
 -- a command of a node waits
 abbrev pub waits_at : List Seen → ℕ → OpId → Bool
-waits_at nodes i op = option_map_or (λ (node : Seen). waits (left (whole_in node.names) node.state.state) (node.state.state.stages op) node.state.state) (slice_get nodes i) false
+waits_at nodes i op = option_map_or (λ (node : Seen). waits (live_nodes (whole_in node.names) node.state.state) (node.state.state.stages op) node.state.state) (slice_get nodes i) false
 
 -- a command of this number came in at a node, and was tried again fewer times than this
 abbrev pub MayRetry : ℕ → List Progress → ℕ → ℕ → Type 0

@@ -26,7 +26,7 @@ use Rattle.pg_step.specs.declared.command_fault.CommandFault.TheVariants.{Busy}
 use Rattle.pg_term.specs.Same.{same_atom}
 use Rattle.pg_lock.specs.Attempts.{after_round, does_wait}
 use Rattle.pg_step.specs.Nodes.{Node, Nodes, every, greatest}
-use Rattle.pg_step.specs.State.{State, Use, Stage, left}
+use Rattle.pg_step.specs.State.{State, Use, Stage, live_nodes}
 use Rattle.pg_step.specs.State.Use.{Fresh, Locking, Owning, Updating, Spent}
 use Rattle.pg_step.specs.Peers.{is_bad_exchange, exchange}
 use Rattle.pg_step.specs.State.Status.{Unasked}
@@ -180,7 +180,7 @@ timed_of Is clock (Err refusal) t is e = absurd (never_ok clock refusal t e)
 
 pub take_applies : (m : Nodes) (p : Node) (x : Stamped Message) (s : Timed State) (t : TimedTurn) → step_take m p x s ≡ Ok t → Applies (asked_by x.packet) t.reported
 take_applies m p x s t e = timed_of (Applies (asked_by x.packet)) (max s.clock x.stamp + 1) (node_takes m p x.packet s.state) t
-    (cond_of (Applies (asked_by x.packet)) (s.state.lost p) (Err NodeLost) (taken (left m s.state) p x.packet s.state) tt (taken_of (left m s.state) p x.packet s.state)) e
+    (cond_of (Applies (asked_by x.packet)) (s.state.lost p) (Err NodeLost) (taken (live_nodes m s.state) p x.packet s.state) tt (taken_of (live_nodes m s.state) p x.packet s.state)) e
 
 pub act_applies : (m : Nodes) (ports : ℕ) (action : Action) (s : Timed State) (t : TimedTurn) → step_act m ports action s ≡ Ok t → Applies None t.reported
-act_applies m ports action s t e = timed_of (Applies None) (s.clock + 1) (node_acts m ports action s.state) t (acted_of m (left m s.state) ports action s.state) e
+act_applies m ports action s t e = timed_of (Applies None) (s.clock + 1) (node_acts m ports action s.state) t (acted_of m (live_nodes m s.state) ports action s.state) e

@@ -12,9 +12,9 @@ use Rattle.pg_machine.specs.Machine.{Do, Take}
 use Rattle.pg_step.specs.Config.{Config, nodes_at}
 use Rattle.pg_step.specs.LossLaws.{LosingFrameWorld}
 use Rattle.pg_step.specs.Nodes.{Node, Nodes}
-use Rattle.pg_step.specs.State.{State, formed, left}
+use Rattle.pg_step.specs.State.{State, formed, live_nodes}
 use Rattle.pg_step.specs.Step.{Action, Issue, Retry}
-use Rattle.pg_history.proofs.steps.Lossless.{NoneLost, left_all}
+use Rattle.pg_history.proofs.steps.Lossless.{NoneLost, live_all}
 use Rattle.pg_opens.specs.Places.{whole_in}
 use Rattle.pg_opens.proofs.Alike.{both_true}
 use Rattle.pg_node_state.specs.declared.state.fault.NodeFault.{NodeFault}
@@ -56,9 +56,9 @@ module _ (config : Config) (nodes : List Seen) (lost : List ℕ) (frames : Timed
   -- a node that has seen no loss is formed, or not, by all its peers
   formed_is : (k : ℕ) (node : Seen) → slice_get nodes k ≡ Some node → NoneLost (u.world.node k).state → is_formed node ≡ formed (nodes_at config k) (u.world.node k).state
   formed_is k node at none =
-      ap (λ (names : List Node). formed (left (whole_in names) node.state.state) node.state.state) (shows.each k node at).names
-      ∙ (ap (λ (s : State). formed (left (nodes_at config k) s) s) (sym (state_is k node at))
-      ∙ ap (λ (m : Nodes). formed m (u.world.node k).state) (left_all (nodes_at config k) (u.world.node k).state none))
+      ap (λ (names : List Node). formed (live_nodes (whole_in names) node.state.state) node.state.state) (shows.each k node at).names
+      ∙ (ap (λ (s : State). formed (live_nodes (nodes_at config k) s) s) (sym (state_is k node at))
+      ∙ ap (λ (m : Nodes). formed m (u.world.node k).state) (live_all (nodes_at config k) (u.world.node k).state none))
 
   all_formed : ((k : ℕ) → NoneLost (u.world.node k).state) → (list_all is_formed nodes ≡ true) ↔ AreFormed config u
   all_formed none = (

@@ -27,7 +27,7 @@ use Rattle.pg_history.proofs.places.Clauses.{one_history}
 use Rattle.pg_loss.specs.Reached.{LosingReaches, steps_of}
 use Rattle.pg_retries.specs.Survived.{LossesSurvived}
 use Rattle.pg_history.specs.History.{Entry, LockFree, NonePending, history, applied_count, is_formed}
-use Rattle.pg_history.specs.WithLosses.{NonePendingLeft}
+use Rattle.pg_history.specs.WithLosses.{NonePendingLive}
 use Rattle.pg_history.proofs.steps.Lossless.{NoneLost, nobody_timed}
 use Rattle.pg_loss.proofs.Lasts.{history_later, lost_for_good}
 use Rattle.pg_node_state.specs.declared.state.fault.NodeFault.{NodeFault}
@@ -323,7 +323,7 @@ module _ (config : Config) (nodes : List Seen) (account : Account) (lost : List 
       updates.applied i name ∙ ap (applied_count i name) (sym reported) ∙ applied ∙ ap (λ ts. length (history name ts)) reported ∙ ap length (sym (updates.history name))
 
   -- where a node sees the lock of a group free, no end is pending and no node is lost, formed nodes have the same of it
-  pub agreed_there : (events : List (LosingEvent Action)) → (((i : ℕ) → u.gone i ≡ false) → HasHeadline config events u) → lost ≡ [] → NonePendingLeft config u → (x : ℕ) (name : Term) → sees_free nodes x name ≡ true
+  pub agreed_there : (events : List (LosingEvent Action)) → (((i : ℕ) → u.gone i ≡ false) → HasHeadline config events u) → lost ≡ [] → NonePendingLive config u → (x : ℕ) (name : Term) → sees_free nodes x name ≡ true
       → AgreeOn nodes name
   agreed_there events headlines none nothing x name free i j one other at_one at_other formed_one formed_other =
       let gone = λ (k : ℕ). ap (λ (v : LosingFrameWorld). v.gone k) is ∙ ap (λ (l : List ℕ). is_lost l k) none in
@@ -367,7 +367,7 @@ applied_all given view lost x node name past none at free inside =
 -- the law of pending ends: the list is empty where none is
 abbrev pub Lists : Type 0
 Lists = (config : Config) (nodes : List Seen) (lost : List ℕ) (frames : TimedFrameWorld) (u : LosingFrameWorld) (events : List (LosingEvent Action)) → ShowsNodes config nodes frames
-    → u ≡ losing_of config frames lost → LosingReaches config events u → (pending_of nodes lost ≡ []) ↔ NonePendingLeft config u
+    → u ≡ losing_of config frames lost → LosingReaches config events u → (pending_of nodes lost ≡ []) ↔ NonePendingLive config u
 
 pub agreed_all : Lists → (given : Config) (view : View) (lost : List ℕ) (x : ℕ) (name : Term) → FramesHavePast given view lost → pending_of view.traffic.nodes lost ≡ [] → lost ≡ [] → sees_free view.traffic.nodes x name ≡ true
     → AgreeOn view.traffic.nodes name

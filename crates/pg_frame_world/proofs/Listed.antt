@@ -27,13 +27,13 @@ use Rattle.pg_step.specs.State.{State}
 use Rattle.pg_step.specs.Step.{Action}
 use Rattle.pg_history.specs.History.{NonePending}
 use Rattle.pg_history.specs.Reached.{Reaches}
-use Rattle.pg_history.specs.WithLosses.{NonePendingLeft}
+use Rattle.pg_history.specs.WithLosses.{NonePendingLive}
 use Rattle.pg_loss.specs.Reached.{LosingReaches}
 use Rattle.pg_node_state.specs.declared.state.NodeState.{NodeState}
 use Rattle.pg_frame_world.specs.Losing.{losing_of}
 use Rattle.pg_account.specs.Losses.{is_lost}
-use Rattle.pg_frame_world.specs.Pending.{IsPending, has_end, is_pending, is_untaken, left_from, lent_as}
-use Rattle.pg_frame_world.specs.Pending.{nodes_left, own_of, pending_among, pending_at, pending_of}
+use Rattle.pg_frame_world.specs.Pending.{IsPending, has_end, is_pending, is_untaken, live_from, lent_as}
+use Rattle.pg_frame_world.specs.Pending.{live_states, own_of, pending_among, pending_at, pending_of}
 use Rattle.pg_starts.specs.Seen.{Seen, seen_of}
 use Rattle.pg_frame_world.specs.Worlds.{ShowsNodes, TimedFrameWorld}
 use Rattle.pg_frame_world.proofs.LosingRunning.{start_is}
@@ -115,9 +115,9 @@ element_at [] k within = absurd (omega (arith, within))
 element_at (x ∷ xs) zero within = (x, refl)
 element_at (x ∷ xs) (suc k) within = element_at xs k (omega (arith, within))
 
--- ---- the nodes that are left
+-- ---- the live nodes
 
-left_at : (p : ℕ) (nodes : List Seen) (lost : List ℕ) (node : Seen) → Among (left_from p nodes lost) node → (k : ℕ) × (slice_get nodes k ≡ Some node) × (is_lost lost (p + k) ≡ false)
+left_at : (p : ℕ) (nodes : List Seen) (lost : List ℕ) (node : Seen) → Among (live_from p nodes lost) node → (k : ℕ) × (slice_get nodes k ≡ Some node) × (is_lost lost (p + k) ≡ false)
 left_at p [] lost node is = absurd is
 left_at p (first ∷ nodes) lost node is = go (left_at (p + 1) nodes lost node) (is_lost lost p) refl is
   where
@@ -126,37 +126,37 @@ left_at p (first ∷ nodes) lost node is = go (left_at (p + 1) nodes lost node) 
         let place : p + 1 + rest.0 ≡ p + suc rest.0 = omega arith in
         (suc rest.0, rest.1, subst (λ n. is_lost lost n ≡ false) place rest.2)
 
-    go : (Among (left_from (p + 1) nodes lost) node → (k : ℕ) × (slice_get nodes k ≡ Some node) × (is_lost lost (p + 1 + k) ≡ false))
-        → (b : Bool) → is_lost lost p ≡ b → Among (cond b (left_from (p + 1) nodes lost) (first ∷ left_from (p + 1) nodes lost)) node
+    go : (Among (live_from (p + 1) nodes lost) node → (k : ℕ) × (slice_get nodes k ≡ Some node) × (is_lost lost (p + 1 + k) ≡ false))
+        → (b : Bool) → is_lost lost p ≡ b → Among (cond b (live_from (p + 1) nodes lost) (first ∷ live_from (p + 1) nodes lost)) node
         → (k : ℕ) × (slice_get (first ∷ nodes) k ≡ Some node) × (is_lost lost (p + k) ≡ false)
     go rest true gone more = later (rest more)
     go rest false lives (inl e) = let place : p ≡ p + zero = omega arith in (zero, ap Some e, subst (λ n. is_lost lost n ≡ false) place lives)
     go rest false lives (inr more) = later (rest more)
 
-at_left : (p : ℕ) (nodes : List Seen) (lost : List ℕ) (node : Seen) (k : ℕ) → slice_get nodes k ≡ Some node → is_lost lost (p + k) ≡ false → Among (left_from p nodes lost) node
+at_left : (p : ℕ) (nodes : List Seen) (lost : List ℕ) (node : Seen) (k : ℕ) → slice_get nodes k ≡ Some node → is_lost lost (p + k) ≡ false → Among (live_from p nodes lost) node
 at_left p [] lost node k at lives = absurd (cc)
 at_left p (first ∷ nodes) lost node zero at lives =
     let same : first ≡ node = cc in
     let place : p + zero ≡ p = omega arith in
-    subst (λ b. Among (cond b (left_from (p + 1) nodes lost) (first ∷ left_from (p + 1) nodes lost)) node) (sym (subst (λ n. is_lost lost n ≡ false) place lives)) (inl same)
+    subst (λ b. Among (cond b (live_from (p + 1) nodes lost) (first ∷ live_from (p + 1) nodes lost)) node) (sym (subst (λ n. is_lost lost n ≡ false) place lives)) (inl same)
 at_left p (first ∷ nodes) lost node (suc k) at lives =
     let place : p + suc k ≡ p + 1 + k = omega arith in
     go (at_left (p + 1) nodes lost node k at (subst (λ n. is_lost lost n ≡ false) place lives)) (is_lost lost p)
   where
-    go : Among (left_from (p + 1) nodes lost) node → (b : Bool) → Among (cond b (left_from (p + 1) nodes lost) (first ∷ left_from (p + 1) nodes lost)) node
+    go : Among (live_from (p + 1) nodes lost) node → (b : Bool) → Among (cond b (live_from (p + 1) nodes lost) (first ∷ live_from (p + 1) nodes lost)) node
     go later true = later
     go later false = inr later
 
 -- one more node
-pub left_more : (p : ℕ) (nodes : List Seen) (lost : List ℕ) (node : Seen) → left_from p (nodes ++ node ∷ []) lost ≡ left_from p nodes lost ++ cond (is_lost lost (p + length nodes)) [] (node ∷ [])
+pub left_more : (p : ℕ) (nodes : List Seen) (lost : List ℕ) (node : Seen) → live_from p (nodes ++ node ∷ []) lost ≡ live_from p nodes lost ++ cond (is_lost lost (p + length nodes)) [] (node ∷ [])
 left_more p [] lost node = let place : p ≡ p + zero = omega arith in ap (λ n. cond (is_lost lost n) [] (node ∷ [])) place
 left_more p (first ∷ nodes) lost node =
     let place : p + 1 + length nodes ≡ p + suc (length nodes) = omega arith in
-    go (left_more (p + 1) nodes lost node ∙ ap (λ n. left_from (p + 1) nodes lost ++ cond (is_lost lost n) [] (node ∷ [])) place) (is_lost lost p)
+    go (left_more (p + 1) nodes lost node ∙ ap (λ n. live_from (p + 1) nodes lost ++ cond (is_lost lost n) [] (node ∷ [])) place) (is_lost lost p)
   where
-    go : left_from (p + 1) (nodes ++ node ∷ []) lost ≡ left_from (p + 1) nodes lost ++ cond (is_lost lost (p + suc (length nodes))) [] (node ∷ [])
-        → (b : Bool) → cond b (left_from (p + 1) (nodes ++ node ∷ []) lost) (first ∷ left_from (p + 1) (nodes ++ node ∷ []) lost)
-        ≡ cond b (left_from (p + 1) nodes lost) (first ∷ left_from (p + 1) nodes lost) ++ cond (is_lost lost (p + suc (length nodes))) [] (node ∷ [])
+    go : live_from (p + 1) (nodes ++ node ∷ []) lost ≡ live_from (p + 1) nodes lost ++ cond (is_lost lost (p + suc (length nodes))) [] (node ∷ [])
+        → (b : Bool) → cond b (live_from (p + 1) (nodes ++ node ∷ []) lost) (first ∷ live_from (p + 1) (nodes ++ node ∷ []) lost)
+        ≡ cond b (live_from (p + 1) nodes lost) (first ∷ live_from (p + 1) nodes lost) ++ cond (is_lost lost (p + suc (length nodes))) [] (node ∷ [])
     go later true = later
     go later false = ap (λ xs. first ∷ xs) later
 
@@ -237,7 +237,7 @@ taken_more : {A B : Type 0} (view : A → B) (xs : List A) (k : ℕ) (x : A) →
 taken_more view xs k x within here =
     take_more (map view xs) k (view x) (omega (arith, within, length-map xs view)) ∙ ap (λ y. take k (map view xs) ++ y ∷ []) (get_or-map view xs k x (view x) within ∙ ap view (sym here))
 
--- one more of the nodes that are left
+-- one more of the live nodes
 pub next_home : {T : Type 0} {g : Ghosts T} (left : List (Bor (NodeState T g))) (k : ℕ) (node : Bor (NodeState T g)) (pids : List Pid) → k < length left → node ≡ get_or left k node
     → pids ≡ pending_among (lent_as left) (take k (lent_as left)) → pids ++ pending_at (lent_as left) (seen_of node.now) ≡ pending_among (lent_as left) (take (k + 1) (lent_as left))
 next_home {T} {g} left k node pids within here so_far =
@@ -247,25 +247,25 @@ next_home {T} {g} left k node pids within here so_far =
 
 -- one more node, where it is left and where it is lost
 module _ {A : Type 0} (view : A → Seen) (nodes : List A) (lost : List ℕ) (k : ℕ) (node : A) (within : k < length nodes) (here : node ≡ get_or nodes k node) where
-  next_node : (before : List Seen) → before ≡ left_from 0 (take k (map view nodes)) lost → before ++ cond (is_lost lost k) [] (view node ∷ []) ≡ left_from 0 (take (k + 1) (map view nodes)) lost
+  next_node : (before : List Seen) → before ≡ live_from 0 (take k (map view nodes)) lost → before ++ cond (is_lost lost k) [] (view node ∷ []) ≡ live_from 0 (take (k + 1) (map view nodes)) lost
   next_node before so_far =
       let many : 0 + length (take k (map view nodes)) ≡ k = counted in
       ap (λ (all : List Seen). all ++ cond (is_lost lost k) [] (view node ∷ [])) so_far
-      ∙ ap (λ n. left_from 0 (take k (map view nodes)) lost ++ cond (is_lost lost n) [] (view node ∷ [])) (sym many)
+      ∙ ap (λ n. live_from 0 (take k (map view nodes)) lost ++ cond (is_lost lost n) [] (view node ∷ [])) (sym many)
       ∙ sym (left_more 0 (take k (map view nodes)) lost (view node))
-      ∙ ap (λ (all : List Seen). left_from 0 all lost) (sym (taken_more view nodes k node within here))
+      ∙ ap (λ (all : List Seen). live_from 0 all lost) (sym (taken_more view nodes k node within here))
     where
       counted : 0 + length (take k (map view nodes)) ≡ k
       counted = let same = length-map nodes view in let inside = length-take-le k (map view nodes) (omega (arith, within, same)) in omega (arith, inside)
 
-  pub next_left : (before : List Seen) → before ≡ left_from 0 (take k (map view nodes)) lost → is_lost lost k ≡ false → before ++ view node ∷ [] ≡ left_from 0 (take (k + 1) (map view nodes)) lost
+  pub next_left : (before : List Seen) → before ≡ live_from 0 (take k (map view nodes)) lost → is_lost lost k ≡ false → before ++ view node ∷ [] ≡ live_from 0 (take (k + 1) (map view nodes)) lost
   next_left before so_far lives = ap (λ b. before ++ cond b [] (view node ∷ [])) (sym lives) ∙ next_node before so_far
 
-  skipped : (before : List Seen) → before ≡ left_from 0 (take k (map view nodes)) lost → is_lost lost k ≡ true → before ≡ left_from 0 (take (k + 1) (map view nodes)) lost
+  skipped : (before : List Seen) → before ≡ live_from 0 (take k (map view nodes)) lost → is_lost lost k ≡ true → before ≡ live_from 0 (take (k + 1) (map view nodes)) lost
   skipped before so_far gone = sym (append-nil before) ∙ ap (λ b. before ++ cond b [] (view node ∷ [])) (sym gone) ∙ next_node before so_far
 
-pub next_lost : {A : Type 0} (view : A → Seen) (nodes : List A) (lost : List ℕ) (k : ℕ) → k < length nodes → (before : List Seen) → before ≡ left_from 0 (take k (map view nodes)) lost
-    → is_lost lost k ≡ true → before ≡ left_from 0 (take (k + 1) (map view nodes)) lost
+pub next_lost : {A : Type 0} (view : A → Seen) (nodes : List A) (lost : List ℕ) (k : ℕ) → k < length nodes → (before : List Seen) → before ≡ live_from 0 (take k (map view nodes)) lost
+    → is_lost lost k ≡ true → before ≡ live_from 0 (take (k + 1) (map view nodes)) lost
 next_lost view nodes lost k within =
     let one = element_at nodes k within in
     skipped view nodes lost k one.0 within (sym (get_or_from_slice_get nodes k one.0 one.0 one.1))
@@ -303,7 +303,7 @@ module _ (config : Config) (w : TimedFrameWorld) (nodes : List Seen) (lost : Lis
   own_is k node at = ap (λ (names : List Node). get_or names 0 []) (shows.each k node at).names
 
   abbrev left : List Seen
-  left = nodes_left nodes lost
+  left = live_states nodes lost
 
   from_zero : (k : ℕ) → is_lost lost (0 + k) ≡ is_lost lost k
   from_zero k = let same : 0 + k ≡ k = omega arith in ap (is_lost lost) same
@@ -346,7 +346,7 @@ module _ (config : Config) (w : TimedFrameWorld) (nodes : List Seen) (lost : Lis
         (in_filter (is_pending left home.0) (first_pids (own_of home.0) home.0.state.state.processes) pid stands (ap (λ b. b && list_any (λ (node : Seen). not (has_end node pid)) left) has ∙ some)))
 
     abbrev none_left : Type 0
-    none_left = NonePendingLeft config (losing_of config w lost)
+    none_left = NonePendingLive config (losing_of config w lost)
 
     pub none_listed : pending_of nodes lost ≡ [] → none_left
     none_listed none home i pid home_there there home_left left named ended = go ((w.node i).state.ended pid) refl
@@ -365,7 +365,7 @@ module _ (config : Config) (w : TimedFrameWorld) (nodes : List Seen) (lost : Lis
           untaken = is;
         }))))
 
-  pub empty_list : NonePendingLeft config (losing_of config w lost) → pending_of nodes lost ≡ []
+  pub empty_list : NonePendingLive config (losing_of config w lost) → pending_of nodes lost ≡ []
   empty_list none = go (pending_of nodes lost) refl
     where
       go : (pids : List Pid) → pending_of nodes lost ≡ pids → pending_of nodes lost ≡ []
@@ -388,8 +388,8 @@ pub reached_so : (config : Config) (es : List (Event Action)) (w : TimedFrameWor
 reached_so config es w l = subst (λ (u : LosingFrameWorld). LosingLeads (losing_frame_machine config) last_notice u (all_steps es) (losing_of config w [])) (sym (start_is config))
     (lifted_run config es (start_of (frame_machine config)) w l)
 
-pub none_of_plain : (config : Config) (w : TimedFrameWorld) → NonePending config (plain w) → NonePendingLeft config (losing_of config w [])
+pub none_of_plain : (config : Config) (w : TimedFrameWorld) → NonePending config (plain w) → NonePendingLive config (losing_of config w [])
 none_of_plain config w none home i pid home_there there _ _ named ended = none home i pid home_there there named ended
 
-pub plain_none : (config : Config) (w : TimedFrameWorld) → NonePendingLeft config (losing_of config w []) → NonePending config (plain w)
+pub plain_none : (config : Config) (w : TimedFrameWorld) → NonePendingLive config (losing_of config w []) → NonePending config (plain w)
 plain_none config w none home i pid home_there there named ended = none home i pid home_there there refl refl named ended

@@ -12,7 +12,7 @@ use Rattle.pg_step.specs.Attempts.{retry}
 use Rattle.pg_step.specs.Commands.{command}
 use Rattle.pg_step.specs.Config.{Config, name_at, nodes_at, ports_at}
 use Rattle.pg_step.specs.Nodes.{Nodes}
-use Rattle.pg_step.specs.State.{State, left}
+use Rattle.pg_step.specs.State.{State, live_nodes}
 use Rattle.pg_step.specs.Step.{Action, Issue, Retry, timed, step_act}
 use Rattle.pg_step.specs.StepLaws.{port_of}
 use Rattle.pg_step.specs.declared.refusal.Refusal.TheVariants.{NoSuchPlace, NotLost}
@@ -26,8 +26,8 @@ use Rattle.pg_frame_world.specs.Losing.{is_barred}
 use Rattle.pg_frame_world.proofs.Peering.{lt_false}
 
 no_port : (m : Nodes) (ports : ℕ) (action : Action) (s : Timed State) → nat_lt (port_of action) ports ≡ false → step_act m ports action s ≡ Err NoSuchPlace
-no_port m ports (Issue port c) s e = ap (λ b. timed (s.clock + 1) (cond b (Ok (command m (left m s.state) port c s.state)) (Err NoSuchPlace))) e
-no_port m ports (Retry op) s e = ap (λ b. timed (s.clock + 1) (cond b (retry (left m s.state) op s.state) (Err NoSuchPlace))) e
+no_port m ports (Issue port c) s e = ap (λ b. timed (s.clock + 1) (cond b (Ok (command m (live_nodes m s.state) port c s.state)) (Err NoSuchPlace))) e
+no_port m ports (Retry op) s e = ap (λ b. timed (s.clock + 1) (cond b (retry (live_nodes m s.state) op s.state) (Err NoSuchPlace))) e
 
 module _ (config : Config) (nodes : List Seen) (w : TimedFrameWorld) (shows : ShowsNodes config nodes w) where
   pub acts_nowhere : (i : ℕ) (action : Action) → has_port nodes i (port_of action) ≡ false → told config w (Do i action) ≡ Some (Err NoSuchPlace)

@@ -16,7 +16,7 @@ use Rattle.pg_step.specs.Faults.{first_that_holds}
 use Rattle.pg_step.specs.FrameMachine.{losing_frame_machine, last_notice, sent_packet}
 use Rattle.pg_step.specs.LossLaws.{LosingFrameWorld, is_notice, see_refusal}
 use Rattle.pg_step.specs.Nodes.{Node, Nodes}
-use Rattle.pg_step.specs.State.{State, formed, left}
+use Rattle.pg_step.specs.State.{State, formed, live_nodes}
 use Rattle.pg_step.specs.Step.{Action, Issue, Retry, step_take, step_act}
 use Rattle.pg_step.specs.StepLaws.{refusal_of, port_of}
 use Rattle.pg_history.specs.WithLosses.{has_seen}
@@ -99,7 +99,7 @@ lost_after step result lost = lost
 
 -- a node is formed: of those that count each has told its groups
 abbrev pub is_formed : Seen → Bool
-is_formed node = formed (left (whole_in node.names) node.state.state) node.state.state
+is_formed node = formed (live_nodes (whole_in node.names) node.state.state) node.state.state
 
 -- whether every node was formed when the first was lost, where one is lost more
 abbrev pub formed_at : List Seen → List ℕ → Bool → Bool

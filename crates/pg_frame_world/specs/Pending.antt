@@ -34,17 +34,17 @@ pub record IsPending (config : Config) (u : LosingFrameWorld) (pid : Pid) : Type
 -- ---- as nodes are seen
 
 -- of some nodes, the first of which is at this place, those that are not lost
-abbrev pub left_from : ℕ → List Seen → List ℕ → List Seen
-left_from place [] lost = []
-left_from place (node ∷ nodes) lost = cond (is_lost lost place) (left_from (place + 1) nodes lost) (node ∷ left_from (place + 1) nodes lost)
+abbrev pub live_from : ℕ → List Seen → List ℕ → List Seen
+live_from place [] lost = []
+live_from place (node ∷ nodes) lost = cond (is_lost lost place) (live_from (place + 1) nodes lost) (node ∷ live_from (place + 1) nodes lost)
 
 -- nodes that are lent, as they are seen
 abbrev pub lent_as : {T : Type 0} {g : Ghosts T} → List (Bor (NodeState T g)) → List Seen
 lent_as nodes = map (λ node. seen_of node.now) nodes
 
 -- the nodes of a world that are not lost
-abbrev pub nodes_left : List Seen → List ℕ → List Seen
-nodes_left nodes lost = left_from 0 nodes lost
+abbrev pub live_states : List Seen → List ℕ → List Seen
+live_states nodes lost = live_from 0 nodes lost
 
 -- the name of a node
 abbrev pub own_of : Seen → Node
@@ -58,7 +58,7 @@ has_end node pid = node.state.state.ended pid
 abbrev pub is_untaken : List Seen → Pid → Bool
 is_untaken left pid = list_any (λ node. not (has_end node pid)) left
 
--- the home has the end, and one of the nodes that are left has not
+-- the home has the end, and one of the live nodes has not
 abbrev pub is_pending : List Seen → Seen → Pid → Bool
 is_pending left home pid = has_end home pid && is_untaken left pid
 
@@ -66,14 +66,14 @@ is_pending left home pid = has_end home pid && is_untaken left pid
 abbrev pub pending_at : List Seen → Seen → List Pid
 pending_at left home = filter (is_pending left home) (first_pids (own_of home) home.state.state.processes)
 
--- those of some of the nodes that are left
+-- those of some of the live nodes
 abbrev pub pending_among : List Seen → List Seen → List Pid
 pending_among left [] = []
 pending_among left (home ∷ homes) = pending_at left home ++ pending_among left homes
 
 -- The ends that are pending where nodes are as they are seen, of which these are lost: home by home, and at each by number.
 abbrev pub pending_of : List Seen → List ℕ → List Pid
-pending_of nodes lost = pending_among (nodes_left nodes lost) (nodes_left nodes lost)
+pending_of nodes lost = pending_among (live_states nodes lost) (live_states nodes lost)
 
 -- ---- what nodes agree on, as they are seen
 

@@ -210,7 +210,7 @@ impl<T: GroupTable + Drop> FrameWorld<T> {
         self.frames.missed(node, name)
     }
 
-    /// Whether every node was formed when the first was lost; yes too where none is lost. Where it is yes, formed nodes that are left
+    /// Whether every node was formed when the first was lost; yes too where none is lost. Where it is yes, formed live nodes
     /// agree on a group of which they have applied the same updates, once each has seen each loss and no end is pending among them.
     ///
     /// Cost: no memory.
@@ -229,7 +229,7 @@ impl<T: GroupTable + Drop> FrameWorld<T> {
     ///
     /// Errors: `AllocError`.
     ///
-    /// Cost: a search at each node that is left for each process that has ended at its home, and the memory of the
+    /// Cost: a search at each live node for each process that has ended at its home, and the memory of the
     /// list.
     pub fn pending_ends(&self) -> Result<Vec<Pid>, AllocError>
         ensures list { IfOk result (λ pids. pids.items ≡ pending_of (traffic_of self.now).nodes (lost_of self.now)) }

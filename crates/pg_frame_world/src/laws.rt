@@ -11,7 +11,7 @@ ghost use Rattle.pg_step.specs.Nodes.{Node};
 ghost use Rattle.pg_step.specs.Config.{Config, names_of, ports_at, made_at, groups_at, first_table};
 ghost use Rattle.pg_history.specs.History.{NonePending, base, known};
 ghost use Rattle.pg_history.specs.Reached.{Reaches};
-ghost use Rattle.pg_history.specs.WithLosses.{NonePendingLeft};
+ghost use Rattle.pg_history.specs.WithLosses.{NonePendingLive};
 ghost use Rattle.pg_loss.specs.Reached.{LosingReaches};
 ghost use Rattle.pg_config.specs.declared.fault.WorldFault.{WorldFault};
 ghost use Rattle.pg_config.specs.declared.fault.WorldFault.TheVariants.{OutOfMemory};
@@ -58,7 +58,7 @@ pub fn long_groups_do_not_fit()
 {}
 
 /// The ends that are pending are listed, and no others: in each world that is shown to which events lead, whoever is lost and whenever.
-/// The list is empty exactly where no end is pending among the nodes that are left; where no node is lost, exactly where none is.
+/// The list is empty exactly where no end is pending among the live nodes; where no node is lost, exactly where none is.
 pub fn pending_ends_are_listed()
     ensures listed { (config : Config) (nodes : List Seen) (lost : List ℕ) (frames : TimedFrameWorld) (u : LosingFrameWorld)
         (events : List (LosingEvent Action)) (pid : Pid)
@@ -67,7 +67,7 @@ pub fn pending_ends_are_listed()
     ensures none { (config : Config) (nodes : List Seen) (lost : List ℕ) (frames : TimedFrameWorld) (u : LosingFrameWorld)
         (events : List (LosingEvent Action))
         → ShowsNodes config nodes frames → u ≡ losing_of config frames lost → LosingReaches config events u
-        → (pending_of nodes lost ≡ []) ↔ NonePendingLeft config u }
+        → (pending_of nodes lost ≡ []) ↔ NonePendingLive config u }
     ensures unlost { (config : Config) (nodes : List Seen) (w : TimedFrameWorld) (events : List (Event Action))
         → ShowsNodes config nodes w → Reaches config events w
         → (pending_of nodes [] ≡ []) ↔ NonePending config (plain w) }

@@ -11,7 +11,7 @@ use pg_node_state::NodeState;
 use pg_term::Pid;
 use std::alloc::{AllocError, Global};
 
-/// The ends that are pending among the nodes that are left: node by node those of the processes that it made, by
+/// The ends that are pending among the live nodes: node by node those of the processes that it made, by
 /// their numbers.
 ///
 /// Errors: `AllocError`.
@@ -50,7 +50,7 @@ fn add_pending<T: GroupTable + Drop>(
     Ok(())
 }
 
-/// Whether one of the nodes that are left has not taken the end of a process.
+/// Whether one of the live nodes has not taken the end of a process.
 fn is_untaken<T: GroupTable + Drop>(pid: &Pid, left: &[&NodeState<T>]) -> bool
     ensures { result ≡ list_any (λ node. not ((kept_by node.now).ended pid.now)) left.now }
 {

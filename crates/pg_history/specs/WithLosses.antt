@@ -31,10 +31,10 @@ has_seen config w i p = (w.world.node i).state.lost (name_at config p)
 abbrev pub is_of_lost : Config → LosingFrameWorld → ℕ → Pid → Bool
 is_of_lost config w i pid = list_any (λ name. same_atom name pid.node && (w.world.node i).state.lost name) (names_of config)
 
--- No end is pending among the nodes that are left: one that its home has, where the home is not lost, each node has that is
+-- No end is pending among the live nodes: one that its home has, where the home is not lost, each node has that is
 -- not lost.
-abbrev pub NonePendingLeft : Config → LosingFrameWorld → Type 0
-NonePendingLeft config w = (home i : ℕ) (pid : Pid) → is_place (length config) home ≡ true → is_place (length config) i ≡ true
+abbrev pub NonePendingLive : Config → LosingFrameWorld → Type 0
+NonePendingLive config w = (home i : ℕ) (pid : Pid) → is_place (length config) home ≡ true → is_place (length config) i ≡ true
     → w.gone home ≡ false → w.gone i ≡ false
     → pid.node ≡ name_at config home → (w.world.node home).state.ended pid ≡ true → (w.world.node i).state.ended pid ≡ true
 

@@ -15,7 +15,7 @@ ghost use Rattle.pg_machine.specs.Clocked.{Timed, Stamped, plain};
 ghost use Rattle.pg_machine.specs.Losing.{Noticed, LosingWorld, LosingLeads, nobody_gone, all_steps, mapped};
 ghost use Rattle.pg_machine.specs.Runs.{Leads, run, ran};
 ghost use Rattle.pg_machine.specs.Places.{is_place, is_pair};
-ghost use Rattle.pg_step.specs.State.{State, left};
+ghost use Rattle.pg_step.specs.State.{State, live_nodes};
 ghost use Rattle.pg_step.specs.Turns.{Report};
 ghost use Rattle.pg_step.specs.Step.{Action, Retry, step_take};
 ghost use Rattle.pg_step.specs.declared.refusal.Refusal.TheVariants.{NotAMessage};
@@ -168,7 +168,7 @@ pub fn processes_are_fresh()
 /// Where no node is lost none sees a loss, and so all count.
 pub fn no_loss_is_seen()
     ensures { (config : Config) (w : TimedFrameWorld) (events : List (Event Action)) (i : ℕ)
-        → Reaches config events w → left (nodes_at config i) ((plain w).node i) ≡ nodes_at config i }
+        → Reaches config events w → live_nodes (nodes_at config i) ((plain w).node i) ≡ nodes_at config i }
 {}
 
 /// The exchange of each node is on the way to each other node once, with the groups that it started with, until it is

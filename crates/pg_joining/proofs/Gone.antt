@@ -20,7 +20,7 @@ use Rattle.pg_step.specs.Config.{Config, name_at as config_name, names_of, nodes
 use Rattle.pg_step.specs.FrameMachine.{placed, place_turn, sent_packet}
 use Rattle.pg_step.specs.Losses.{see_loss}
 use Rattle.pg_step.specs.Nodes.{Node, Nodes, all_of, is_peer}
-use Rattle.pg_step.specs.State.{State, left}
+use Rattle.pg_step.specs.State.{State, live_nodes}
 use Rattle.pg_step.specs.Step.{Issue, Retry, TimedTurn, CLOCK_LIMIT, acted}
 use Rattle.pg_step.specs.Step.{at_clock, node_acts, node_takes, taken, timed}
 use Rattle.pg_step.specs.Turns.{NodeTurn}
@@ -120,7 +120,7 @@ none_kept test keep (x ∷ xs) none = go (test x) (keep x) refl none (none_kept 
     go false true is e rest = ap (λ b. b || list_any test (filter keep xs)) is ∙ rest e
     go false false is e rest = rest e
 
--- one that is lost is not among those that are left
+-- one that is lost is not among the live
 lost_left : (lost : Node → Bool) (q : Node) (xs : List Node) → lost q ≡ true → list_any (same_atom q) (filter (λ p. not (lost p)) xs) ≡ false
 lost_left lost q [] is = refl
 lost_left lost q (x ∷ xs) is = go (lost x) refl (same_atom q x) refl (lost_left lost q xs is)
@@ -245,7 +245,7 @@ module _ (config : Config) (i : ℕ) (within : i < length config) where
       apart : p ≢ place
       apart e =
           let gone : s.state.lost (config_name config (place_of_peer i p)) ≡ true = ap s.state.lost (sym (peer_is p) ∙ ap peer_at e) ∙ is in
-          let lives = not_lost_so (s.state.lost (config_name config (place_of_peer i p))) (taken (left (nodes_at config i) s.state) (config_name config (place_of_peer i p)) x.packet s.state) made.0 made.1 in
+          let lives = not_lost_so (s.state.lost (config_name config (place_of_peer i p))) (taken (live_nodes (nodes_at config i) s.state) (config_name config (place_of_peer i p)) x.packet s.state) made.0 made.1 in
           clash (sym gone ∙ lives.0)
   comes_none s (Saw p last) turn place made is = (refl, ap (λ b. cond b (last ∷ []) []) (ne_eqb p place apart))
     where
@@ -367,11 +367,11 @@ module _ (config : Config) (i : ℕ) (within : i < length config) where
   -- ---- what is sent
 
   module _ (apart : IsDistinct same_atom (names_of config)) where
-    own_left : (s : State) → is_peer (left (nodes_at config i) s) (config_name config i) ≡ false
+    own_left : (s : State) → is_peer (live_nodes (nodes_at config i) s) (config_name config i) ≡ false
     own_left s = none_kept (same_atom (config_name config i)) (λ q. not (s.lost q)) (nodes_at config i).peers (alone config apart i (lt-ltb i (length config) within))
 
     -- a peer whose packet is taken is left
-    taker_left : (s : State) (p : ℕ) → p + 1 < length names → s.lost (peer_at p) ≡ false → is_peer (left (nodes_at config i) s) (peer_at p) ≡ true
+    taker_left : (s : State) (p : ℕ) → p + 1 < length names → s.lost (peer_at p) ≡ false → is_peer (live_nodes (nodes_at config i) s) (peer_at p) ≡ true
     taker_left s p low lives = still_left s.lost (peer_at p) (nodes_at config i).peers lives (there p low)
       where
         there : (p : ℕ) → p + 1 < length names → list_any (same_atom (peer_at p)) (nodes_at config i).peers ≡ true
@@ -388,7 +388,7 @@ module _ (config : Config) (i : ℕ) (within : i < length config) where
     -- nothing is sent to a node whose loss was seen
     sends_none : (s : Timed State) (input : Given) (turn : TimedTurn) (q : Node) → IsFromPeer names input → MadeBy s input turn → s.state.lost q ≡ true → turn.sends q ≡ []
     sends_none s (Took p x) turn q there made is =
-        let m = left (nodes_at config i) s.state in
+        let m = live_nodes (nodes_at config i) s.state in
         let peer = config_name config (place_of_peer i p) in
         let lives = not_lost_so (s.state.lost peer) (taken m peer x.packet s.state) made.0 made.1 in
         let low : p + 1 < length names = there in
@@ -398,7 +398,7 @@ module _ (config : Config) (i : ℕ) (within : i < length config) where
         (once_so m (own_left s.state) q (taken m peer x.packet s.state) made.0 lives.1 (takes_once m (own_left s.state) q peer left_there x.packet s.state) (lost_left s.state.lost q (nodes_at config i).peers is))
     sends_none s (Saw p last) turn q there made is = ap (λ (u : TimedTurn). u.sends q) (sym made.1)
     sends_none s (Did action) turn q there made is =
-        let m = left (nodes_at config i) s.state in
+        let m = live_nodes (nodes_at config i) s.state in
         ap (λ (u : TimedTurn). u.sends q) (sym made.2)
         ∙ stamped_none (s.clock + 1) (made.0.sends q)
         (once_so m (own_left s.state) q (acted (nodes_at config i) m ports action s.state) made.0 made.1 (acts_once m (own_left s.state) q (nodes_at config i) ports action s.state)

@@ -1,4 +1,4 @@
--- Formed nodes that are left, and heard each node whose loss they saw, agree on a group of which no lost node has an update.
+-- Formed live nodes, and heard each node whose loss they saw, agree on a group of which no lost node has an update.
 use Rattle.std.proofs.Common.{◌≡◌, ◌⊎◌, inl, inr, ℕ, Bool, true, false, length, List, None, refl, ap, sym, ◌∙◌}
 use Rattle.std.specs.List.{IsDistinct}
 use Rattle.std.proofs.Math.Path.{fun_ext}
@@ -13,7 +13,7 @@ use Rattle.pg_step.specs.LossLaws.{LosingFrameWorld}
 use Rattle.pg_step.specs.State.{formed}
 use Rattle.pg_step.specs.Step.{Action}
 use Rattle.pg_history.specs.History.{applied_by, base, replay}
-use Rattle.pg_history.specs.WithLosses.{NonePendingLeft}
+use Rattle.pg_history.specs.WithLosses.{NonePendingLive}
 use Rattle.pg_history.proofs.ends.Apart.{pair_second}
 use Rattle.pg_history.proofs.places.Shown.{IsHere}
 use Rattle.pg_history.proofs.references.Keys.{atoms}
@@ -27,7 +27,7 @@ use Rattle.pg_left.proofs.Applied.{all_applied}
 use Rattle.pg_left.proofs.Knowing.{table_is}
 use Rattle.pg_left.proofs.Passing.{EachKeeps}
 
-module _ (law : EachKeeps) (config : Config) (apart : IsDistinct same_atom (names_of config)) (es : List (LosingEvent Action)) (w : LosingFrameWorld) (l : LosingReaches config es w) (none : NonePendingLeft config w) where
+module _ (law : EachKeeps) (config : Config) (apart : IsDistinct same_atom (names_of config)) (es : List (LosingEvent Action)) (w : LosingFrameWorld) (l : LosingReaches config es w) (none : NonePendingLive config w) where
   bridge : Bridged config apart (bare w)
   bridge = bridged config apart es w l
 
@@ -57,7 +57,7 @@ module _ (law : EachKeeps) (config : Config) (apart : IsDistinct same_atom (name
   heard_seen : (i : ℕ) → IsHere config i → HeardTheLost config es w i → (p : ℕ) → is_pair (length config) i p ≡ true → (w.world.node i).state.lost (name_at config p) ≡ true → Heard config es i p
   heard_seen i here heard p pair seen = heard p pair (bridge.has.gone (name_at config i) p (pair_second (length config) i p pair) (bridge.has.sees i (name_at config p) here ∙ seen))
 
-  -- they agree, where one node x that is left sees the lock free
+  -- they agree, where a live node x sees the lock free
   pub agree : (i j x : ℕ) (name : Term) → IsHere config i → IsHere config j → IsHere config x → w.gone i ≡ false → w.gone j ≡ false → w.gone x ≡ false
       → formed (nodes_at config i) (w.world.node i).state ≡ true → formed (nodes_at config j) (w.world.node j).state ≡ true → SawAll config w i → SawAll config w j
       → HeardTheLost config es w i → HeardTheLost config es w j → (w.world.node x).state.locks name ≡ None → NoneOfLost w name

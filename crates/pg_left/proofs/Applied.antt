@@ -1,4 +1,4 @@
--- Nodes that are left have applied all updates of a group of which no lost node has one, where one of them sees its lock free.
+-- live nodes have applied all updates of a group of which no lost node has one, where one of them sees its lock free.
 use Rattle.std.proofs.Common.{◌≡◌, ◌⊎◌, inl, inr, ℕ, ◌+◌, ◌≤◌, zero, suc, Bool, true, false, ◌&&◌, cond}
 use Rattle.std.proofs.Common.{nat_eq, List, [], ◌∷◌, ◌++◌, None, refl, ap, sym, ◌∙◌, subst, arith}
 use Rattle.std.specs.List.{AllByRecursion, IsDistinct}

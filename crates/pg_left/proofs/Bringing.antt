@@ -18,7 +18,7 @@ use Rattle.pg_machine.specs.Losing.{Noticed, Sent, Last}
 use Rattle.pg_step.specs.declared.command.OpId.{OpId}
 use Rattle.pg_step.specs.Config.{Config, name_at, names_of, nodes_at}
 use Rattle.pg_step.specs.Nodes.{Node, is_peer}
-use Rattle.pg_step.specs.State.{State, Status, Use, left}
+use Rattle.pg_step.specs.State.{State, Status, Use, live_nodes}
 use Rattle.pg_step.specs.State.Status.{Unasked, Asked, Yes, No}
 use Rattle.pg_step.specs.State.Use.{Fresh, Spent, Locking, Owning, Updating}
 use Rattle.pg_history.specs.Exclusive.{IsUpdateOf}
@@ -350,7 +350,7 @@ module _ (config : Config) (apart : IsDistinct same_atom (names_of config)) (nam
       same_place config apart x y hx hy (ap (same_atom (name_at config x)) (sym one.0) ∙ atoms.refl (name_at config x))
 
   -- a node whose loss was not seen is a peer that counts
-  pub counts_as_peer : (x y : ℕ) → IsHere config x → IsHere config y → x ≢ y → (v.world.node x).lost (name_at config y) ≡ false → is_peer (left (nodes_at config x) (v.world.node x)) (name_at config y) ≡ true
+  pub counts_as_peer : (x y : ℕ) → IsHere config x → IsHere config y → x ≢ y → (v.world.node x).lost (name_at config y) ≡ false → is_peer (live_nodes (nodes_at config x) (v.world.node x)) (name_at config y) ≡ true
   counts_as_peer x y hx hy other known =
       any_filter (λ z. not ((v.world.node x).lost z)) (name_at config y) (nodes_at config x).peers
       ∙ (ap (λ c. c && not ((v.world.node x).lost (name_at config y))) (left_out (names_of config) x (name_at config y) (place_below config x hx) apart)

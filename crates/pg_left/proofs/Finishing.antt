@@ -28,7 +28,7 @@ use Rattle.pg_step.specs.FrameMachine.{losing_frame_machine, losing_machine_of, 
 use Rattle.pg_step.specs.LossLaws.{LosingFrameWorld}
 use Rattle.pg_step.specs.Nodes.{Nodes}
 use Rattle.pg_step.specs.Peers.{process_end}
-use Rattle.pg_step.specs.State.{State, left}
+use Rattle.pg_step.specs.State.{State, live_nodes}
 use Rattle.pg_step.specs.Step.{Action, CLOCK_LIMIT, Issue, Retry, acted, taken}
 use Rattle.pg_step.specs.Turns.{NodeTurn, Report, and_then}
 use Rattle.pg_step.specs.declared.answer.Reply.{Reply as Answer}
@@ -173,11 +173,11 @@ data StepEnds (config : Config) (s : State) (input : Input Message Action) (t : 
       → ((pid : Pid) → t.state.ended pid ≡ true → (s.ended pid ≡ true) ⊎ ((port : ℕ) × (action ≡ Issue port (command.Finish pid)))) → StepEnds config s input t
 
 module _ (config : Config) (i : ℕ) (s : State) where
-  no_end : (p : ℕ) (x : Message) (t : NodeTurn) → ((pid : Pid) → x ≡ Down pid → EndsNone s (process_end pid s)) → MakesTurn (taken (left (nodes_at config i) s) (name_at config p) x s) t → StepEnds config s (Taken p x) t
-  no_end p x t none is = NoEnd (taken_so (left (nodes_at config i) s) Any AnyUpdate EndsNone EndsNone (none_singly (left (nodes_at config i) s)) (name_at config p) x s t
+  no_end : (p : ℕ) (x : Message) (t : NodeTurn) → ((pid : Pid) → x ≡ Down pid → EndsNone s (process_end pid s)) → MakesTurn (taken (live_nodes (nodes_at config i) s) (name_at config p) x s) t → StepEnds config s (Taken p x) t
+  no_end p x t none is = NoEnd (taken_so (live_nodes (nodes_at config i) s) Any AnyUpdate EndsNone EndsNone (none_singly (live_nodes (nodes_at config i) s)) (name_at config p) x s t
       (λ node groups _ _. record { same = refl }) none is)
 
-  packet_ends : (p : ℕ) (x : Message) (t : NodeTurn) → MakesTurn (taken (left (nodes_at config i) s) (name_at config p) x s) t → StepEnds config s (Taken p x) t
+  packet_ends : (p : ℕ) (x : Message) (t : NodeTurn) → MakesTurn (taken (live_nodes (nodes_at config i) s) (name_at config p) x s) t → StepEnds config s (Taken p x) t
   packet_ends p (Call reference request) t is = no_end p (Call reference request) t (λ pid e. absurd (cc)) is
   packet_ends p (Reply reference said) t is = no_end p (Reply reference said) t (λ pid e. absurd (cc)) is
   packet_ends p (DelLock name reference) t is = no_end p (DelLock name reference) t (λ pid e. absurd (cc)) is
@@ -191,7 +191,7 @@ module _ (config : Config) (i : ℕ) (s : State) where
       (t.0, t.2, packet_ends p x t.0 t.1)
   step_ends (Own action) turn is =
       let t = did_so config i s action turn is in
-      (t.0, t.2, OwnEnd action refl (acted_ends (nodes_at config i) (left (nodes_at config i) s) (ports_at config i) action s t.0 t.1))
+      (t.0, t.2, OwnEnd action refl (acted_ends (nodes_at config i) (live_nodes (nodes_at config i) s) (ports_at config i) action s t.0 t.1))
 
 -- ---- events
 

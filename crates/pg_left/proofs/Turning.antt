@@ -35,7 +35,7 @@ use Rattle.pg_step.specs.FrameMachine.{node_step, place_turn}
 use Rattle.pg_step.specs.Losses.{see_loss}
 use Rattle.pg_step.specs.Nodes.{Node, Nodes, every, greatest, is_peer}
 use Rattle.pg_step.specs.Peers.{is_bad_exchange, exchange}
-use Rattle.pg_step.specs.State.{State, Use, Stage, left}
+use Rattle.pg_step.specs.State.{State, Use, Stage, live_nodes}
 use Rattle.pg_step.specs.State.Status.{Unasked}
 use Rattle.pg_step.specs.State.Use.{Fresh, Locking, Owning, Updating, Spent}
 use Rattle.pg_step.specs.State.Stage.{Closed, Waiting, Asking, Changing}
@@ -120,14 +120,14 @@ placed : (config : Config) (y : ℕ) (t : NodeTurn) → IsHere config y → carr
 placed config y t there is = ap (λ b. carried (cond b (t.sends (name_at config y)) [])) there ∙ is
 
 step_sends : (config : Config) (i : ℕ) (s : State) (input : Input Message Action) (turn : Turn State Message Report) → node_step config i s input ≡ Some turn
-    → (y : ℕ) → IsHere config y → is_peer (left (nodes_at config i) s) (name_at config y) ≡ true → carried (turn.sends y) ≡ begun turn.reported.began
+    → (y : ℕ) → IsHere config y → is_peer (live_nodes (nodes_at config i) s) (name_at config y) ≡ true → carried (turn.sends y) ≡ begun turn.reported.began
 step_sends config i s (Taken p x) turn is y there peer =
-    let m = left (nodes_at config i) s in
+    let m = live_nodes (nodes_at config i) s in
     let t = took_so config i s p x turn is in
     subst (λ (u : Turn State Message Report). carried (u.sends y) ≡ begun u.reported.began) (sym t.2)
     (placed config y t.0 there (taken_so m Any AnyUpdate (Silent m) (SendsBegun m) (sends_singly m) (name_at config p) x s t.0 (λ node groups _ _ q _. refl) (λ pid _ q _. refl) t.1 (name_at config y) peer))
 step_sends config i s (Own action) turn is y there peer =
-    let m = left (nodes_at config i) s in
+    let m = live_nodes (nodes_at config i) s in
     let t = did_so config i s action turn is in
     subst (λ (u : Turn State Message Report). carried (u.sends y) ≡ begun u.reported.began) (sym t.2)
     (placed config y t.0 there (acted_so m Any AnyUpdate (Silent m) (SendsBegun m) (sends_singly m) (nodes_at config i) (λ pid u _ _ _ q _. sent_none _ _ refl) (ports_at config i) action s t.0
@@ -135,7 +135,7 @@ step_sends config i s (Own action) turn is y there peer =
 
 -- what is sent to a node that counts
 pub made_sends : (config : Config) (i : ℕ) (s : State) (input : Input (Noticed Message) Action) (turn : Turn State (Noticed Message) Report) → LossyMakes config i s input turn
-    → (y : ℕ) → IsHere config y → is_peer (left (nodes_at config i) s) (name_at config y) ≡ true
+    → (y : ℕ) → IsHere config y → is_peer (live_nodes (nodes_at config i) s) (name_at config y) ≡ true
     → (xs : List Message) × (turn.sends y ≡ map Sent xs) × (carried xs ≡ begun turn.reported.began)
 made_sends config i s input turn (Steps given t is made same) y there peer = (
   t.sends y,
@@ -290,8 +290,8 @@ takes_packet m p name (Down pid) s t is = Begins (subst Itself (ok_is is) refl) 
 pub step_applies : (config : Config) (i : ℕ) (s : State) (input : Input Message Action) (turn : Turn State Message Report) → node_step config i s input ≡ Some turn → StepApplies input turn.reported
 step_applies config i s (Taken p x) turn is =
     let t = took_so config i s p x turn is in
-    subst (λ (u : Turn State Message Report). StepApplies (Taken p x) u.reported) (sym t.2) (takes_packet (left (nodes_at config i) s) p (name_at config p) x s t.0 t.1)
+    subst (λ (u : Turn State Message Report). StepApplies (Taken p x) u.reported) (sym t.2) (takes_packet (live_nodes (nodes_at config i) s) p (name_at config p) x s t.0 t.1)
 step_applies config i s (Own action) turn is =
     let t = did_so config i s action turn is in
     subst (λ (u : Turn State Message Report). StepApplies (Own action) u.reported) (sym t.2)
-    (Begins (acted_itself (left (nodes_at config i) s) (nodes_at config i) (ports_at config i) action s t.0 t.1) (λ q r u e. absurd (cc)))
+    (Begins (acted_itself (live_nodes (nodes_at config i) s) (nodes_at config i) (ports_at config i) action s t.0 t.1) (λ q r u e. absurd (cc)))

@@ -23,7 +23,7 @@ use Rattle.pg_step.specs.Losses.{forgets, see_loss}
 use Rattle.pg_step.specs.LossLaws.{LosingFrameWorld}
 use Rattle.pg_step.specs.Nodes.{Node, Nodes, to_peers}
 use Rattle.pg_step.specs.Peers.{ended_in, exchange, process_end}
-use Rattle.pg_step.specs.State.{State, Status, Use, formed, left}
+use Rattle.pg_step.specs.State.{State, Status, Use, formed, live_nodes}
 use Rattle.pg_step.specs.State.Status.{Unasked, Asked, Yes, No}
 use Rattle.pg_step.specs.State.Use.{Fresh, Locking, Owning, Updating, Spent}
 use Rattle.pg_step.specs.Step.{Action, CLOCK_LIMIT}
@@ -112,7 +112,7 @@ of_own_end m pid s = record { keeps = λ fits. record { own = λ c op u lead st 
 
 -- ---- what a node counts
 
--- who has merged those that are lost has merged all where it has merged those that are left
+-- who has merged those that are lost has merged all where it has merged the live
 pub all_left : (merged lost : Node → Bool) (names : List Node) → ((q : Node) → lost q ≡ true → merged q ≡ true) → list_all merged (filter (λ q. not (lost q)) names) ≡ list_all merged names
 all_left merged lost [] h = refl
 all_left merged lost (q ∷ names) h = go (lost q) refl (all_left merged lost names h)
@@ -134,7 +134,7 @@ module _ (config : Config) (i : ℕ) (s : State) (old : Waits (nodes_at config i
   all = nodes_at config i
 
   abbrev m : Nodes
-  m = left (nodes_at config i) s
+  m = live_nodes (nodes_at config i) s
 
   full_is : formed m s ≡ formed all s
   full_is = all_left s.merged s.lost all.peers old.lost

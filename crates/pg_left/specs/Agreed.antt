@@ -1,4 +1,4 @@
--- On which groups the nodes that are left agree, whoever was formed when.
+-- On which groups the live nodes agree, whoever was formed when.
 use Rattle.std.specs.Prelude.{◌≡◌, ℕ, true, false, length, List, None}
 use Rattle.pg_term.specs.declared.term.Term.{Term}
 use Rattle.pg_machine.specs.Losing.{LosingEvent}
@@ -7,14 +7,14 @@ use Rattle.pg_step.specs.Config.{Config, nodes_at}
 use Rattle.pg_step.specs.LossLaws.{LosingFrameWorld}
 use Rattle.pg_step.specs.State.{formed}
 use Rattle.pg_step.specs.Step.{Action}
-use Rattle.pg_history.specs.WithLosses.{NonePendingLeft}
+use Rattle.pg_history.specs.WithLosses.{NonePendingLive}
 use Rattle.pg_loss.specs.Agreeing.{SawAll}
 use Rattle.pg_left.specs.Heard.{HeardTheLost, NoneOfLost}
 
--- Two formed nodes that are left, have seen each loss and took the exchange of each lost node, have the same of a group of which no lost node
--- has an entry, where one node x that is left sees its lock free and no end is pending among those left.
+-- Two formed live nodes that have seen each loss and took the exchange of each lost node have the same of a group of which no lost node
+-- has an entry, where a live node x sees its lock free and no end is pending among the live.
 abbrev pub AgreeOnUnchanged : Config → List (LosingEvent Action) → LosingFrameWorld → (i j x : ℕ) → Term → Type 0
-AgreeOnUnchanged config events w i j x name = NonePendingLeft config w
+AgreeOnUnchanged config events w i j x name = NonePendingLive config w
     → is_place (length config) i ≡ true → is_place (length config) j ≡ true → is_place (length config) x ≡ true
     → w.gone i ≡ false → w.gone j ≡ false → w.gone x ≡ false
     → formed (nodes_at config i) (w.world.node i).state ≡ true → formed (nodes_at config j) (w.world.node j).state ≡ true

@@ -1,4 +1,4 @@
--- Words for what the nodes that are left have heard of those that are lost.
+-- Words for what the live nodes have heard of those that are lost.
 use Rattle.std.specs.Prelude.{◌≡◌, ◌↔◌, ◌||◌, ℕ, Bool, true, false, length, List, ◌∷◌, ◌++◌}
 use Rattle.pg_term.specs.declared.term.Term.{Term}
 use Rattle.pg_term.specs.Same.{same_atom}

@@ -17,9 +17,9 @@ ghost use Rattle.pg_left.specs.Missed.{TakenAlong};
 
 use pg_loss::each_world_keeps_past_losses;
 
-/// Two formed nodes that are left agree on a group, whoever was formed when others were lost: where each has seen the loss of
-/// every node that is lost and took its exchange before, no end is pending among those left, no lost node began an update of
-/// the group, and one node that is left sees its lock free.
+/// Two formed live nodes agree on a group, whoever was formed when others were lost: where each has seen the loss of
+/// every node that is lost and took its exchange before, no end is pending among the live, no lost node began an update of
+/// the group, and one live node sees its lock free.
 pub fn nodes_that_heard_the_lost_agree()
     ensures { (config : Config) (w : LosingFrameWorld) (events : List (LosingEvent Action)) (i j x : ℕ) (name : Term)
         → IsDistinct same_atom (names_of config) → LosingReaches config events w

@@ -1,4 +1,4 @@
-//! What the nodes agree on that are left, where others were lost.
+//! What the live nodes agree on, where others were lost.
 //!
 //! There is no code: begin with `src/laws.rt`.
 #![tactic(auto)]

@@ -1,4 +1,4 @@
--- Nodes that are left, and have applied the same updates of a group, agree on it.
+-- live nodes, and have applied the same updates of a group, agree on it.
 use Rattle.std.proofs.Common.{◌≡◌, ◌⊎◌, inl, inr, ℕ, Bool, true, false, List, refl, ap, sym, ◌∙◌}
 use Rattle.std.specs.List.{IsDistinct}
 use Rattle.std.proofs.Math.Path.{fun_ext}
@@ -12,7 +12,7 @@ use Rattle.pg_step.specs.LossLaws.{LosingFrameWorld}
 use Rattle.pg_step.specs.State.{formed}
 use Rattle.pg_step.specs.Step.{Action}
 use Rattle.pg_history.specs.History.{applied_by, base, replay}
-use Rattle.pg_history.specs.WithLosses.{FormedAtLosses, NonePendingLeft}
+use Rattle.pg_history.specs.WithLosses.{FormedAtLosses, NonePendingLive}
 use Rattle.pg_history.proofs.places.Shown.{IsHere}
 use Rattle.pg_history.proofs.references.Keys.{atoms}
 use Rattle.pg_loss.specs.Agreeing.{EndedHome, SawAll}
@@ -22,7 +22,7 @@ use Rattle.pg_loss.proofs.Homes.{ended_at_home}
 use Rattle.pg_loss.proofs.Lossy.{bare}
 use Rattle.pg_loss.proofs.Tabled.{lost_ended, table_of}
 
-module _ (config : Config) (apart : IsDistinct same_atom (names_of config)) (es : List (LosingEvent Action)) (w : LosingFrameWorld) (l : LosingReaches config es w) (none : NonePendingLeft config w) where
+module _ (config : Config) (apart : IsDistinct same_atom (names_of config)) (es : List (LosingEvent Action)) (w : LosingFrameWorld) (l : LosingReaches config es w) (none : NonePendingLive config w) where
   bridge : Bridged config apart (bare w)
   bridge = bridged config apart es w l
 
@@ -48,10 +48,10 @@ module _ (config : Config) (apart : IsDistinct same_atom (names_of config)) (es 
       go pid false true ei ej = also_ended j i pid there here ai si ej ∙ sym ej
       go pid false false ei ej = ei ∙ sym ej
 
-  pub left_agree : FormedAtLosses config es → (i j : ℕ) (name : Term) → IsHere config i → IsHere config j → w.gone i ≡ false → w.gone j ≡ false
+  pub live_agree : FormedAtLosses config es → (i j : ℕ) (name : Term) → IsHere config i → IsHere config j → w.gone i ≡ false → w.gone j ≡ false
       → formed (nodes_at config i) (w.world.node i).state ≡ true → formed (nodes_at config j) (w.world.node j).state ≡ true → SawAll config w i → SawAll config w j
       → applied_by i name w.world.reported ≡ applied_by j name w.world.reported → (w.world.node i).state.table name ≡ (w.world.node j).state.table name
-  left_agree at_losses i j name here there ai aj fi fj si sj same =
+  live_agree at_losses i j name here there ai aj fi fj si sj same =
       table_of config apart es w l at_losses i name here fi
       ∙ (λ k. less (replay (base config name) (same k)) (same_ended i j here there ai aj si sj k))
       ∙ sym (table_of config apart es w l at_losses j name there fj)

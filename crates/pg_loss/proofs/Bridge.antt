@@ -19,7 +19,7 @@ use Rattle.pg_step.specs.Config.{Config, names_of, name_at, nodes_at, ports_at}
 use Rattle.pg_step.specs.FrameMachine.{FrameWorld, losing_machine_of, node_step, place_turn}
 use Rattle.pg_step.specs.Losses.{see_loss}
 use Rattle.pg_step.specs.Nodes.{Node, Nodes}
-use Rattle.pg_step.specs.State.{State, left}
+use Rattle.pg_step.specs.State.{State, live_nodes}
 use Rattle.pg_step.specs.Step.{Action, acted, taken}
 use Rattle.pg_step.specs.Turns.{NodeTurn, Report}
 use Rattle.pg_history.proofs.ends.Apart.{pair_first, pair_second, place_below}
@@ -70,8 +70,8 @@ more_left way all more e = ap (λ z. z ++ map Sent more) e ∙ sym (map-append S
 pub cut_left : (k : ℕ) (way : List (Noticed Message)) (all : List Message) → Left false way all → Left true (take k way ++ Last ∷ []) all
 cut_left k way all e = (take k all, drop k all, ap (λ z. z ++ Last ∷ []) (ap (take k) e ∙ take-map Sent k all), sym (take-append-drop k all))
 
-pub left_same : (m : Nodes) (s t : State) → t.lost ≡ s.lost → left m s ≡ left m t
-left_same m s t same = ap (λ (lost : Node → Bool). record { own = m.own; peers = filter (λ q. not (lost q)) m.peers }) (sym same)
+pub live_same : (m : Nodes) (s t : State) → t.lost ≡ s.lost → live_nodes m s ≡ live_nodes m t
+live_same m s t same = ap (λ (lost : Node → Bool). record { own = m.own; peers = filter (λ q. not (lost q)) m.peers }) (sym same)
 
 pub any_filter : (f : Node → Bool) (q : Node) (xs : List Node) → list_any (same_atom q) (filter f xs) ≡ (list_any (same_atom q) xs && f q)
 any_filter f q [] = refl
@@ -97,7 +97,7 @@ not_true true never = absurd (never refl)
 module _ (config : Config) (apart : IsDistinct same_atom (names_of config)) where
   -- how each node knows the others
   abbrev pub seat_of : Lossy → ℕ → Nodes
-  seat_of v i = left (nodes_at config i) (v.world.node i)
+  seat_of v i = live_nodes (nodes_at config i) (v.world.node i)
 
   -- the nodes, with these packets on the ways
   abbrev pub whole_of : Lossy → (ℕ → ℕ → List Message) → FrameWorld
@@ -203,7 +203,7 @@ module _ (config : Config) (apart : IsDistinct same_atom (names_of config)) wher
     reseated ways w seen shows = record {
       nodes = shows.nodes;
       seen = shows.seen;
-      seat = λ j here. shows.seat j here ∙ left_same (nodes_at config j) (v.world.node j) ((turned v i t).world.node j) (lost_same j);
+      seat = λ j here. shows.seat j here ∙ live_same (nodes_at config j) (v.world.node j) ((turned v i t).world.node j) (lost_same j);
       node = shows.node;
       wire = shows.wire;
       log = shows.log;
@@ -222,7 +222,7 @@ module _ (config : Config) (apart : IsDistinct same_atom (names_of config)) wher
     pub stepped : (t : Turn State Message Report) × (node_step config i (v.world.node i) (Own action) ≡ Some t) × (mapped_turn Sent t ≡ turn)
     stepped = map_is_some (mapped_turn Sent) (node_step config i (v.world.node i) (Own action)) turn made
 
-    pub did : (t : NodeTurn) × (acted (nodes_at config i) (left (nodes_at config i) (v.world.node i)) (ports_at config i) action (v.world.node i) ≡ Ok t) × (stepped.0 ≡ place_turn config t)
+    pub did : (t : NodeTurn) × (acted (nodes_at config i) (live_nodes (nodes_at config i) (v.world.node i)) (ports_at config i) action (v.world.node i) ≡ Ok t) × (stepped.0 ≡ place_turn config t)
     did = did_so config i (v.world.node i) action stepped.0 stepped.1
 
     pub did_turn : turn ≡ mapped_turn Sent (place_turn config did.0)
@@ -262,7 +262,7 @@ module _ (config : Config) (apart : IsDistinct same_atom (names_of config)) wher
     pub heard_step : (t : Turn State Message Report) × (node_step config i (v.world.node i) (Taken p x) ≡ Some t) × (mapped_turn Sent t ≡ turn)
     heard_step = map_is_some (mapped_turn Sent) (node_step config i (v.world.node i) (Taken p x)) turn made
 
-    pub heard_so : (t : NodeTurn) × (taken (left (nodes_at config i) (v.world.node i)) (name_at config p) x (v.world.node i) ≡ Ok t) × (heard_step.0 ≡ place_turn config t)
+    pub heard_so : (t : NodeTurn) × (taken (live_nodes (nodes_at config i) (v.world.node i)) (name_at config p) x (v.world.node i) ≡ Ok t) × (heard_step.0 ≡ place_turn config t)
     heard_so = took_so config i (v.world.node i) p x heard_step.0 heard_step.1
 
     pub heard_turn : turn ≡ mapped_turn Sent (place_turn config heard_so.0)
@@ -342,11 +342,11 @@ module _ (config : Config) (apart : IsDistinct same_atom (names_of config)) wher
 
     -- as the node knows the others from now on
     abbrev seat : Nodes
-    seat = left (nodes_at config i) (see_loss (name_at config p) (v.world.node i)).state
+    seat = live_nodes (nodes_at config i) (see_loss (name_at config p) (v.world.node i)).state
 
     abbrev knowing : World
     knowing = record has.world {
-      seat = upd same_atom has.world.seat (name_at config i) (left (nodes_at config i) (see_loss (name_at config p) (v.world.node i)).state);
+      seat = upd same_atom has.world.seat (name_at config i) (live_nodes (nodes_at config i) (see_loss (name_at config p) (v.world.node i)).state);
       seen = upd {A = Node → Bool} same_atom has.world.seen (name_at config i) (upd same_atom (has.world.seen (name_at config i)) (name_at config p) true);
     }
 
@@ -372,8 +372,8 @@ module _ (config : Config) (apart : IsDistinct same_atom (names_of config)) wher
     }
       where
         sits : (j : ℕ) → IsHere config j → (j ≡ i) ⊎ (j ≡ i → ⊥) → knowing.seat (name_at config j) ≡ seat_of u j
-        sits j at (inl e) = put_here has.world.seat seat i j e ∙ (ap (λ (z : State). left (nodes_at config i) z) (sym (state_here j e)) ∙ ap (λ k. left (nodes_at config k) (u.world.node j)) (sym e))
-        sits j at (inr n) = put_there has.world.seat seat i j at_i at n ∙ (has.shows.seat j at ∙ ap (left (nodes_at config j)) (sym (state_there j n)))
+        sits j at (inl e) = put_here has.world.seat seat i j e ∙ (ap (λ (z : State). live_nodes (nodes_at config i) z) (sym (state_here j e)) ∙ ap (λ k. live_nodes (nodes_at config k) (u.world.node j)) (sym e))
+        sits j at (inr n) = put_there has.world.seat seat i j at_i at n ∙ (has.shows.seat j at ∙ ap (live_nodes (nodes_at config j)) (sym (state_there j n)))
 
     row_seen : (q : Node) → upd same_atom (has.world.seen (name_at config i)) (name_at config p) true q ≡ (see_loss (name_at config p) (v.world.node i)).state.lost q
     row_seen q = ap (λ (f : Node → Bool). upd same_atom f (name_at config p) true q) own_seen

@@ -24,7 +24,7 @@ use Rattle.pg_history.proofs.ends.Apart.{pair_first}
 use Rattle.pg_history.proofs.locks.First.{first_holds}
 use Rattle.pg_history.proofs.places.Bridged.{first_is, first_world, shows_first}
 use Rattle.pg_history.proofs.places.Shown.{IsHere, Shows}
-use Rattle.pg_history.proofs.steps.Lossless.{left_all}
+use Rattle.pg_history.proofs.steps.Lossless.{live_all}
 use Rattle.pg_history.proofs.steps.Ways.{all_both}
 use Rattle.pg_loss.specs.Reached.{LosingReaches}
 use Rattle.pg_loss.proofs.Bridge.{Has, Left, cut_left, did_even, did_has, did_turn, did}
@@ -168,7 +168,7 @@ module _ (config : Config) (apart : IsDistinct same_atom (names_of config)) wher
       shows = record {
         nodes = first.nodes;
         seen = refl;
-        seat = λ i here. first.seat i here ∙ sym (left_all (nodes_at config i) ((machine_of config).first i) refl);
+        seat = λ i here. first.seat i here ∙ sym (live_all (nodes_at config i) ((machine_of config).first i) refl);
         node = first.node;
         wire = first.wire;
         log = first.log;

@@ -34,7 +34,7 @@ use Rattle.pg_history.proofs.steps.Lasting.{event_lasts}
 use Rattle.pg_history.proofs.steps.Lossless.{step_sees_none}
 use Rattle.pg_history.proofs.steps.Made.{StepMakes, Talking, Merging, Ending, TellsNothing, step_makes}
 use Rattle.pg_history.proofs.steps.Ways.{WayAfter, Grown, Shorter, Unchanged, state_after, way_after}
-use Rattle.pg_loss.specs.Quiet.{IsQuietLeft}
+use Rattle.pg_loss.specs.Quiet.{IsQuietLive}
 use Rattle.pg_loss.specs.Reached.{LosingReaches}
 use Rattle.pg_loss.proofs.Bridge.{Has, Left}
 use Rattle.pg_loss.proofs.Bridges.{bridged}
@@ -150,9 +150,9 @@ merged_kept config = record {
       (λ own. loss_merges (name_at config p) (u.node i) (all i) q) (λ other. all j q);
 }
 
-pub is_formed_left : (config : Config) → IsDistinct same_atom (names_of config) → (es : List (LosingEvent Action)) (w : LosingFrameWorld) → LosingReaches config es w → IsQuietLeft config w
+pub is_formed_live : (config : Config) → IsDistinct same_atom (names_of config) → (es : List (LosingEvent Action)) (w : LosingFrameWorld) → LosingReaches config es w → IsQuietLive config w
     → (i : ℕ) → IsHere config i → w.gone i ≡ false → formed (nodes_at config i) (w.world.node i).state ≡ true
-is_formed_left config apart es w l quiet i here lives = each_peer config i here (w.world.node i).state.merged each
+is_formed_live config apart es w l quiet i here lives = each_peer config i here (w.world.node i).state.merged each
   where
     has : Has config apart (bare w)
     has = (bridged config apart es w l).has

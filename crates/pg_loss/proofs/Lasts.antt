@@ -24,7 +24,7 @@ use Rattle.pg_step.specs.FrameMachine.{last_notice, node_step, place_turn, place
 use Rattle.pg_step.specs.Losses.{see_loss}
 use Rattle.pg_step.specs.LossLaws.{LosingFrameWorld}
 use Rattle.pg_step.specs.Nodes.{Node}
-use Rattle.pg_step.specs.State.{State, Response, formed, left}
+use Rattle.pg_step.specs.State.{State, Response, formed, live_nodes}
 use Rattle.pg_step.specs.Step.{Action, taken}
 use Rattle.pg_step.specs.Turns.{Report}
 use Rattle.pg_step.specs.declared.refusal.Refusal.TheVariants.{NodeLost}
@@ -122,7 +122,7 @@ module _ (config : Config) (w v : LosingFrameWorld) (es : List (LosingEvent Acti
 -- ---- who saw a loss hears the lost no more
 
 pub unheard_so : (config : Config) (i p : ℕ) (s : State) (x : Message) (turn : Turn State Message Report) → s.lost (name_at config p) ≡ true → node_step config i s (Taken p x) ≡ Some turn → ⊥
-unheard_so config i p s x turn seen is = absurd (cc (sym is ∙ ap (λ b. placed config (cond b (Err NodeLost) (taken (left (nodes_at config i) s) (name_at config p) x s))) seen))
+unheard_so config i p s x turn seen is = absurd (cc (sym is ∙ ap (λ b. placed config (cond b (Err NodeLost) (taken (live_nodes (nodes_at config i) s) (name_at config p) x s))) seen))
 
 pub unheard_input : (config : Config) (i p : ℕ) (s : State) (x : Noticed Message) (turn : Turn State (Noticed Message) Report) → s.lost (name_at config p) ≡ true → (losing_machine_of config).step i s (Taken p x) ≡ Some turn → ⊥
 unheard_input config i p s (Sent x) turn seen is =

@@ -30,7 +30,7 @@ use Rattle.pg_step.specs.FrameMachine.{losing_frame_machine, losing_machine_of, 
 use Rattle.pg_step.specs.LossLaws.{LosingFrameWorld}
 use Rattle.pg_step.specs.Nodes.{Nodes}
 use Rattle.pg_step.specs.Peers.{exchange, process_end}
-use Rattle.pg_step.specs.State.{State, formed, left}
+use Rattle.pg_step.specs.State.{State, formed, live_nodes}
 use Rattle.pg_step.specs.Step.{Action, CLOCK_LIMIT, Issue, Retry, acted, taken}
 use Rattle.pg_step.specs.Turns.{NodeTurn, Report, and_then}
 use Rattle.pg_step.specs.declared.answer.Reply.{Reply as Answer}
@@ -214,11 +214,11 @@ data StepEnds (config : Config) (s : State) (input : Input Message Action) (t : 
   TakenEnd : (p : ℕ) (pid : Pid) → input ≡ Taken p (Down pid) → t ≡ process_end pid s → StepEnds config s input t
 
 module _ (config : Config) (i : ℕ) (s : State) where
-  own_packet : (p : ℕ) (x : Message) (t : NodeTurn) → ((pid : Pid) → x ≡ Down pid → EndsMade s (process_end pid s)) → MakesTurn (taken (left (nodes_at config i) s) (name_at config p) x s) t → StepEnds config s (Taken p x) t
-  own_packet p x t none is = OwnEnds (taken_so (left (nodes_at config i) s) Any AnyUpdate EndsMade EndsMade (ends_singly (left (nodes_at config i) s)) (name_at config p) x s t
+  own_packet : (p : ℕ) (x : Message) (t : NodeTurn) → ((pid : Pid) → x ≡ Down pid → EndsMade s (process_end pid s)) → MakesTurn (taken (live_nodes (nodes_at config i) s) (name_at config p) x s) t → StepEnds config s (Taken p x) t
+  own_packet p x t none is = OwnEnds (taken_so (live_nodes (nodes_at config i) s) Any AnyUpdate EndsMade EndsMade (ends_singly (live_nodes (nodes_at config i) s)) (name_at config p) x s t
       (λ node groups _ _. none_ends s (exchange (name_at config p) groups s) refl refl) none is)
 
-  packet_ends : (p : ℕ) (x : Message) (t : NodeTurn) → MakesTurn (taken (left (nodes_at config i) s) (name_at config p) x s) t → StepEnds config s (Taken p x) t
+  packet_ends : (p : ℕ) (x : Message) (t : NodeTurn) → MakesTurn (taken (live_nodes (nodes_at config i) s) (name_at config p) x s) t → StepEnds config s (Taken p x) t
   packet_ends p (Call reference request) t is = own_packet p (Call reference request) t (λ pid e. absurd (cc)) is
   packet_ends p (Reply reference said) t is = own_packet p (Reply reference said) t (λ pid e. absurd (cc)) is
   packet_ends p (DelLock name reference) t is = own_packet p (DelLock name reference) t (λ pid e. absurd (cc)) is
@@ -232,7 +232,7 @@ module _ (config : Config) (i : ℕ) (s : State) where
       (t.0, t.2, packet_ends p x t.0 t.1)
   step_ends (Own action) turn is =
       let t = did_so config i s action turn is in
-      (t.0, t.2, OwnEnds (acted_ends (nodes_at config i) (left (nodes_at config i) s) (ports_at config i) action s t.0 t.1))
+      (t.0, t.2, OwnEnds (acted_ends (nodes_at config i) (live_nodes (nodes_at config i) s) (ports_at config i) action s t.0 t.1))
 
 -- ---- events
 

@@ -21,7 +21,7 @@ use Rattle.pg_step.specs.FrameMachine.{FrameWorld, machine_of}
 use Rattle.pg_step.specs.Losses.{forgets, see_loss}
 use Rattle.pg_step.specs.LossLaws.{LosingFrameWorld}
 use Rattle.pg_step.specs.Nodes.{Node, Nodes, every}
-use Rattle.pg_step.specs.State.{State, Use, Stage, left}
+use Rattle.pg_step.specs.State.{State, Use, Stage, live_nodes}
 use Rattle.pg_step.specs.State.Use.{Fresh, Locking, Owning, Updating, Spent}
 use Rattle.pg_step.specs.State.Stage.{Closed, Waiting, Asking, Changing}
 use Rattle.pg_step.specs.Step.{Action}
@@ -35,7 +35,7 @@ use Rattle.pg_history.proofs.quiet.Linked.{IsUpdatingOf, Linked, first_linked, s
 use Rattle.pg_history.proofs.quiet.Rest.{each_other, has_replied, not_asked, pair_of, place_there}
 use Rattle.pg_history.proofs.references.References.{about}
 use Rattle.pg_history.proofs.steps.Ways.{state_after}
-use Rattle.pg_loss.specs.Quiet.{IsQuietLeft, WaitsForRetries}
+use Rattle.pg_loss.specs.Quiet.{IsQuietLive, WaitsForRetries}
 use Rattle.pg_loss.specs.Reached.{LosingReaches}
 use Rattle.pg_loss.proofs.Bridge.{Has, Left, live_at, near_at}
 use Rattle.pg_loss.proofs.Bridges.{bridged}
@@ -141,7 +141,7 @@ module _ (config : Config) (apart : IsDistinct same_atom (names_of config)) (v :
   own = name_at config i
 
   abbrev m : Nodes
-  m = left (nodes_at config i) s
+  m = live_nodes (nodes_at config i) s
 
   -- nobody has seen its loss
   unseen_at : (p : ℕ) → IsHere config p → (v.world.node p).lost own ≡ false
@@ -216,7 +216,7 @@ module _ (config : Config) (apart : IsDistinct same_atom (names_of config)) (v :
   waits_as op (Asking c) has_ = asking_complete op c (s.uses c) refl has_
   waits_as op (Changing n) has_ = changing_complete op n (s.uses n) refl has_
 
-pub waits_for_retries : (config : Config) → IsDistinct same_atom (names_of config) → (es : List (LosingEvent Action)) (w : LosingFrameWorld) → LosingReaches config es w → IsQuietLeft config w
+pub waits_for_retries : (config : Config) → IsDistinct same_atom (names_of config) → (es : List (LosingEvent Action)) (w : LosingFrameWorld) → LosingReaches config es w → IsQuietLive config w
     → (i : ℕ) → IsHere config i → w.gone i ≡ false → WaitsForRetries config w i
 unfolding AllLinked
 waits_for_retries config apart es w l quiet i here lives op =

@@ -19,7 +19,7 @@ use Rattle.pg_step.specs.FrameMachine.{last_notice, losing_frame_machine, losing
 use Rattle.pg_step.specs.Losses.{forgets, see_loss}
 use Rattle.pg_step.specs.LossLaws.{LosingFrameWorld}
 use Rattle.pg_step.specs.Nodes.{Node, Nodes, is_peer}
-use Rattle.pg_step.specs.State.{State, Use, left}
+use Rattle.pg_step.specs.State.{State, Use, live_nodes}
 use Rattle.pg_step.specs.State.Status.{Unasked}
 use Rattle.pg_step.specs.State.Use.{Fresh, Locking, Owning, Updating, Spent}
 use Rattle.pg_step.specs.Step.{Action}
@@ -37,9 +37,9 @@ use Rattle.pg_history.proofs.quiet.Weights.{peers_fewer, sent_weight, status_wei
 use Rattle.pg_history.proofs.references.Keys.{atoms, cases, upd_at, upd_other}
 use Rattle.pg_history.proofs.steps.Lossless.{step_sees_none}
 use Rattle.pg_history.proofs.steps.Made.{took_so}
-use Rattle.pg_loss.specs.Quiet.{left_on_the_way, left_open, most_takes_left}
+use Rattle.pg_loss.specs.Quiet.{live_on_the_way, live_open, most_takes_live}
 use Rattle.pg_loss.specs.Reached.{LosingReaches}
-use Rattle.pg_loss.proofs.Bridge.{any_filter, left_same}
+use Rattle.pg_loss.proofs.Bridge.{any_filter, live_same}
 use Rattle.pg_loss.proofs.Counting.{all_count}
 use Rattle.pg_loss.proofs.Lossy.{Lossy, bare, Passed, Went, Died, passed, Makes, Steps, Sees, makes}
 use Rattle.pg_loss.proofs.Unharmed.{noted_packet, same_input}
@@ -77,36 +77,36 @@ module _ (m : Nodes) (n : ℕ) (name : ℕ → Node) (peer : Node) (s : State) w
   later = (see_loss peer s).state
 
   -- what is said of each peer that counts, where this one counts no more
-  fewer_count : (f g : Node → ℕ) → ((q : Node) → peer ≢ q → g q ≡ f q) → (q : Node) → cond (is_peer (left m later) q) (g q) 0 ≤ cond (is_peer (left m s) q) (f q) 0
+  fewer_count : (f g : Node → ℕ) → ((q : Node) → peer ≢ q → g q ≡ f q) → (q : Node) → cond (is_peer (live_nodes m later) q) (g q) 0 ≤ cond (is_peer (live_nodes m s) q) (f q) 0
   fewer_count f g same q = go (cases same_atom atoms peer q)
     where
       none : (b : Bool) → (b && false) ≡ false
       none true = refl
       none false = refl
 
-      go : (peer ≡ q) ⊎ (peer ≢ q) → cond (is_peer (left m later) q) (g q) 0 ≤ cond (is_peer (left m s) q) (f q) 0
+      go : (peer ≡ q) ⊎ (peer ≢ q) → cond (is_peer (live_nodes m later) q) (g q) 0 ≤ cond (is_peer (live_nodes m s) q) (f q) 0
       go (inl e) =
           let gone : later.lost q ≡ true = upd_at same_atom atoms s.lost peer true q e in
-          let out : is_peer (left m later) q ≡ false = any_filter (λ z. not (later.lost z)) q m.peers ∙ ap (λ b. list_any (same_atom q) m.peers && not b) gone ∙ none (list_any (same_atom q) m.peers) in
-          let zero_is : cond (is_peer (left m later) q) (g q) 0 ≡ 0 = ap (λ b. cond b (g q) 0) out in
+          let out : is_peer (live_nodes m later) q ≡ false = any_filter (λ z. not (later.lost z)) q m.peers ∙ ap (λ b. list_any (same_atom q) m.peers && not b) gone ∙ none (list_any (same_atom q) m.peers) in
+          let zero_is : cond (is_peer (live_nodes m later) q) (g q) 0 ≡ 0 = ap (λ b. cond b (g q) 0) out in
           omega (arith, zero_is)
       go (inr other) =
           let known : later.lost q ≡ s.lost q = upd_other same_atom atoms s.lost peer true q other in
-          let counts : is_peer (left m later) q ≡ is_peer (left m s) q =
+          let counts : is_peer (live_nodes m later) q ≡ is_peer (live_nodes m s) q =
           any_filter (λ z. not (later.lost z)) q m.peers ∙ ap (λ b. list_any (same_atom q) m.peers && not b) known ∙ sym (any_filter (λ z. not (s.lost z)) q m.peers) in
-          let as_many : cond (is_peer (left m later) q) (g q) 0 ≡ cond (is_peer (left m s) q) (f q) 0 = λ i. cond (counts i) (same q other i) 0 in
+          let as_many : cond (is_peer (live_nodes m later) q) (g q) 0 ≡ cond (is_peer (live_nodes m s) q) (f q) 0 = λ i. cond (counts i) (same q other i) 0 in
           omega (arith, as_many)
 
-  forgets_light : (used : Use) → use_weight (left m later) n name (forgets peer used) ≤ use_weight (left m s) n name used
-  forgets_light (Locking op u lead st) = peers_fewer (left m s) (left m later) n name (λ q. status_weight (st q)) (λ q. status_weight (upd same_atom st peer Unasked q))
+  forgets_light : (used : Use) → use_weight (live_nodes m later) n name (forgets peer used) ≤ use_weight (live_nodes m s) n name used
+  forgets_light (Locking op u lead st) = peers_fewer (live_nodes m s) (live_nodes m later) n name (λ q. status_weight (st q)) (λ q. status_weight (upd same_atom st peer Unasked q))
       (fewer_count (λ q. status_weight (st q)) (λ q. status_weight (upd same_atom st peer Unasked q)) (λ q other. ap status_weight (upd_other same_atom atoms st peer Unasked q other)))
-  forgets_light (Updating op u c replied) = peers_fewer (left m s) (left m later) n name (λ q. 1) (λ q. 1) (fewer_count (λ q. 1) (λ q. 1) (λ q _. refl))
+  forgets_light (Updating op u c replied) = peers_fewer (live_nodes m s) (live_nodes m later) n name (λ q. 1) (λ q. 1) (fewer_count (λ q. 1) (λ q. 1) (λ q _. refl))
   forgets_light (Owning group k) = omega arith
   forgets_light Fresh = omega arith
   forgets_light Spent = omega arith
 
-  loss_light : node_weight (left m later) n name later ≤ node_weight (left m s) n name s
-  loss_light = total_le (s.references + 1) (λ c. use_weight (left m later) n name (forgets peer (s.uses c))) (λ c. use_weight (left m s) n name (s.uses c)) (λ c _. forgets_light (s.uses c))
+  loss_light : node_weight (live_nodes m later) n name later ≤ node_weight (live_nodes m s) n name s
+  loss_light = total_le (s.references + 1) (λ c. use_weight (live_nodes m later) n name (forgets peer (s.uses c))) (λ c. use_weight (live_nodes m s) n name (s.uses c)) (λ c _. forgets_light (s.uses c))
 
 forgets_rest : (peer : Node) (used : Use) → IsAtRest used → IsAtRest (forgets peer used)
 forgets_rest peer Fresh rests = tt
@@ -131,7 +131,7 @@ module _ (config : Config) (apart : IsDistinct same_atom (names_of config)) wher
   below k here = (Decides-ltb k n).0 here
 
   abbrev counting : ℕ → State → Nodes
-  counting i s = left (nodes_at config i) s
+  counting i s = live_nodes (nodes_at config i) s
 
   -- what node i made of what it took: it sends no more than its references lead to no longer, and the packet is gone
   record Turned (i : ℕ) (s : State) (packet : Noticed Message) (turn : Turn State (Noticed Message) Report) : Type 0 where
@@ -148,7 +148,7 @@ module _ (config : Config) (apart : IsDistinct same_atom (names_of config)) wher
     stepped x t is =
         let u = took_so config i s p x t is in
         let known : t.state.lost ≡ s.lost = step_sees_none config i s (Taken p x) t is in
-        let same : counting i s ≡ counting i t.state = left_same (nodes_at config i) s t.state known in
+        let same : counting i s ≡ counting i t.state = live_same (nodes_at config i) s t.state known in
         let light = packet_lessens (counting i s) n name (name p) x s u.0 (to_one_place config apart (counting i s) p there) made u.1 in
         let state : t.state ≡ u.0.state = ap (λ (z : Turn State Message Report). z.state) u.2 in
         let sent : total n (λ b. weigh_noticed (map Sent (t.sends b))) ≡ sent_weight (counting i s) n name u.0 =
@@ -260,14 +260,14 @@ module _ (config : Config) (apart : IsDistinct same_atom (names_of config)) wher
   all_taken (Do i action ∷ es) only w v l made = absurd only
 
   -- what is weighed of a world that was reached
-  few_left : (es : List (LosingEvent Action)) (w : LosingFrameWorld) → LosingReaches config es w → world_weight (bare w) ≤ most_takes_left config w
+  few_left : (es : List (LosingEvent Action)) (w : LosingFrameWorld) → LosingReaches config es w → world_weight (bare w) ≤ most_takes_live config w
   few_left es w l =
       let k = 5 * peer_count config in
       let nodes : total n (node_weights (bare w)) ≤ total n (λ i. k * (w.world.node i).state.opened) = total_le n (node_weights (bare w)) (λ i. k * (w.world.node i).state.opened)
       (λ i low. let here = place i low in node_light config apart i here (counting i (w.world.node i).state) (own_out i here (w.world.node i).state) (w.world.node i).state ((all_count config es w i l).counts)) in
-      let all : total n (λ i. k * (w.world.node i).state.opened) ≡ k * left_open config w = total_scale n k (λ i. (w.world.node i).state.opened) in
+      let all : total n (λ i. k * (w.world.node i).state.opened) ≡ k * live_open config w = total_scale n k (λ i. (w.world.node i).state.opened) in
       let ways : total n (way_weights (bare w)) ≤ total n (λ a. 2 * total n (λ b. length (w.world.wire a b))) = total_le n (way_weights (bare w)) (λ a. 2 * total n (λ b. length (w.world.wire a b))) (λ a _. row a) in
-      let packets : total n (λ a. 2 * total n (λ b. length (w.world.wire a b))) ≡ 2 * left_on_the_way config w = total_scale n 2 (λ a. total n (λ b. length (w.world.wire a b))) in
+      let packets : total n (λ a. 2 * total n (λ b. length (w.world.wire a b))) ≡ 2 * live_on_the_way config w = total_scale n 2 (λ a. total n (λ b. length (w.world.wire a b))) in
       omega (arith, nodes, all, ways, packets)
     where
       own_out : (i : ℕ) → IsHere config i → (s : State) → is_peer (counting i s) (name i) ≡ false
@@ -283,9 +283,9 @@ module _ (config : Config) (apart : IsDistinct same_atom (names_of config)) wher
           omega (arith, each, scale)
 
   pub takes_end : (es : List (LosingEvent Action)) (w : LosingFrameWorld) → LosingReaches config es w → (takes : List (Event Action)) (v : LosingFrameWorld) → OnlyTakes takes
-      → LosingLeads (losing_frame_machine config) last_notice w (all_steps takes) v → length takes ≤ most_takes_left config w
+      → LosingLeads (losing_frame_machine config) last_notice w (all_steps takes) v → length takes ≤ most_takes_live config w
   takes_end es w l takes v only more =
       let all : length takes + world_weight (bare v) ≤ world_weight (bare w) = all_taken takes only w v more
       (λ i c above. subst IsAtRest (sym ((all_count config es w i l).counts.fitting.fresh c above)) tt) in
-      let few : world_weight (bare w) ≤ most_takes_left config w = few_left es w l in
+      let few : world_weight (bare w) ≤ most_takes_live config w = few_left es w l in
       omega (arith, all, few)

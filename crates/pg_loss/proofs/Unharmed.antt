@@ -23,7 +23,7 @@ use Rattle.pg_step.specs.Losses.{see_loss}
 use Rattle.pg_step.specs.LossLaws.{LosingFrameWorld}
 use Rattle.pg_step.specs.Nodes.{Node, Nodes}
 use Rattle.pg_step.specs.Peers.{exchange, is_bad_exchange}
-use Rattle.pg_step.specs.State.{State, left}
+use Rattle.pg_step.specs.State.{State, live_nodes}
 use Rattle.pg_step.specs.Step.{CLOCK_LIMIT, Action, taken}
 use Rattle.pg_step.specs.Turns.{NodeTurn, Report}
 use Rattle.pg_step.specs.declared.refusal.Refusal.{Refusal}
@@ -250,7 +250,7 @@ module _ (config : Config) (apart : IsDistinct same_atom (names_of config)) wher
 
   module _ (v : Lossy) (has : Has config apart v) (posts : Posts config v) (i p : ℕ) (pair : is_pair (length config) i p ≡ true) (lives : v.gone i ≡ false) (known : (v.world.node i).lost (name_at config p) ≡ false) where
     abbrev m : Nodes
-    m = left (nodes_at config i) (v.world.node i)
+    m = live_nodes (nodes_at config i) (v.world.node i)
 
     abbrev here : is_place (length config) i ≡ true
     here = pair_first (length config) i p pair
@@ -258,7 +258,7 @@ module _ (config : Config) (apart : IsDistinct same_atom (names_of config)) wher
     abbrev there : is_place (length config) p ≡ true
     there = pair_second (length config) i p pair
 
-    is_taken : (x : Message) (rest : List (Noticed Message)) → v.world.wire p i ≡ Sent x ∷ rest → placed config (taken (left (nodes_at config i) (v.world.node i)) (name_at config p) x (v.world.node i)) ≡ None → ⊥
+    is_taken : (x : Message) (rest : List (Noticed Message)) → v.world.wire p i ≡ Sent x ∷ rest → placed config (taken (live_nodes (nodes_at config i) (v.world.node i)) (name_at config p) x (v.world.node i)) ≡ None → ⊥
     is_taken (Call r (SetLock name)) rest first e = absurd (cc)
     is_taken (Call r (Change update)) rest first e = absurd (cc)
     is_taken (DelLock name r) rest first e = absurd (cc)
@@ -267,7 +267,7 @@ module _ (config : Config) (apart : IsDistinct same_atom (names_of config)) wher
         let others = next_left (v.gone p) (Reply r said) rest (has.ways p i) (subst (λ z. Left (v.gone p) z (has.ways p i)) first (has.cut p i there here (λ same. pair_apart (length config) i p pair (sym same)) known)) in
         let made_ = replies_taken has.world (name_at config i) (name_at config p) r said others.0 (live_at config apart v has i here lives) (near_at config apart v has i p here there lives known) has.inv
         (has.shows.wire p i there here ∙ others.1) in
-        none_placed (taken (left (nodes_at config i) (v.world.node i)) (name_at config p) (Reply r said) (v.world.node i)) made_.0
+        none_placed (taken (live_nodes (nodes_at config i) (v.world.node i)) (name_at config p) (Reply r said) (v.world.node i)) made_.0
         (sym (λ k. taken (has.shows.seat i here k) (name_at config p) (Reply r said) (has.shows.node i here k)) ∙ made_.1) e
     is_taken (Exchange node groups) rest first e =
         go (is_bad_exchange (name_at config p) node (v.world.node i))
@@ -280,6 +280,6 @@ module _ (config : Config) (apart : IsDistinct same_atom (names_of config)) wher
     pub not_refused : (packet : Noticed Message) (rest : List (Noticed Message)) → v.world.wire p i ≡ packet ∷ rest → (losing_machine_of config).step i (v.world.node i) (Taken p packet) ≢ None
     not_refused (Sent x) rest first e =
         let none : node_step config i (v.world.node i) (Taken p x) ≡ None = no_turn (mapped_turn Sent) (node_step config i (v.world.node i) (Taken p x)) e in
-        is_taken x rest first (sym (ap (λ b. placed config (cond b (Err NodeLost) (taken (left (nodes_at config i) (v.world.node i)) (name_at config p) x (v.world.node i)))) known) ∙ none)
+        is_taken x rest first (sym (ap (λ b. placed config (cond b (Err NodeLost) (taken (live_nodes (nodes_at config i) (v.world.node i)) (name_at config p) x (v.world.node i)))) known) ∙ none)
     not_refused Last rest first e =
         absurd (cc (sym (ap (λ b. option_map (mapped_turn {Q = Noticed Message} Sent) (cond b None (Some (place_turn config (see_loss (name_at config p) (v.world.node i)))))) known) ∙ e))

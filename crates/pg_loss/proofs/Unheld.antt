@@ -24,7 +24,7 @@ use Rattle.pg_step.specs.FrameMachine.{losing_machine_of, losing_frame_machine, 
 use Rattle.pg_step.specs.Losses.{see_loss}
 use Rattle.pg_step.specs.LossLaws.{LosingFrameWorld}
 use Rattle.pg_step.specs.Nodes.{Node}
-use Rattle.pg_step.specs.State.{State, left}
+use Rattle.pg_step.specs.State.{State, live_nodes}
 use Rattle.pg_step.specs.Step.{CLOCK_LIMIT, Action}
 use Rattle.pg_step.specs.Turns.{NodeTurn, Report}
 use Rattle.pg_history.specs.WithLosses.{NoLockOfLost}
@@ -99,14 +99,14 @@ module _ (config : Config) (i : ℕ) (s : State) where
   step_leaves : (input : Input Message Action) (turn : Turn State Message Report) → s.lost (name_at config i) ≡ false → Asks input → node_step config i s input ≡ Some turn → Leaves turn
   step_leaves (Taken p x) turn here ours is =
       let t = took_so config i s p x turn is in
-      placed_leaves (name_at config p) t.0 turn (known (s.lost (name_at config p)) refl) (taken_guards (left (nodes_at config i) s) (name_at config p) x s t.0 ours t.1) t.2
+      placed_leaves (name_at config p) t.0 turn (known (s.lost (name_at config p)) refl) (taken_guards (live_nodes (nodes_at config i) s) (name_at config p) x s t.0 ours t.1) t.2
     where
       known : (b : Bool) → s.lost (name_at config p) ≡ b → s.lost (name_at config p) ≡ false
       known false e = e
       known true e = absurd (unheard_so config i p s x turn e is)
   step_leaves (Own action) turn here ours is =
       let t = did_so config i s action turn is in
-      placed_leaves (name_at config i) t.0 turn here (acted_guards (left (nodes_at config i) s) (name_at config i) (nodes_at config i) (ports_at config i) action s t.0 t.1) t.2
+      placed_leaves (name_at config i) t.0 turn here (acted_guards (live_nodes (nodes_at config i) s) (name_at config i) (nodes_at config i) (ports_at config i) action s t.0 t.1) t.2
 
   leaves_clear : (turn : Turn State Message Report) → Clear (name_at config i) s → turn.state.lost ≡ s.lost → Leaves turn → Clear (name_at config i) turn.state
   leaves_clear turn old same leaves = record {

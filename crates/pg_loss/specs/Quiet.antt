@@ -4,28 +4,28 @@ use Rattle.pg_machine.specs.Places.{is_pair}
 use Rattle.pg_step.specs.Attempts.{waits}
 use Rattle.pg_step.specs.Config.{Config, nodes_at}
 use Rattle.pg_step.specs.LossLaws.{LosingFrameWorld}
-use Rattle.pg_step.specs.State.{left}
+use Rattle.pg_step.specs.State.{live_nodes}
 use Rattle.pg_step.specs.declared.command.OpId.{OpId}
 use Rattle.pg_history.specs.Counted.{is_open}
 use Rattle.pg_history.specs.Quiet.{peer_count, total}
 
 -- no packet, and no last notice, is on the way to a node that is not lost
-abbrev pub IsQuietLeft : Config → LosingFrameWorld → Type 0
-IsQuietLeft config w = (x y : ℕ) → is_pair (length config) x y ≡ true → w.gone y ≡ false → w.world.wire x y ≡ []
+abbrev pub IsQuietLive : Config → LosingFrameWorld → Type 0
+IsQuietLive config w = (x y : ℕ) → is_pair (length config) x y ≡ true → w.gone y ≡ false → w.world.wire x y ≡ []
 
 -- each command of node i that is open waits for its retry, by the nodes that count there, and no other does
 abbrev pub WaitsForRetries : Config → LosingFrameWorld → ℕ → Type 0
-WaitsForRetries config w i = (op : OpId) → waits (left (nodes_at config i) (w.world.node i).state) ((w.world.node i).state.stages op) (w.world.node i).state ≡ is_open ((w.world.node i).state.stages op)
+WaitsForRetries config w i = (op : OpId) → waits (live_nodes (nodes_at config i) (w.world.node i).state) ((w.world.node i).state.stages op) (w.world.node i).state ≡ is_open ((w.world.node i).state.stages op)
 
 -- how many packets and last notices are on the way
-abbrev pub left_on_the_way : Config → LosingFrameWorld → ℕ
-left_on_the_way config w = total (length config) (λ x. total (length config) (λ y. length (w.world.wire x y)))
+abbrev pub live_on_the_way : Config → LosingFrameWorld → ℕ
+live_on_the_way config w = total (length config) (λ x. total (length config) (λ y. length (w.world.wire x y)))
 
 -- how many commands are open
-abbrev pub left_open : Config → LosingFrameWorld → ℕ
-left_open config w = total (length config) (λ i. (w.world.node i).state.opened)
+abbrev pub live_open : Config → LosingFrameWorld → ℕ
+live_open config w = total (length config) (λ i. (w.world.node i).state.opened)
 
 -- How many packets and notices can be taken at most before a command comes in, one is tried again, or a node is lost: those on
 -- the way and the replies to them, and five for each peer of each command that is open.
-abbrev pub most_takes_left : Config → LosingFrameWorld → ℕ
-most_takes_left config w = 2 * left_on_the_way config w + 5 * peer_count config * left_open config w
+abbrev pub most_takes_live : Config → LosingFrameWorld → ℕ
+most_takes_live config w = 2 * live_on_the_way config w + 5 * peer_count config * live_open config w

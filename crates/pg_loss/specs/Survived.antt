@@ -26,7 +26,7 @@ use Rattle.pg_history.specs.History.{Entry, IsAnsweredOk, answered_count, answer
 use Rattle.pg_history.specs.History.{command_at, entries, has_answer, history, ok_means_lock, times}
 use Rattle.pg_history.specs.Exclusive.{ExclusiveLocks}
 use Rattle.pg_history.specs.RealTime.{StandsBefore}
-use Rattle.pg_history.specs.WithLosses.{FormedAtLosses, NoLockOfLost, NonePendingLeft, SurvivesLosses}
+use Rattle.pg_history.specs.WithLosses.{FormedAtLosses, NoLockOfLost, NonePendingLive, SurvivesLosses}
 use Rattle.pg_loss.specs.Agreeing.{EndedHome, SawAll}
 use Rattle.pg_loss.specs.Reached.{lives_in, LosingReaches, nodes_of, steps_of}
 use Rattle.pg_loss.specs.Thinned.{AppliesThinned}
@@ -59,10 +59,10 @@ pub record StandsLast (config : Config) (w : LosingFrameWorld) (name : Term) (be
       → is_holder ((w.world.node x).state.locks name) (numbered (name_at config e.node) c) ≡ true)
 
 -- What is left agrees, and ends are told.
-pub record LeftAgree (config : Config) (events : List (LosingEvent Action)) (w : LosingFrameWorld) : Type 0 where
-  -- Two formed nodes that are left and have applied the same updates of a group agree on it, where each has seen every loss, no end
-  -- is pending among those left, and every node was formed at the first loss.
-  pub agree : (i j : ℕ) (name : Term) → FormedAtLosses config events → NonePendingLeft config w
+pub record LiveAgree (config : Config) (events : List (LosingEvent Action)) (w : LosingFrameWorld) : Type 0 where
+  -- Two formed live nodes and have applied the same updates of a group agree on it, where each has seen every loss, no end
+  -- is pending among the live, and every node was formed at the first loss.
+  pub agree : (i j : ℕ) (name : Term) → FormedAtLosses config events → NonePendingLive config w
       → is_place (length config) i ≡ true → is_place (length config) j ≡ true → w.gone i ≡ false → w.gone j ≡ false
       → formed (nodes_at config i) (w.world.node i).state ≡ true → formed (nodes_at config j) (w.world.node j).state ≡ true
       → SawAll config w i → SawAll config w j
@@ -76,7 +76,7 @@ pub record LeftAgree (config : Config) (events : List (LosingEvent Action)) (w :
   pub ended : (i : ℕ) (name : Term) → NoneEnded ((w.world.node i).state.table name) (w.world.node i).state.ended
 
 -- Nobody is harmed.
-pub record HarmsNobodyLeft (config : Config) (w : LosingFrameWorld) : Type 0 where
+pub record HarmsNobodyLive (config : Config) (w : LosingFrameWorld) : Type 0 where
   -- no reply that a node takes is a stranger's or a double
   pub replies : AllByRecursion (λ (t : ℕ × Report). t.1.odd ≡ None) w.world.reported
   -- the first packet on a way to a node that is not lost, from one whose loss it has not seen, is one that its step without its clock takes
@@ -95,7 +95,7 @@ pub record KeptPastLosses (config : Config) (events : List (LosingEvent Action))
   pub stands : StandsAnswered events w
   pub unanswered : (name : Term) (before after : List Entry) (e : Entry) → history name w.world.reported ≡ before ++ e ∷ after
       → answered_count e.node e.op w.world.reported ≡ 0 → w.gone e.node ≡ false → StandsLast config w name before after e
-  pub left : LeftAgree config events w
+  pub left : LiveAgree config events w
   -- the history of each group is that of each world on the way, and more
   pub grown : (first last : List (LosingEvent Action)) (m : LosingFrameWorld) (name : Term) → events ≡ first ++ last → LosingReaches config first m
       → (more : List Entry) × (history name w.world.reported ≡ history name m.world.reported ++ more)
@@ -104,6 +104,6 @@ pub record KeptPastLosses (config : Config) (events : List (LosingEvent Action))
       → StandsBefore (steps_of first) m.world.reported w.world.reported
   -- locks are exclusive among the nodes that are not lost
   pub exclusive : ExclusiveLocks config (lives_in config w) (nodes_of w).node
-  pub harmless : HarmsNobodyLeft config w
+  pub harmless : HarmsNobodyLive config w
   -- each command that came in is answered or open, and a node counts as open as many as are
   pub counted : (i : ℕ) → CountsCommands config (nodes_of w) i

@@ -16,9 +16,9 @@ pub use lasting::{
 };
 pub use survival::{
     a_quiet_node_is_formed_past_losses, ended_processes_were_made_past_losses,
-    ends_at_home_past_losses, histories_are_thinned, locks_are_exclusive_past_losses,
-    losses_are_survived, no_lock_of_the_lost, no_packet_is_refused, no_reply_is_odd,
-    nodes_left_agree, open_commands_wait_for_retries_past_losses, takes_end_past_losses,
-    unanswered_changes_are_last,
+    ends_at_home_past_losses, histories_are_thinned, live_nodes_agree,
+    locks_are_exclusive_past_losses, losses_are_survived, no_lock_of_the_lost,
+    no_packet_is_refused, no_reply_is_odd, open_commands_wait_for_retries_past_losses,
+    takes_end_past_losses, unanswered_changes_are_last,
 };
 pub use world::each_world_keeps_past_losses;

@@ -20,9 +20,9 @@ ghost use Rattle.pg_step.specs.Turns.{Report};
 ghost use Rattle.pg_history.specs.History.{Entry, answered_count, applied_by, history};
 ghost use Rattle.pg_history.specs.Exclusive.{ExclusiveLocks};
 ghost use Rattle.pg_history.specs.Quiet.{OnlyTakes};
-ghost use Rattle.pg_history.specs.WithLosses.{FormedAtLosses, NoLockOfLost, NonePendingLeft, SurvivesLosses};
+ghost use Rattle.pg_history.specs.WithLosses.{FormedAtLosses, NoLockOfLost, NonePendingLive, SurvivesLosses};
 ghost use Rattle.pg_loss.specs.Agreeing.{EndedHome, SawAll};
-ghost use Rattle.pg_loss.specs.Quiet.{IsQuietLeft, WaitsForRetries, most_takes_left};
+ghost use Rattle.pg_loss.specs.Quiet.{IsQuietLive, WaitsForRetries, most_takes_live};
 ghost use Rattle.pg_loss.specs.Reached.{LosingReaches, lives_in, nodes_of};
 ghost use Rattle.pg_loss.specs.Thinned.{AppliesThinned};
 
@@ -108,12 +108,12 @@ pub fn ended_processes_were_made_past_losses()
         → is_among (w.world.node i).state.processes pid ≡ true }
 {}
 
-/// Two formed nodes that are left, and have applied the same updates of a group, agree on it, where each has seen the loss of every
-/// node that is lost, no end is pending among those left, and every node was formed at the first loss.
-pub fn nodes_left_agree()
+/// Two formed live nodes that have applied the same updates of a group agree on it, where each has seen the loss of every
+/// node that is lost, no end is pending among the live, and every node was formed at the first loss.
+pub fn live_nodes_agree()
     ensures { (config : Config) (w : LosingFrameWorld) (events : List (LosingEvent Action)) (i j : ℕ) (name : Term)
         → IsDistinct same_atom (names_of config) → LosingReaches config events w
-        → FormedAtLosses config events → NonePendingLeft config w
+        → FormedAtLosses config events → NonePendingLive config w
         → is_place (length config) i ≡ true → is_place (length config) j ≡ true
         → w.gone i ≡ false → w.gone j ≡ false
         → formed (nodes_at config i) (w.world.node i).state ≡ true
@@ -127,7 +127,7 @@ pub fn nodes_left_agree()
 /// nobody, also not for a node that was lost.
 pub fn open_commands_wait_for_retries_past_losses()
     ensures { (config : Config) (w : LosingFrameWorld) (events : List (LosingEvent Action)) (i : ℕ)
-        → IsDistinct same_atom (names_of config) → LosingReaches config events w → IsQuietLeft config w
+        → IsDistinct same_atom (names_of config) → LosingReaches config events w → IsQuietLive config w
         → is_place (length config) i ≡ true → w.gone i ≡ false → WaitsForRetries config w i }
 {}
 
@@ -138,14 +138,14 @@ pub fn takes_end_past_losses()
         (events : List (LosingEvent Action)) (takes : List (Event Action))
         → IsDistinct same_atom (names_of config) → LosingReaches config events w → OnlyTakes takes
         → LosingLeads (losing_frame_machine config) last_notice w (all_steps takes) v
-        → length takes ≤ most_takes_left config w }
+        → length takes ≤ most_takes_live config w }
 {}
 
 /// Where nothing is on the way to a node that is not lost, that node is formed: it waits for the exchange of nobody, also not of
 /// a node that was lost.
 pub fn a_quiet_node_is_formed_past_losses()
     ensures { (config : Config) (w : LosingFrameWorld) (events : List (LosingEvent Action)) (i : ℕ)
-        → IsDistinct same_atom (names_of config) → LosingReaches config events w → IsQuietLeft config w
+        → IsDistinct same_atom (names_of config) → LosingReaches config events w → IsQuietLive config w
         → is_place (length config) i ≡ true → w.gone i ≡ false
         → formed (nodes_at config i) (w.world.node i).state ≡ true }
 {}

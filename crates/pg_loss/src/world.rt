@@ -15,8 +15,8 @@ use crate::lasting::{
 };
 use crate::survival::{
     ended_processes_were_made_past_losses, ends_at_home_past_losses, histories_are_thinned,
-    locks_are_exclusive_past_losses, losses_are_survived, no_lock_of_the_lost,
-    no_packet_is_refused, no_reply_is_odd, nodes_left_agree, unanswered_changes_are_last,
+    live_nodes_agree, locks_are_exclusive_past_losses, losses_are_survived, no_lock_of_the_lost,
+    no_packet_is_refused, no_reply_is_odd, unanswered_changes_are_last,
 };
 
 /// All that the laws say of one world, whoever is lost and whenever.
@@ -36,7 +36,7 @@ pub fn each_world_keeps_past_losses()
     unanswered_changes_are_last();
     ends_at_home_past_losses();
     ended_processes_were_made_past_losses();
-    nodes_left_agree();
+    live_nodes_agree();
     changes_stand_once_past_losses();
     changes_are_answered_past_losses();
     commands_are_counted_past_losses();

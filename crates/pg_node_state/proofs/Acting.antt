@@ -5,7 +5,7 @@ use Rattle.std.proofs.lemmas.Bool.Decides.{nat_tests}
 use Rattle.pg_machine.specs.Clocked.{Timed}
 use Rattle.pg_step.specs.declared.command.OpId.{OpId}
 use Rattle.pg_step.specs.Nodes.{Nodes}
-use Rattle.pg_step.specs.State.{State, left}
+use Rattle.pg_step.specs.State.{State, live_nodes}
 use Rattle.pg_step.specs.Turns.{NodeTurn}
 use Rattle.pg_step.specs.Attempts.{waits, tried_again}
 use Rattle.pg_step.specs.Step.{CLOCK_LIMIT, Retry, at_clock, timed, step_act}
@@ -29,7 +29,7 @@ module _ (whole : Nodes) (ports : ℕ) (s : Timed State) where
 
   module _ (op : OpId) (there : op.port < ports) where
     abbrev m : Nodes
-    m = left whole s.state
+    m = live_nodes whole s.state
 
     abbrev turn : NodeTurn
     turn = tried_again (s.state.stages op) m op s.state

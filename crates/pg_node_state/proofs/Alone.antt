@@ -21,7 +21,7 @@ use Rattle.pg_opens.specs.Outlooks.{turn_by}
 use Rattle.pg_opens.specs.declared.outlook.Outlook.TheVariants.{Begin}
 use Rattle.pg_step.specs.Attempts.{ask, asks, begin, finish, replies_in, own_reference}
 use Rattle.std.proofs.Math.Nat.{eq-or-lt_of_le}
-use Rattle.pg_opens.specs.Places.{name_at, lost_in, left_in}
+use Rattle.pg_opens.specs.Places.{name_at, lost_in, live_in}
 use Rattle.pg_opens.proofs.Named.{atom_self, clash, place_cases, any_filtered}
 use Rattle.pg_group.proofs.Changes.{upd_at}
 
@@ -75,7 +75,7 @@ none_of f q (n ∷ ns) e = both (f n) (same_atom q n) (list_any (same_atom q) ns
     both true false c e h = h e
     both false false c e h = h e
 
-pub nobody_counts : (names : List Node) (lost : List Bool) (place : ℕ) → length names ≤ place → NobodyBelow (left_in names lost) names place → (q : Node) → is_peer (left_in names lost) q ≡ false
+pub nobody_counts : (names : List Node) (lost : List Bool) (place : ℕ) → length names ≤ place → NobodyBelow (live_in names lost) names place → (q : Node) → is_peer (live_in names lost) q ≡ false
 nobody_counts [] lost place within below q = refl
 nobody_counts (own ∷ peers) lost place within below q = go (place_cases peers q)
   where
@@ -88,8 +88,8 @@ nobody_counts (own ∷ peers) lost place within below q = go (place_cases peers 
     nearer : (k n p : ℕ) → k < n → suc n ≤ p → k + 1 < p
     nearer k n p l h = omega arith
 
-    go : ((k : ℕ) × (k < length peers) × (q ≡ name_at peers k)) ⊎ (list_any (same_atom q) peers ≡ false) → is_peer (left_in (own ∷ peers) lost) q ≡ false
-    go (inl r) = ap (is_peer (left_in (own ∷ peers) lost)) (r.2 ∙ sym (ap (name_at (own ∷ peers)) (next r.0))) ∙ below (r.0 + 1) (above r.0) (nearer r.0 (length peers) place r.1 within)
+    go : ((k : ℕ) × (k < length peers) × (q ≡ name_at peers k)) ⊎ (list_any (same_atom q) peers ≡ false) → is_peer (live_in (own ∷ peers) lost) q ≡ false
+    go (inl r) = ap (is_peer (live_in (own ∷ peers) lost)) (r.2 ∙ sym (ap (name_at (own ∷ peers)) (next r.0))) ∙ below (r.0 + 1) (above r.0) (nearer r.0 (length peers) place r.1 within)
     go (inr e) = any_filtered (λ x. not (lost_in (own ∷ peers) lost x)) (same_atom q) peers ∙ none_of (λ x. not (lost_in (own ∷ peers) lost x)) q peers e
 
 -- ---- where all have granted

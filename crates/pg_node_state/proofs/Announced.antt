@@ -8,7 +8,7 @@ use Rattle.pg_message.specs.declared.message.Message.{Message}
 use Rattle.pg_message.specs.declared.packet.Packet.{Packet}
 use Rattle.pg_opens.specs.Places.{name_at}
 use Rattle.pg_opens.specs.declared.opens.Opens.{Opens}
-use Rattle.pg_opens.specs.Opens.{names_of, left_of, whole_of, lost_of}
+use Rattle.pg_opens.specs.Opens.{names_of, live_of, whole_of, lost_of}
 use Rattle.pg_step.specs.Nodes.{Node, Nodes, to_peers}
 use Rattle.pg_node_state.specs.Opening.{Announces, IsAnnouncement}
 
@@ -22,5 +22,5 @@ all_kept : (lost : Node → Bool) (nodes : List Node) → lost ≡ (λ q. false)
 all_kept lost [] e = refl
 all_kept lost (n ∷ ns) e = ap (λ (f : Node → Bool). cond (not (f n)) (n ∷ filter (λ q. not (lost q)) ns) (filter (λ q. not (lost q)) ns)) e ∙ ap (λ z. n ∷ z) (all_kept lost ns e)
 
-pub none_lost : (opens : Opens) → lost_of opens ≡ (λ q. false) → left_of opens ≡ whole_of opens
+pub none_lost : (opens : Opens) → lost_of opens ≡ (λ q. false) → live_of opens ≡ whole_of opens
 none_lost opens e = λ i. record { own = name_at (names_of opens) 0; peers = all_kept (lost_of opens) (whole_of opens).peers e i }

@@ -11,7 +11,7 @@ use Rattle.pg_opens.specs.Places.{name_at}
 use Rattle.pg_step.specs.declared.answer.Answer.{Answer}
 use Rattle.pg_step.specs.declared.command.OpId.{OpId}
 use Rattle.pg_step.specs.Nodes.{Node, Nodes}
-use Rattle.pg_step.specs.State.{State, Response, left}
+use Rattle.pg_step.specs.State.{State, Response, live_nodes}
 use Rattle.pg_step.specs.Turns.{NodeTurn}
 use Rattle.pg_step.specs.Peers.{is_bad_exchange, exchange}
 use Rattle.pg_step.specs.Losses.{see_loss}
@@ -38,14 +38,14 @@ on_ok (Err e) P Q then p = tt
 module _ (m : Nodes) (p : Node) (x : Stamped Message) (s : Timed State) (clock : ℕ)
     (here : s.state.lost p ≡ false) (later : clock ≡ max s.clock x.stamp + 1) (within : clock ≤ CLOCK_LIMIT) where
   -- the clock, and then what the packet leads to
-  by_packet : step_take m p x s ≡ timed clock (taken (left m s.state) p x.packet s.state)
-  by_packet = (λ i. timed (sym later i) (cond (here i) (Err refusal.NodeLost) (taken (left m s.state) p x.packet s.state)))
+  by_packet : step_take m p x s ≡ timed clock (taken (live_nodes m s.state) p x.packet s.state)
+  by_packet = (λ i. timed (sym later i) (cond (here i) (Err refusal.NodeLost) (taken (live_nodes m s.state) p x.packet s.state)))
 
-  happened : (turn : NodeTurn) → taken (left m s.state) p x.packet s.state ≡ Ok turn → step_take m p x s ≡ Ok (at_clock clock turn)
+  happened : (turn : NodeTurn) → taken (live_nodes m s.state) p x.packet s.state ≡ Ok turn → step_take m p x s ≡ Ok (at_clock clock turn)
   happened turn is = by_packet ∙ (ap (timed clock) is ∙ ap (λ b. cond b (Ok (at_clock clock turn)) (Err refusal.ClockFull)) (le-leb clock CLOCK_LIMIT within))
 
   pub comes : (names : List Node) (turn : NodeTurn) (done : Done) (s1 : Timed State) (before after : ℕ → List Answer)
-      → taken (left m s.state) p x.packet s.state ≡ Ok turn → turn.reported.gave ≡ None
+      → taken (live_nodes m s.state) p x.packet s.state ≡ Ok turn → turn.reported.gave ≡ None
       → Tells names (at_clock clock turn) done → s1 ≡ (at_clock clock turn).state → after ≡ before
       → Comes names (step_take m p x s) (Ok done) s1 before after
   comes names turn done s1 before after is none told state same =
@@ -71,7 +71,7 @@ module _ (m : Nodes) (p : Node) (x : Stamped Message) (s : Timed State) (clock :
   timed_is (Err refusal.ClockFull) = ap (λ b. cond b (Err refusal.ClockFull) (Err refusal.ClockFull)) (le-leb clock CLOCK_LIMIT within)
 
   pub comes_at : (names : List Node) (t : Result NodeTurn Refusal) (result : Result Done NodeFault) (s1 : Timed State) (before after : ℕ → List Answer)
-      → taken (left m s.state) p x.packet s.state ≡ t → ComesAt clock names t result s1 before after
+      → taken (live_nodes m s.state) p x.packet s.state ≡ t → ComesAt clock names t result s1 before after
       → Comes names (step_take m p x s) result s1 before after
   comes_at names t result s1 before after is told = subst (λ r. Comes names r result s1 before after) (sym (by_packet ∙ (ap (timed clock) is ∙ timed_is t))) (go t told)
     where
@@ -90,8 +90,8 @@ module _ (m : Nodes) (p : Node) (x : Stamped Message) (s : Timed State) (clock :
       → Comes names (step_take m p x s) result s1 before after
   groups_come names node groups result s1 before after is bad fault told state same = go (is_bad_exchange p node s.state) refl result refl
     where
-      leads : (b : Bool) → is_bad_exchange p node s.state ≡ b → taken (left m s.state) p x.packet s.state ≡ cond b (Err refusal.NotAMessage) (Ok (exchange p groups s.state))
-      leads b e = ap (λ (x : Message). taken (left m s.state) p x s.state) is ∙ ap (λ b. cond b (Err refusal.NotAMessage) (Ok (exchange p groups s.state))) e
+      leads : (b : Bool) → is_bad_exchange p node s.state ≡ b → taken (live_nodes m s.state) p x.packet s.state ≡ cond b (Err refusal.NotAMessage) (Ok (exchange p groups s.state))
+      leads b e = ap (λ (x : Message). taken (live_nodes m s.state) p x s.state) is ∙ ap (λ b. cond b (Err refusal.NotAMessage) (Ok (exchange p groups s.state))) e
 
       refused : is_bad_exchange p node s.state ≡ true → step_take m p x s ≡ Err refusal.NotAMessage
       refused e = by_packet ∙ (ap (timed clock) (leads true e) ∙ ap (λ b. cond b (Err refusal.NotAMessage) (Err refusal.ClockFull)) (le-leb clock CLOCK_LIMIT within))

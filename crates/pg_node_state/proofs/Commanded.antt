@@ -28,7 +28,7 @@ use Rattle.pg_step.specs.declared.command_fault.CommandFault.TheVariants.{NameTo
 use Rattle.pg_step.specs.declared.command_fault.CommandFault.TheVariants.{NotFormed, NotMade, AlreadyEnded}
 use Rattle.pg_step.specs.declared.refusal.Refusal.TheVariants as refusal
 use Rattle.pg_step.specs.Nodes.{Node, Nodes}
-use Rattle.pg_step.specs.State.{State, left, formed}
+use Rattle.pg_step.specs.State.{State, live_nodes, formed}
 use Rattle.pg_step.specs.State.Response.{Read}
 use Rattle.pg_step.specs.StepLaws.{is_query}
 use Rattle.pg_step.specs.Turns.{NodeTurn}
@@ -37,19 +37,19 @@ use Rattle.pg_step.specs.Step.{Issue, CLOCK_LIMIT, at_clock, timed, step_act}
 use Rattle.pg_node_state.specs.declared.state.done.Done.{Done}
 use Rattle.pg_node_state.specs.declared.state.NodeState.{NodeState}
 use Rattle.pg_node_state.specs.Ports.{merged_in}
-use Rattle.pg_node_state.specs.States.{names_of, nodes_of, left_of, kept_by, Happens, Comes}
+use Rattle.pg_node_state.specs.States.{names_of, nodes_of, live_of, kept_by, Happens, Comes}
 use Rattle.pg_node_state.proofs.Formed.{all_left}
 use Rattle.pg_node_state.proofs.Turned.{update_is}
 
 -- a command at a port that is there, within the limit of the clock
 pub command_comes : (m : Nodes) (ports port : ℕ) (c : Command) (s : Timed State) → port < ports → s.clock + 1 ≤ CLOCK_LIMIT
     → (names : List Node) (done : Done) (s1 : Timed State) (before after : ℕ → List Answer)
-    → Happens names (at_clock (s.clock + 1) (command m (left m s.state) port c s.state)) done s1 before after
+    → Happens names (at_clock (s.clock + 1) (command m (live_nodes m s.state) port c s.state)) done s1 before after
     → Comes names (step_act m ports (Issue port c) s) (Ok done) s1 before after
 command_comes m ports port c s place within names done s1 before after happened = subst (λ r. Comes names r (Ok done) s1 before after) (sym is) happened
   where
     turn : NodeTurn
-    turn = command m (left m s.state) port c s.state
+    turn = command m (live_nodes m s.state) port c s.state
 
     is : step_act m ports (Issue port c) s ≡ Ok (at_clock (s.clock + 1) turn)
     is = ap (λ b. timed (s.clock + 1) (cond b (Ok turn) (Err refusal.NoSuchPlace))) (lt-ltb port ports place)
@@ -107,10 +107,10 @@ reads_table (Closest name word) e = λ m op s. refl
 -- ---- ends that are refused
 
 -- whether a node is formed is the same of the whole set and of those that count, as the lost are marked
-formed_whole : {T : Type 0} {g : Ghosts T} (node : NodeState T g) → formed (nodes_of node) (kept_by node) ≡ formed (left_of node) (kept_by node)
+formed_whole : {T : Type 0} {g : Ghosts T} (node : NodeState T g) → formed (nodes_of node) (kept_by node) ≡ formed (live_of node) (kept_by node)
 formed_whole node = all_left (lost_of node.opens) (merged_in (names_of node) node.formation) (drop 1 (names_of node)) node.forgotten
 
-pub end_unformed : {T : Type 0} {g : Ghosts T} (node : NodeState T g) (pid : Pid) → same_atom pid.node (name_at (names_of node) 0) ≡ true → formed (left_of node) (kept_by node) ≡ false
+pub end_unformed : {T : Type 0} {g : Ghosts T} (node : NodeState T g) (pid : Pid) → same_atom pid.node (name_at (names_of node) 0) ≡ true → formed (live_of node) (kept_by node) ≡ false
     → Some NotFormed ≡ fault_of (nodes_of node) (kept_by node) (Finish pid)
 end_unformed node pid here unformed = λ i. cond (not (sym here i)) (Some ForeignPid) (cond (not (sym (formed_whole node ∙ unformed) i)) (Some NotFormed)
     (cond (not (is_among (made_of node.processes) pid)) (Some NotMade) (cond (ended_of node.ended pid) (Some AlreadyEnded) None)))
@@ -126,7 +126,7 @@ ends_told false ended = refl
 ends_told true true = refl
 ends_told true false = refl
 
-pub end_refused : {T : Type 0} {g : Ghosts T} (node : NodeState T g) (pid : Pid) (told : Result (Unit {0}) EndFault) → same_atom pid.node (name_at (names_of node) 0) ≡ true → formed (left_of node) (kept_by node) ≡ true
+pub end_refused : {T : Type 0} {g : Ghosts T} (node : NodeState T g) (pid : Pid) (told : Result (Unit {0}) EndFault) → same_atom pid.node (name_at (names_of node) 0) ≡ true → formed (live_of node) (kept_by node) ≡ true
     → told ≡ finish_of node.processes pid (ended_of node.ended) → end_told told ≡ fault_of (nodes_of node) (kept_by node) (Finish pid)
 end_refused node pid told here is_formed is =
     let made = is_among (made_of node.processes) pid in

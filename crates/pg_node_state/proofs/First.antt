@@ -21,14 +21,14 @@ use Rattle.pg_step.specs.Peers.{would_grant}
 use Rattle.pg_step.specs.Attempts.{new_attempt, ask, begin, finish, with_asked, own_reference}
 use Rattle.pg_opens.specs.declared.opens.Opens.{Opens}
 use Rattle.pg_opens.specs.declared.command.Standing.TheVariants as standing
-use Rattle.pg_opens.specs.Opens.{Shows, Follows, names_of, left_of, uses_of}
+use Rattle.pg_opens.specs.Opens.{Shows, Follows, names_of, live_of, uses_of}
 use Rattle.pg_opens.specs.Readings.{standing_of}
 use Rattle.pg_node_state.specs.Issued.{asked_first}
 use Rattle.pg_node_state.specs.Ports.{CameIn, AreGiven}
 use Rattle.pg_node_state.proofs.Attempted.{statuses, granted_locks, held_there, lone_turn}
 use Rattle.pg_node_state.proofs.Given.{given_use, given_stage, of_any, of_lock, of_none, of_update}
 use Rattle.pg_node_state.proofs.Kept.{shown}
-use Rattle.pg_node_state.proofs.Steady.{left_stays}
+use Rattle.pg_node_state.proofs.Steady.{live_stays}
 use Rattle.pg_node_state.proofs.Turned.{own_apart}
 
 -- the update of a command that waits
@@ -118,9 +118,9 @@ granted_there m opens name = ap (λ b. b && true) (go m.peers)
     go (n ∷ ns) = go ns
 
 module _ (o0 : Opens) (op : OpId) (update : Update) (s : State) (h : Shows o0 s) (number : ℕ) (o1 : Opens) (nodes1 : names_of o1 ≡ names_of o0)
-    (asked : Shows o1 (first_state (left_of o0) op update s)) (is_lock : number ≡ s.references + 1) (grants : would_grant (left_of o0) s (name_of update) ≡ true) where
+    (asked : Shows o1 (first_state (live_of o0) op update s)) (is_lock : number ≡ s.references + 1) (grants : would_grant (live_of o0) s (name_of update) ≡ true) where
   abbrev m : Nodes
-  m = left_of o0
+  m = live_of o0
 
   abbrev first : State
   first = first_state m op update s
@@ -132,12 +132,12 @@ module _ (o0 : Opens) (op : OpId) (update : Update) (s : State) (h : Shows o0 s)
   pub use_asked : uses_of o1 number ≡ Locking op update (greatest m) st
   use_asked = ap (λ n. uses_of o1 n) is_lock ∙ (ap (λ (f : ℕ → Use). f (s.references + 1)) (sym asked.uses) ∙ asked_under m op update s true grants)
 
-  same1 : left_of o1 ≡ m
-  same1 = left_stays o0 o1 first asked nodes1 h.lost_peers
+  same1 : live_of o1 ≡ m
+  same1 = live_stays o0 o1 first asked nodes1 h.lost_peers
 
   module _ (own : greatest m ≡ m.own) (o2 : Opens) (nodes2 : names_of o2 ≡ names_of o1)
       (asks : (op : OpId) (update : Update) (first : Node) (st : Node → Status) → uses_of o1 number ≡ Locking op update first st
-      → (t : State) → Shows o1 t → would_grant (left_of o1) t (name_of update) ≡ false → Shows o2 (ask (left_of o1) (λ q. true) number op update first st t).state) where
+      → (t : State) → Shows o1 t → would_grant (live_of o1) t (name_of update) ≡ false → Shows o2 (ask (live_of o1) (λ q. true) number op update first st t).state) where
     abbrev pub rest_state : State
     rest_state = (ask m (λ q. true) (s.references + 1) op update (greatest m) st first).state
 
@@ -157,11 +157,11 @@ module _ (o0 : Opens) (op : OpId) (update : Update) (s : State) (h : Shows o0 s)
     use_rest = ap (λ n. uses_of o2 n) is_lock ∙ (ap (λ (f : ℕ → Use). f (s.references + 1)) (sym shows_rest.uses)
         ∙ upd_at nat_eq first.uses (s.references + 1) (Locking op update (greatest m) later) (eq-eqb (s.references + 1) (s.references + 1) refl))
 
-    same2 : left_of o2 ≡ m
-    same2 = left_stays o0 o2 rest_state shows_rest (nodes2 ∙ nodes1) h.lost_peers
+    same2 : live_of o2 ≡ m
+    same2 = live_stays o0 o2 rest_state shows_rest (nodes2 ∙ nodes1) h.lost_peers
 
     module _ (o3 : Opens) (nodes3 : names_of o3 ≡ names_of o2)
-        (begins : (op : OpId) (update : Update) (first : Node) (st : Node → Status) → uses_of o2 number ≡ Locking op update first st → Follows o2 o3 (begin (left_of o2) number op update)) where
+        (begins : (op : OpId) (update : Update) (first : Node) (st : Node → Status) → uses_of o2 number ≡ Locking op update first st → Follows o2 o3 (begin (live_of o2) number op update)) where
       abbrev begun : State
       begun = (begin m (s.references + 1) op update rest_state).state
 
@@ -175,11 +175,11 @@ module _ (o0 : Opens) (op : OpId) (update : Update) (s : State) (h : Shows o0 s)
           ∙ (upd_at nat_eq (upd nat_eq rest_state.uses (s.references + 1) (Owning (name_of update) (s.references + 1 + 1))) (s.references + 1 + 1) (Updating op update (s.references + 1) (same_atom m.own)) (eq-eqb (s.references + 1 + 1) (s.references + 1 + 1) refl)
           ∙ ap (λ n. Updating op update n (same_atom m.own)) (sym is_lock)))
 
-      same3 : left_of o3 ≡ m
-      same3 = left_stays o0 o3 begun shows_begun (nodes3 ∙ (nodes2 ∙ nodes1)) h.lost_peers
+      same3 : live_of o3 ≡ m
+      same3 = live_stays o0 o3 begun shows_begun (nodes3 ∙ (nodes2 ∙ nodes1)) h.lost_peers
 
       module _ (o4 : Opens)
-          (ends : (op : OpId) (update : Update) (lock : ℕ) (replied : Node → Bool) → uses_of o3 (number + 1) ≡ Updating op update lock replied → Follows o3 o4 (finish (left_of o3) (number + 1) op update lock)) where
+          (ends : (op : OpId) (update : Update) (lock : ℕ) (replied : Node → Bool) → uses_of o3 (number + 1) ≡ Updating op update lock replied → Follows o3 o4 (finish (live_of o3) (number + 1) op update lock)) where
         -- the command ended
         pub shows_ended : Shows o4 (finish m (s.references + 1 + 1) op update (s.references + 1) begun).state
         shows_ended = subst (λ (n : ℕ). Shows o4 (finish m (n + 1) op update n begun).state) is_lock

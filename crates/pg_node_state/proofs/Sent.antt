@@ -13,7 +13,7 @@ use Rattle.pg_machine.specs.Clocked.{Stamped, stamped}
 use Rattle.pg_multicall.specs.Places.{has_of}
 use Rattle.pg_multicall.specs.declared.places.Places.{Places}
 use Rattle.pg_step.specs.Nodes.{Node, is_peer}
-use Rattle.pg_opens.specs.Places.{name_at, lost_in, left_in}
+use Rattle.pg_opens.specs.Places.{name_at, lost_in, live_in}
 use Rattle.pg_opens.proofs.Named.{atom_self, atom_other, names_differ, reads_at}
 use Rattle.pg_opens.proofs.Named.{reads_nobody, place_cases, any_filtered}
 use Rattle.pg_node_state.specs.Ports.{merged_in, marks_of}
@@ -231,8 +231,8 @@ one_mark test names old new peer place b here is marked each k l = go (eq-or-lt_
 
 -- the marked are the peers that count and pass a test
 pub marks_say : (names : List Node) (lost : List Bool) (test : Node → Bool) (goes : Places) (place : ℕ) → IsDistinct same_atom names → length names ≤ place
-    → AreMarks (λ q. is_peer (left_in names lost) q && test q) names goes place → (n : ℕ) → n + 1 ≡ length names → (q : Node)
-    → merged_in names (marks_of goes n) q ≡ (is_peer (left_in names lost) q && test q)
+    → AreMarks (λ q. is_peer (live_in names lost) q && test q) names goes place → (n : ℕ) → n + 1 ≡ length names → (q : Node)
+    → merged_in names (marks_of goes n) q ≡ (is_peer (live_in names lost) q && test q)
 unfolding IsDistinct
 marks_say [] lost test goes place apart within each n same q = absurd (none n same)
   where
@@ -265,10 +265,10 @@ marks_say (own ∷ peers) lost test goes place apart within each n same q = go (
         both false false c e h = h e
 
     go : ((k : ℕ) × (k < length peers) × (q ≡ name_at peers k)) ⊎ (list_any (same_atom q) peers ≡ false)
-        → merged_in names (marks_of goes n) q ≡ (is_peer (left_in names lost) q && test q)
-    go (inl r) = subst (λ (p : Node). merged_in names (marks_of goes n) p ≡ (is_peer (left_in names lost) p && test p)) (sym r.2)
+        → merged_in names (marks_of goes n) q ≡ (is_peer (live_in names lost) q && test q)
+    go (inl r) = subst (λ (p : Node). merged_in names (marks_of goes n) p ≡ (is_peer (live_in names lost) p && test p)) (sym r.2)
         (reads_at (λ mark. mark) false peers (marks_of goes n) r.0 false apart.1 (length_marks goes n ∙ shorter n (length peers) same) r.1
         ∙ (mark_at goes n r.0 (sooner r.0 (length peers) n r.1 same)
-        ∙ (each r.0 (nearer r.0 (length peers) place r.1 within) ∙ ap (λ n. is_peer (left_in names lost) (name_at names n) && test (name_at names n)) (next r.0))))
+        ∙ (each r.0 (nearer r.0 (length peers) place r.1 within) ∙ ap (λ n. is_peer (live_in names lost) (name_at names n) && test (name_at names n)) (next r.0))))
     go (inr e) = reads_nobody (λ mark. mark) false peers (marks_of goes n) q e
         ∙ ap (λ b. b && test q) (sym (any_filtered counts (same_atom q) peers ∙ nobody peers e))

@@ -3,7 +3,7 @@ use Rattle.std.proofs.Common.{◌≡◌, ◌≤◌, ◌*◌, ◌+◌, ℕ, Bool,
 use Rattle.std.specs.List.{filter}
 use Rattle.pg_group.specs.declared.update.Update.{Update}
 use Rattle.pg_opens.specs.declared.opens.Opens.{Opens}
-use Rattle.pg_opens.specs.Opens.{Shows, names_of, lost_of, left_of, references_of, uses_of, stages_of}
+use Rattle.pg_opens.specs.Opens.{Shows, names_of, lost_of, live_of, references_of, uses_of, stages_of}
 use Rattle.pg_opens.specs.Places.{name_at}
 use Rattle.pg_step.specs.declared.command.OpId.{OpId}
 use Rattle.pg_step.specs.Nodes.{Node}
@@ -32,5 +32,5 @@ module _ (old new : Opens) (s : State) (h : Shows new s) (nodes : names_of new �
   given_stay given = given_same h.uses h.stages given
 
   -- the same nodes count
-  pub left_stays : s.lost ≡ lost_of old → left_of new ≡ left_of old
-  left_stays same = λ i. record { own = name_at (nodes i) 0; peers = filter (λ q. not ((sym h.lost_peers ∙ same) i q)) (drop 1 (nodes i)) }
+  pub live_stays : s.lost ≡ lost_of old → live_of new ≡ live_of old
+  live_stays same = λ i. record { own = name_at (nodes i) 0; peers = filter (λ q. not ((sym h.lost_peers ∙ same) i q)) (drop 1 (nodes i)) }

@@ -22,7 +22,7 @@ use Rattle.pg_opens.specs.declared.outlook.Outlook.{Outlook}
 use Rattle.pg_opens.specs.declared.command.Gathering.{Gathering}
 use Rattle.pg_opens.specs.declared.command.Gathering.TheVariants.{Lock, Update}
 use Rattle.pg_opens.specs.declared.opens.Opens.{Opens}
-use Rattle.pg_opens.specs.Opens.{names_of, left_of}
+use Rattle.pg_opens.specs.Opens.{names_of, live_of}
 use Rattle.pg_opens.specs.Places.{name_at, lost_in}
 use Rattle.pg_opens.specs.Readings.{gathering_of, is_locking, is_updating, update_of}
 use Rattle.pg_opens.proofs.Named.{atom_is, clash}
@@ -30,12 +30,12 @@ use Rattle.pg_opens.proofs.Asking.{own_no_peer}
 use Rattle.pg_node_state.proofs.Given.{op_in, lock_in}
 
 -- no peer that counts has the own name
-pub own_apart : (opens : Opens) (q : Node) → is_peer (left_of opens) q ≡ true → same_atom (name_at (names_of opens) 0) q ≡ false
+pub own_apart : (opens : Opens) (q : Node) → is_peer (live_of opens) q ≡ true → same_atom (name_at (names_of opens) 0) q ≡ false
 own_apart opens q peer = go (same_atom (name_at (names_of opens) 0) q) refl
   where
     go : (b : Bool) → same_atom (name_at (names_of opens) 0) q ≡ b → b ≡ false
     go false e = refl
-    go true e = absurd (clash (sym (ap (is_peer (left_of opens)) (atom_is (name_at (names_of opens) 0) q e) ∙ peer)
+    go true e = absurd (clash (sym (ap (is_peer (live_of opens)) (atom_is (name_at (names_of opens) 0) q e) ∙ peer)
         ∙ own_no_peer (names_of opens) opens.lost.items opens.apart opens.places (λ x. not (lost_in (names_of opens) opens.lost.items x)) (names_of opens) opens.apart))
 
 -- ---- what is gathered under a reference

@@ -45,8 +45,8 @@ abbrev pub nodes_of : {T : Type 0} {g : Ghosts T} → NodeState T g → Nodes
 nodes_of node = opens.whole_of node.opens
 
 -- the nodes that count
-abbrev pub left_of : {T : Type 0} {g : Ghosts T} → NodeState T g → Nodes
-left_of node = opens.left_of node.opens
+abbrev pub live_of : {T : Type 0} {g : Ghosts T} → NodeState T g → Nodes
+live_of node = opens.live_of node.opens
 
 abbrev pub kept_by : {T : Type 0} {g : Ghosts T} → NodeState T g → State
 kept_by {T} {g} node = record {

@@ -13,7 +13,7 @@ use Rattle.pg_opens.specs.declared.mark.Mark.{Mark}
 use Rattle.pg_opens.specs.declared.mark.Mark.TheVariants as mark
 use Rattle.pg_opens.specs.declared.mark.Asked.{Asked as Whom}
 use Rattle.pg_opens.specs.declared.mark.Asked.TheVariants.{Nobody, One, All}
-use Rattle.pg_opens.specs.Places.{name_at, all_below, lost_in, left_in, ArePlaces}
+use Rattle.pg_opens.specs.Places.{name_at, all_below, lost_in, live_in, ArePlaces}
 use Rattle.pg_opens.specs.declared.mark.Wanted.{Wanted}
 use Rattle.pg_opens.specs.declared.mark.Wanted.TheVariants.{Granted}
 use Rattle.pg_opens.specs.Marks.{status_of, statuses, has_yes, replies, asked_mark, is_wanted}
@@ -94,7 +94,7 @@ module _ (names : List Node) (lost : List Bool) (apart : IsDistinct same_atom na
       one b false e s = ap (λ z. b && z) s
 
   -- a test of every node that counts is one of all places
-  pub every_at : (t : Node → Bool) → every (left_in names lost) t ≡ all_below (length names) (λ k. get_or lost k false || t (name_at names k))
+  pub every_at : (t : Node → Bool) → every (live_in names lost) t ≡ all_below (length names) (λ k. get_or lost k false || t (name_at names k))
   every_at t = all_left names t places.some own_here ∙ (all_names names (λ q. lost_in names lost q || t q)
       ∙ all_below_same (length names) (λ k. lost_in names lost (name_at names k) || t (name_at names k)) (λ k. get_or lost k false || t (name_at names k))
       (λ k l. ap (λ b. b || t (name_at names k)) (lost_at k l)))
@@ -108,10 +108,10 @@ module _ (names : List Node) (lost : List Bool) (apart : IsDistinct same_atom na
       one b true e = absurd (clash e)
       one b false e = refl
 
-  pub node_at : (k : ℕ) → k < length names → is_node (left_in names lost) (name_at names k) ≡ not (get_or lost k false)
+  pub node_at : (k : ℕ) → k < length names → is_node (live_in names lost) (name_at names k) ≡ not (get_or lost k false)
   node_at k l = any_left names (name_at names k) places.some own_here ∙ (any_at (λ x. not (lost_in names lost x)) names k apart l ∙ ap not (lost_at k l))
 
-  pub node_nobody : (q : Node) → list_any (same_atom q) names ≡ false → is_node (left_in names lost) q ≡ false
+  pub node_nobody : (q : Node) → list_any (same_atom q) names ≡ false → is_node (live_in names lost) q ≡ false
   node_nobody q e = any_left names q places.some own_here ∙ any_nobody (λ x. not (lost_in names lost x)) q names e
 
   pub same_at : (j k : ℕ) → j < length names → k < length names → same_atom (name_at names j) (name_at names k) ≡ (j == k)
@@ -134,17 +134,17 @@ module _ (names : List Node) (lost : List Bool) (apart : IsDistinct same_atom na
   own_no_peer f (n ∷ ns) h = any_filtered f (same_atom n) ns ∙ any_other f n ns h.0
 
   -- the peers that count, place by place
-  pub peer_at : (k : ℕ) → k < length names → is_peer (left_in names lost) (name_at names k) ≡ (not (k == 0) && not (get_or lost k false))
+  pub peer_at : (k : ℕ) → k < length names → is_peer (live_in names lost) (name_at names k) ≡ (not (k == 0) && not (get_or lost k false))
   peer_at k l = go (cases_eq k 0)
     where
-      go : (k ≡ 0) ⊎ (k ≡ 0 → ⊥) → is_peer (left_in names lost) (name_at names k) ≡ (not (k == 0) && not (get_or lost k false))
-      go (inl e) = ap (λ z. is_peer (left_in names lost) (name_at names z)) e
+      go : (k ≡ 0) ⊎ (k ≡ 0 → ⊥) → is_peer (live_in names lost) (name_at names k) ≡ (not (k == 0) && not (get_or lost k false))
+      go (inl e) = ap (λ z. is_peer (live_in names lost) (name_at names z)) e
           ∙ (own_no_peer (λ q. not (lost_in names lost q)) names apart ∙ sym (ap (λ b. not b && not (get_or lost k false)) (eq-eqb k 0 e)))
-      go (inr n) = sym (ap (λ b. b || is_peer (left_in names lost) (name_at names k)) (same_at k 0 l places.some ∙ ne_eqb k 0 n))
+      go (inr n) = sym (ap (λ b. b || is_peer (live_in names lost) (name_at names k)) (same_at k 0 l places.some ∙ ne_eqb k 0 n))
           ∙ (node_at k l ∙ sym (ap (λ b. not b && not (get_or lost k false)) (ne_eqb k 0 n)))
 
   -- another node than the own one is a peer that counts where it is not lost
-  pub peer_left : (k : ℕ) → k < length names → 0 < k → is_peer (left_in names lost) (name_at names k) ≡ not (lost_in names lost (name_at names k))
+  pub peer_left : (k : ℕ) → k < length names → 0 < k → is_peer (live_in names lost) (name_at names k) ≡ not (lost_in names lost (name_at names k))
   peer_left k l above = peer_at k l ∙ (ap (λ b. not b && not (get_or lost k false)) (ne_eqb k 0 (apart_from k above)) ∙ sym (ap not (lost_at k l)))
     where
       apart_from : (k : ℕ) → 0 < k → k ≡ 0 → ⊥
@@ -190,7 +190,7 @@ module _ (names : List Node) (lost : List Bool) (apart : IsDistinct same_atom na
 
     -- what the nodes are asked, place by place
     pub with_at : (who : Whom) (granted : Bool) (k : ℕ) → has_place who (length names) ≡ true → k < length names
-        → with_asked (left_in names lost) (whom names who) (statuses names marks) granted (name_at names k) ≡ status_of (mark_at (get_or marks k mark.Unasked) (get_or lost k false) who k granted)
+        → with_asked (live_in names lost) (whom names who) (statuses names marks) granted (name_at names k) ≡ status_of (mark_at (get_or marks k mark.Unasked) (get_or lost k false) who k granted)
     with_at who granted k h l =
         ap (λ b. cond (b && asks (whom names who) (statuses names marks) (name_at names k)) (cond (same_atom (name_at names 0) (name_at names k)) (own_verdict granted) Asked) (statuses names marks (name_at names k))) (node_at k l)
         ∙ (ap (λ b. cond (not (get_or lost k false) && (b && is_unasked (statuses names marks (name_at names k)))) (cond (same_atom (name_at names 0) (name_at names k)) (own_verdict granted) Asked) (statuses names marks (name_at names k))) (whom_at who k h l)
@@ -201,8 +201,8 @@ module _ (names : List Node) (lost : List Bool) (apart : IsDistinct same_atom na
     -- the marks once these were asked
     pub asked_statuses : (marks' : List Mark) (who : Whom) (granted : Bool) → length marks' ≡ length names → has_place who (length names) ≡ true
         → ((k : ℕ) → k < length marks → get_or marks' k mark.Unasked ≡ mark_at (get_or marks k mark.Unasked) (get_or lost k false) who k granted)
-        → statuses names marks' ≡ with_asked (left_in names lost) (whom names who) (statuses names marks) granted
-    asked_statuses marks' who granted same' h each = by_places names (statuses names marks') (with_asked (left_in names lost) (whom names who) (statuses names marks) granted)
+        → statuses names marks' ≡ with_asked (live_in names lost) (whom names who) (statuses names marks) granted
+    asked_statuses marks' who granted same' h each = by_places names (statuses names marks') (with_asked (live_in names lost) (whom names who) (statuses names marks) granted)
         (λ k l. reads_at status_of Unasked names marks' k mark.Unasked apart same' l ∙ (ap status_of (each k (subst (λ z. k < z) (sym same) l)) ∙ sym (with_at who granted k h l)))
         (λ q e. reads_nobody status_of Unasked names marks' q e ∙ sym (ap (λ b. cond (b && asks (whom names who) (statuses names marks) q) (cond (same_atom (name_at names 0) q) (own_verdict granted) Asked) (statuses names marks q)) (node_nobody q e)
         ∙ reads_nobody status_of Unasked names marks q e))
@@ -215,18 +215,18 @@ module _ (names : List Node) (lost : List Bool) (apart : IsDistinct same_atom na
     nobody_mark l o g mark.No = refl
 
     -- tests of the nodes that count are tests of the marks
-    pub every_nobody : (wanted : Wanted) (granted : Bool) → every (left_in names lost) (λ q. passes wanted (statuses names marks q)) ≡ all_marks marks lost wanted Nobody granted
+    pub every_nobody : (wanted : Wanted) (granted : Bool) → every (live_in names lost) (λ q. passes wanted (statuses names marks q)) ≡ all_marks marks lost wanted Nobody granted
     every_nobody wanted granted = every_at (λ q. passes wanted (statuses names marks q))
         ∙ (all_below_same (length names) _ _ (λ k l. ap (λ z. get_or lost k false || passes wanted z)
         (status_at k l ∙ ap status_of (sym (nobody_mark (get_or lost k false) (k == 0) granted (get_or marks k mark.Unasked)))))
         ∙ ap (λ n. all_below n (λ place. get_or lost place false || passes wanted (status_of (mark_at (get_or marks place mark.Unasked) (get_or lost place false) Nobody place granted)))) (sym same))
 
-    pub every_all : (wanted : Wanted) (granted : Bool) → every (left_in names lost) (λ q. passes wanted (with_asked (left_in names lost) (λ q. true) (statuses names marks) granted q)) ≡ all_marks marks lost wanted All granted
-    every_all wanted granted = every_at (λ q. passes wanted (with_asked (left_in names lost) (λ q. true) (statuses names marks) granted q))
+    pub every_all : (wanted : Wanted) (granted : Bool) → every (live_in names lost) (λ q. passes wanted (with_asked (live_in names lost) (λ q. true) (statuses names marks) granted q)) ≡ all_marks marks lost wanted All granted
+    every_all wanted granted = every_at (λ q. passes wanted (with_asked (live_in names lost) (λ q. true) (statuses names marks) granted q))
         ∙ (all_below_same (length names) _ _ (λ k l. ap (λ z. get_or lost k false || passes wanted z) (with_at All granted k refl l))
         ∙ ap (λ n. all_below n (λ place. get_or lost place false || passes wanted (status_of (mark_at (get_or marks place mark.Unasked) (get_or lost place false) All place granted)))) (sym same))
 
-    pub every_reply : every (left_in names lost) (replies names marks) ≡ all_marks marks lost Granted Nobody false
+    pub every_reply : every (live_in names lost) (replies names marks) ≡ all_marks marks lost Granted Nobody false
     every_reply = every_at (replies names marks)
         ∙ (all_below_same (length names) _ _ (λ k l. ap (λ b. get_or lost k false || b)
         (reply_at k l ∙ ap has_yes (sym (nobody_mark (get_or lost k false) (k == 0) false (get_or marks k mark.Unasked)))))

@@ -28,7 +28,7 @@ use Rattle.pg_opens.specs.declared.command.Phase.{Phase}
 use Rattle.pg_opens.specs.declared.command.Phase.TheVariants as phase
 use Rattle.pg_opens.specs.declared.command.OpenCommand.{OpenCommand}
 use Rattle.pg_opens.specs.Layers.{over, or_as, seek, others}
-use Rattle.pg_opens.specs.Places.{name_at, lost_in, left_in, ArePlaces}
+use Rattle.pg_opens.specs.Places.{name_at, lost_in, live_in, ArePlaces}
 use Rattle.pg_opens.specs.Marks.{status_of, statuses, has_yes, replies}
 use Rattle.pg_opens.specs.Marks.{verdict_mark, whom, has_place, mark_at, first_mark}
 use Rattle.pg_opens.specs.Commands.{use_in, use_at, has_in, stage_in, stage_at}
@@ -182,15 +182,15 @@ module _ (names : List Node) (lost : List Bool) (made : ℕ) (os : List OpenComm
 
   pub ask_follows : (x : ℕ) (who : Whom) (granted : Bool) (op : OpId) (update : Update) (f : Node) (st : Node → Status) → Stands os k o x → uses_in names made os x ≡ Locking op update f st → Turns o o' o.phase → has_place who (length names) ≡ true
       → ((place : ℕ) → place < length o.marks → get_or o'.marks place mark.Unasked ≡ mark_at (get_or o.marks place mark.Unasked) (get_or lost place false) who place granted)
-      → (s : State) → Says names lost made os s → would_grant (left_in names lost) s (name_of update) ≡ granted
-      → Says names lost made (slice_set os k o') (ask (left_in names lost) (whom names who) x op update f st s).state
+      → (s : State) → Says names lost made os s → would_grant (live_in names lost) s (name_of update) ≡ granted
+      → Says names lost made (slice_set os k o') (ask (live_in names lost) (whom names who) x op update f st s).state
   ask_follows x who granted op update f st at e t p each s h grants =
       let w = locks_as names made os k o known x op update f st at e in
       let same = known.marked k o at.here in
       let now = asked_statuses names lost apart places o.marks same o'.marks who granted (t.marks ∙ same) p each in
       record {
         references = h.references;
-        uses = (λ i. upd nat_eq (h.uses i) x (Locking (sym w.1.is_op i) (sym w.1.is_update i) (sym w.1.is_first i) (with_asked (left_in names lost) (whom names who) (sym w.1.marks i) (grants i))))
+        uses = (λ i. upd nat_eq (h.uses i) x (Locking (sym w.1.is_op i) (sym w.1.is_update i) (sym w.1.is_first i) (with_asked (live_in names lost) (whom names who) (sym w.1.marks i) (grants i))))
             ∙ (ap (λ z. upd nat_eq (uses_in names made os) x (Locking o.op o.update (name_at names w.0) z)) (sym now) ∙ sym (marked_lock names made os k o known at.here o' x w.0 w.1.phase t));
         opened = h.opened ∙ sym (set_length stage_at os k o');
         stages = h.stages ∙ sym (stage_same names made os k o known at.here o' t.op (λ i. stage_in (t.update i) (t.phase i)));

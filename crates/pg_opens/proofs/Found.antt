@@ -29,7 +29,7 @@ use Rattle.pg_opens.specs.declared.command.Phase.TheVariants as phase
 use Rattle.pg_opens.specs.declared.command.OpenCommand.{OpenCommand}
 use Rattle.pg_opens.specs.declared.command.Gathering.TheVariants.{Nothing}
 use Rattle.pg_opens.specs.Layers.{over, or_as, seek, answers, others}
-use Rattle.pg_opens.specs.Places.{name_at, left_in, ArePlaces}
+use Rattle.pg_opens.specs.Places.{name_at, live_in, ArePlaces}
 use Rattle.pg_opens.specs.Marks.{status_of, statuses, has_yes, replies, all_marks}
 use Rattle.pg_opens.specs.Commands.{use_in, use_at, has_in, stage_in, stage_at, is_made}
 use Rattle.pg_opens.specs.Commands.{unused, uses_in, stages_in, first_in, AreKnown}
@@ -164,22 +164,22 @@ heard_here names lost made os k o x place apart places known at l =
 
 module _ (names : List Node) (lost : List Bool) (made : ℕ) (os : List OpenCommand) (k : ℕ) (o : OpenCommand) (apart : IsDistinct same_atom names) (places : ArePlaces names lost) (known : AreKnown names made os) (x : ℕ) (at : Stands os k o x) where
   completes : (op : OpId) (u : Update) (ph : Phase) (marks : List Mark) (r : Option Use) (d : Use) → has_in ph x ≡ true → length marks ≡ length names
-      → is_complete (left_in names lost) (or_as (over (use_in names op u ph marks x) r) d) ≡ complete_in ph marks lost x
+      → is_complete (live_in names lost) (or_as (over (use_in names op u ph marks x) r) d) ≡ complete_in ph marks lost x
   completes op u phase.Waiting marks r d h same = absurd (clash (sym h))
   completes op u (phase.Asking lock first) marks r d h same = one (nat_eq lock x) h
     where
-      one : (b : Bool) → b ≡ true → is_complete (left_in names lost) (or_as (over (cond b (Some (Locking op u (name_at names first) (statuses names marks))) None) r) d) ≡ (b && all_marks marks lost Answered Nobody false)
+      one : (b : Bool) → b ≡ true → is_complete (live_in names lost) (or_as (over (cond b (Some (Locking op u (name_at names first) (statuses names marks))) None) r) d) ≡ (b && all_marks marks lost Answered Nobody false)
       one true h = every_nobody names lost apart places marks same Answered false
       one false h = absurd (clash (sym h))
   completes op u (phase.Changing lock number) marks r d h same = two (nat_eq number x) (nat_eq lock x) h
     where
-      two : (b c : Bool) → (b || c) ≡ true → is_complete (left_in names lost) (or_as (over (cond b (Some (Updating op u lock (replies names marks))) (cond c (Some (Owning (name_of u) number)) None)) r) d) ≡ (b && all_marks marks lost Granted Nobody false)
+      two : (b c : Bool) → (b || c) ≡ true → is_complete (live_in names lost) (or_as (over (cond b (Some (Updating op u lock (replies names marks))) (cond c (Some (Owning (name_of u) number)) None)) r) d) ≡ (b && all_marks marks lost Granted Nobody false)
       two true c h = every_reply names lost apart places marks same
       two false true h = refl
       two false false h = absurd (clash (sym h))
 
-  pub complete_here : complete_in o.phase o.marks lost x ≡ is_complete (left_in names lost) (uses_in names made os x)
-  complete_here = sym (ap (is_complete (left_in names lost)) (was names made os k o known at.here x) ∙ completes o.op o.update o.phase o.marks _ _ at.has (known.marked k o at.here))
+  pub complete_here : complete_in o.phase o.marks lost x ≡ is_complete (live_in names lost) (uses_in names made os x)
+  complete_here = sym (ap (is_complete (live_in names lost)) (was names made os k o known at.here x) ∙ completes o.op o.update o.phase o.marks _ _ at.has (known.marked k o at.here))
 
   waits_not : (b c : Bool) → not (does_wait (after_round (cond b AskingRest AskingFirst) c)) ≡ c
   waits_not true true = refl
@@ -191,19 +191,19 @@ module _ (names : List Node) (lost : List Bool) (made : ℕ) (os : List OpenComm
   goes_on marks first granted = not (does_wait (after_round (round_in marks first) (all_marks marks lost NotDenied Nobody granted)))
 
   looks : (op : OpId) (u : Update) (ph : Phase) (marks : List Mark) (r : Option Use) (d : Use) (granted : Bool) → has_in ph x ≡ true → is_locking (or_as (over (use_in names op u ph marks x) r) d) ≡ true → length marks ≡ length names
-      → outlook_of (left_in names lost) granted (or_as (over (use_in names op u ph marks x) r) d) ≡ outlook_in ph marks lost granted
+      → outlook_of (live_in names lost) granted (or_as (over (use_in names op u ph marks x) r) d) ≡ outlook_in ph marks lost granted
   looks op u phase.Waiting marks r d granted h i same = absurd (clash (sym h))
   looks op u (phase.Asking lock first) marks r d granted h i same = one (nat_eq lock x) h
     where
-      one : (b : Bool) → b ≡ true → outlook_of (left_in names lost) granted (or_as (over (cond b (Some (Locking op u (name_at names first) (statuses names marks))) None) r) d) ≡ outlook_in (phase.Asking lock first) marks lost granted
-      one true h = ap (λ z. outlook_by z (not (does_wait (after_round (round_of (name_at names first) (statuses names marks)) (none_denied (left_in names lost) (statuses names marks)))))
-          (all_granted (left_in names lost) (with_asked (left_in names lost) (λ q. true) (statuses names marks) granted)) (none_missing (left_in names lost) (with_asked (left_in names lost) (λ q. true) (statuses names marks) granted)))
+      one : (b : Bool) → b ≡ true → outlook_of (live_in names lost) granted (or_as (over (cond b (Some (Locking op u (name_at names first) (statuses names marks))) None) r) d) ≡ outlook_in (phase.Asking lock first) marks lost granted
+      one true h = ap (λ z. outlook_by z (not (does_wait (after_round (round_of (name_at names first) (statuses names marks)) (none_denied (live_in names lost) (statuses names marks)))))
+          (all_granted (live_in names lost) (with_asked (live_in names lost) (λ q. true) (statuses names marks) granted)) (none_missing (live_in names lost) (with_asked (live_in names lost) (λ q. true) (statuses names marks) granted)))
           (every_nobody names lost apart places marks same Answered granted)
           ∙ (ap (λ z. outlook_by (all_marks marks lost Answered Nobody granted) z
-          (all_granted (left_in names lost) (with_asked (left_in names lost) (λ q. true) (statuses names marks) granted)) (none_missing (left_in names lost) (with_asked (left_in names lost) (λ q. true) (statuses names marks) granted)))
-          (waits_not (is_yes (statuses names marks (name_at names first))) (none_denied (left_in names lost) (statuses names marks)) ∙ (every_nobody names lost apart places marks same NotDenied granted
+          (all_granted (live_in names lost) (with_asked (live_in names lost) (λ q. true) (statuses names marks) granted)) (none_missing (live_in names lost) (with_asked (live_in names lost) (λ q. true) (statuses names marks) granted)))
+          (waits_not (is_yes (statuses names marks (name_at names first))) (none_denied (live_in names lost) (statuses names marks)) ∙ (every_nobody names lost apart places marks same NotDenied granted
           ∙ sym (waits_not (has_yes (get_or marks first mark.Unasked)) (all_marks marks lost NotDenied Nobody granted))))
-          ∙ (ap (λ z. outlook_by (all_marks marks lost Answered Nobody granted) (goes_on marks first granted) z (none_missing (left_in names lost) (with_asked (left_in names lost) (λ q. true) (statuses names marks) granted)))
+          ∙ (ap (λ z. outlook_by (all_marks marks lost Answered Nobody granted) (goes_on marks first granted) z (none_missing (live_in names lost) (with_asked (live_in names lost) (λ q. true) (statuses names marks) granted)))
           (every_all names lost apart places marks same Granted granted)
           ∙ ap (outlook_by (all_marks marks lost Answered Nobody granted) (goes_on marks first granted) (all_marks marks lost Granted All granted))
           (every_all names lost apart places marks same Answered granted)))
@@ -215,8 +215,8 @@ module _ (names : List Node) (lost : List Bool) (made : ℕ) (os : List OpenComm
       two false true h i = clash (sym i)
       two false false h i = clash (sym h)
 
-  pub outlook_here : (granted : Bool) → is_locking (uses_in names made os x) ≡ true → outlook_in o.phase o.marks lost granted ≡ outlook_of (left_in names lost) granted (uses_in names made os x)
-  outlook_here granted i = sym (ap (outlook_of (left_in names lost) granted) (was names made os k o known at.here x)
+  pub outlook_here : (granted : Bool) → is_locking (uses_in names made os x) ≡ true → outlook_in o.phase o.marks lost granted ≡ outlook_of (live_in names lost) granted (uses_in names made os x)
+  outlook_here granted i = sym (ap (outlook_of (live_in names lost) granted) (was names made os k o known at.here x)
       ∙ looks o.op o.update o.phase o.marks _ _ granted at.has (ap is_locking (sym (was names made os k o known at.here x)) ∙ i) (known.marked k o at.here))
 
 -- ---- what is asked of a command that is not there

@@ -11,7 +11,7 @@ use Rattle.pg_step.specs.Attempts.{asks}
 use Rattle.pg_opens.specs.declared.mark.Mark.TheVariants as mark
 use Rattle.pg_opens.specs.declared.mark.Asked.{Asked as Whom}
 use Rattle.pg_opens.specs.declared.command.OpenCommand.{OpenCommand}
-use Rattle.pg_opens.specs.Places.{name_at, lost_in, left_in, ArePlaces}
+use Rattle.pg_opens.specs.Places.{name_at, lost_in, live_in, ArePlaces}
 use Rattle.pg_opens.specs.Marks.{whom, has_place, asked_in}
 use Rattle.pg_opens.specs.Commands.{uses_in, AreKnown}
 use Rattle.pg_opens.proofs.Asking.{own_here, asked_at, peer_left}
@@ -26,7 +26,7 @@ module _ (names : List Node) (lost : List Bool) (made : ℕ) (os : List OpenComm
       is ∙ (sym (asked_at names lost apart places o.marks (known.marked k o at.here) who place p l)
       ∙ (λ i. not (lost_in names lost (name_at names place)) && asks (whom names who) (w.1.marks i) (name_at names place)))
 
-  pub asked_peer : 0 < place → asked ≡ (is_peer (left_in names lost) (name_at names place) && asks (whom names who) st (name_at names place))
+  pub asked_peer : 0 < place → asked ≡ (is_peer (live_in names lost) (name_at names place) && asks (whom names who) st (name_at names place))
   asked_peer above = asked_counts ∙ sym (ap (λ b. b && asks (whom names who) st (name_at names place)) (peer_left names lost apart places place l above))
 
   pub asked_own : place ≡ 0 → asked ≡ asks (whom names who) st (name_at names 0)

@@ -8,7 +8,7 @@ use Rattle.pg_step.specs.Turns.{NodeTurn}
 use Rattle.pg_step.specs.Attempts.{same_op}
 use Rattle.pg_opens.specs.declared.command.OpenCommand.{OpenCommand}
 use Rattle.pg_opens.specs.declared.opens.Opens.{Opens}
-use Rattle.pg_opens.specs.Places.{lost_in, left_in, whole_in}
+use Rattle.pg_opens.specs.Places.{lost_in, live_in, whole_in}
 use Rattle.pg_opens.specs.Commands.{uses_in, stages_in}
 use Rattle.pg_opens.specs.Readings.{standing_of, is_closed}
 
@@ -24,8 +24,8 @@ abbrev pub lost_of : Opens → Node → Bool
 lost_of opens = lost_in opens.names.items opens.lost.items
 
 -- the nodes that count
-abbrev pub left_of : Opens → Nodes
-left_of opens = left_in opens.names.items opens.lost.items
+abbrev pub live_of : Opens → Nodes
+live_of opens = live_in opens.names.items opens.lost.items
 
 -- how many references were made
 abbrev pub references_of : Opens → ℕ

@@ -28,8 +28,8 @@ abbrev pub whole_in : List Node → Nodes
 whole_in names = record { own = name_at names 0; peers = drop 1 names }
 
 -- the nodes that count
-abbrev pub left_in : List Node → List Bool → Nodes
-left_in names lost = record { own = name_at names 0; peers = filter (λ q. not (lost_in names lost q)) (drop 1 names) }
+abbrev pub live_in : List Node → List Bool → Nodes
+live_in names lost = record { own = name_at names 0; peers = filter (λ q. not (lost_in names lost q)) (drop 1 names) }
 
 -- each node has a place, of 16 at most, and the own one counts
 pub record ArePlaces (names : List Node) (lost : List Bool) : Type 0 where

@@ -3,7 +3,7 @@ ghost use Rattle.std.specs.List.{IsDistinct, list_any};
 ghost use Rattle.std.specs.Ordering.{is_gt};
 ghost use Rattle.pg_term.specs.Same.{same_atom, atom_cmp};
 ghost use Rattle.pg_step.specs.Nodes.{greatest};
-ghost use Rattle.pg_opens.specs.Places.{ArePlaces, name_at, left_in};
+ghost use Rattle.pg_opens.specs.Places.{ArePlaces, name_at, live_in};
 
 use pg_term::Atom;
 
@@ -13,7 +13,7 @@ pub fn greatest_place(names: &[Atom], lost: &[bool]) -> usize
     requires places { ArePlaces names.now lost.now }
     ensures within { result < length names.now }
     ensures counts { get_or lost.now result false ≡ false }
-    ensures greatest { name_at names.now result ≡ greatest (left_in names.now lost.now) }
+    ensures greatest { name_at names.now result ≡ greatest (live_in names.now lost.now) }
 {
     let mut best = 0;
     for place in 1..names.len() {

@@ -52,7 +52,7 @@ impl Opens {
     ghost use Rattle.pg_step.specs.Turns.{becomes};
     ghost use Rattle.pg_step.specs.Commands.{open_command};
     ghost use Rattle.pg_step.specs.Losses.{see_loss};
-    ghost use Rattle.pg_opens.specs.Opens.{names_of, whole_of, left_of, ops_of, AreListed};
+    ghost use Rattle.pg_opens.specs.Opens.{names_of, whole_of, live_of, ops_of, AreListed};
     ghost use Rattle.pg_opens.specs.Opens.{AreSame, lost_of, references_of, uses_of, opened_of};
     ghost use Rattle.pg_opens.specs.Opens.{stages_of, Shows, Follows, has_room};
     ghost use Rattle.pg_opens.specs.Marks.{whom, has_place};
@@ -201,9 +201,9 @@ impl Opens {
     /// Whether the node at a place is a live peer: what goes to every peer goes to it.
     ///
     /// Cost: no memory.
-    pub fn is_left(&self, place: usize) -> bool
+    pub fn is_live(&self, place: usize) -> bool
         requires { place < length (names_of self.now) }
-        ensures { result ≡ is_peer (left_of self.now) (name_at (names_of self.now) place) }
+        ensures { result ≡ is_peer (live_of self.now) (name_at (names_of self.now) place) }
     {
         place != 0 && !self.is_lost(place)
     }
@@ -214,7 +214,7 @@ impl Opens {
     pub fn greatest(&self) -> usize
         ensures within { result < length (names_of self.now) }
         ensures counts { lost_of self.now (name_at (names_of self.now) result) ≡ false }
-        ensures greatest { name_at (names_of self.now) result ≡ greatest (left_of self.now) }
+        ensures greatest { name_at (names_of self.now) result ≡ greatest (live_of self.now) }
     {
         greatest_place(&self.names, &self.lost)
     }
@@ -370,7 +370,7 @@ impl Opens {
             → result ≡ asks (whom (names_of self.now) who) st (name_at (names_of self.now) 0) }
         ensures peer { (op : OpId) (update : Update) (first : Node) (st : Node → Status)
             → uses_of self.now number ≡ Locking op update first st → 0 < place
-            → result ≡ (is_peer (left_of self.now) (name_at (names_of self.now) place) && asks (whom (names_of self.now) who) st (name_at (names_of self.now) place)) }
+            → result ≡ (is_peer (live_of self.now) (name_at (names_of self.now) place) && asks (whom (names_of self.now) who) st (name_at (names_of self.now) place)) }
     {
         match place_of(&self.commands, self.recent, number) {
             None => false,
@@ -385,13 +385,13 @@ impl Opens {
     ///
     /// Cost: no memory; O(open commands + nodes).
     pub fn waits(&self, op: OpId) -> bool
-        ensures { (s : State) → Shows self.now s → result ≡ waits (left_of self.now) (stages_of self.now op) s }
+        ensures { (s : State) → Shows self.now s → result ≡ waits (live_of self.now) (stages_of self.now op) s }
     {
         self.waits_in(self.standing(op))
     }
 
     fn waits_in(&self, standing: Standing) -> bool
-        ensures { result ≡ waits_by standing (λ number. is_complete (left_of self.now) (uses_of self.now number)) }
+        ensures { result ≡ waits_by standing (λ number. is_complete (live_of self.now) (uses_of self.now number)) }
     {
         match standing {
             Standing::Closed => false,
@@ -404,7 +404,7 @@ impl Opens {
     ///
     /// Cost: no memory; O(open commands + nodes).
     pub fn is_complete(&self, number: u32) -> bool
-        ensures { result ≡ is_complete (left_of self.now) (uses_of self.now number) }
+        ensures { result ≡ is_complete (live_of self.now) (uses_of self.now number) }
     {
         match place_of(&self.commands, self.recent, number) {
             None => false,
@@ -421,7 +421,7 @@ impl Opens {
     /// Cost: no memory; O(open commands + nodes).
     pub fn outlook(&self, number: u32, granted: bool) -> Outlook
         requires { is_locking (uses_of self.now number) ≡ true }
-        ensures { result ≡ outlook_of (left_of self.now) granted (uses_of self.now number) }
+        ensures { result ≡ outlook_of (live_of self.now) granted (uses_of self.now number) }
     {
         match place_of(&self.commands, self.recent, number) {
             None => Outlook::Wait,
@@ -462,8 +462,8 @@ impl Opens {
         requires who { has_place who (length (names_of self.old)) ≡ true }
         ensures turned { (op : OpId) (update : Update) (first : Node) (st : Node → Status)
             → uses_of self.old number ≡ Locking op update first st
-            → (s : State) → Shows self.old s → would_grant (left_of self.old) s (name_of update) ≡ granted
-            → Shows self.new (ask (left_of self.old) (whom (names_of self.old) who) number op update first st s).state }
+            → (s : State) → Shows self.old s → would_grant (live_of self.old) s (name_of update) ≡ granted
+            → Shows self.new (ask (live_of self.old) (whom (names_of self.old) who) number op update first st s).state }
         ensures nodes { names_of self.new ≡ names_of self.old }
     {
         if let Some(place) = place_of(&self.commands, self.recent, number) {
@@ -553,7 +553,7 @@ impl Opens {
         requires locking { is_locking (uses_of self.old number) ≡ true }
         ensures turned { (op : OpId) (update : Update) (first : Node) (st : Node → Status)
             → uses_of self.old number ≡ Locking op update first st
-            → Follows self.old self.new (give_up (left_of self.old) number op update st) }
+            → Follows self.old self.new (give_up (live_of self.old) number op update st) }
         ensures nodes { names_of self.new ≡ names_of self.old }
     {
         if let Some(place) = place_of(&self.commands, self.recent, number) {
@@ -571,7 +571,7 @@ impl Opens {
         requires next { references_of self.old + 1 < 2 ^ 32 }
         ensures turned { (op : OpId) (update : Update) (first : Node) (st : Node → Status)
             → uses_of self.old number ≡ Locking op update first st
-            → Follows self.old self.new (begin (left_of self.old) number op update) }
+            → Follows self.old self.new (begin (live_of self.old) number op update) }
         ensures nodes { names_of self.new ≡ names_of self.old }
     {
         if let Some(place) = place_of(&self.commands, self.recent, number) {
@@ -590,7 +590,7 @@ impl Opens {
         requires updating { is_updating (uses_of self.old number) ≡ true }
         ensures turned { (op : OpId) (update : Update) (lock : ℕ) (replied : Node → Bool)
             → uses_of self.old number ≡ Updating op update lock replied
-            → Follows self.old self.new (finish (left_of self.old) number op update lock) }
+            → Follows self.old self.new (finish (live_of self.old) number op update lock) }
         ensures nodes { names_of self.new ≡ names_of self.old }
     {
         if let Some(place) = place_of(&self.commands, self.recent, number) {

@@ -33,7 +33,7 @@ use Rattle.pg_step.specs.Config.{Config, name_at, nodes_at, ports_at}
 use Rattle.pg_step.specs.FrameMachine.{node_step}
 use Rattle.pg_step.specs.Nodes.{Node, Nodes, every, greatest}
 use Rattle.pg_step.specs.Peers.{exchange, is_bad_exchange, would_grant}
-use Rattle.pg_step.specs.State.{Stage, State, Status, Use, left}
+use Rattle.pg_step.specs.State.{Stage, State, Status, Use, live_nodes}
 use Rattle.pg_step.specs.State.Stage.{Asking, Changing, Closed, Waiting}
 use Rattle.pg_step.specs.State.Status.{Unasked}
 use Rattle.pg_step.specs.State.Use.{Fresh, Locking, Owning, Spent, Updating}
@@ -46,7 +46,7 @@ use Rattle.pg_history.proofs.references.Keys.{cases, numbers, upd_other, upd_sam
 use Rattle.pg_history.proofs.steps.Lossless.{step_sees_none}
 use Rattle.pg_history.proofs.steps.Made.{did_so, took_so}
 use Rattle.pg_history.proofs.steps.Single.{Makes, judged, ok_is}
-use Rattle.pg_loss.proofs.Bridge.{left_same}
+use Rattle.pg_loss.proofs.Bridge.{live_same}
 use Rattle.pg_ready.specs.Ready.{is_ready}
 use Rattle.pg_ready.proofs.Going.{Answered, Asks, Began, Denied, WentOn, goes, replies_go}
 
@@ -538,46 +538,46 @@ module _ (m : Nodes) where
 
 module _ (config : Config) (i : ℕ) (s : State) (linked : Linked s) where
   step_none : (input : Input Message Action) (turn : Turn State Message Report) → node_step config i s input ≡ Some turn
-      → NoneNew (left (nodes_at config i) s) s turn.state
+      → NoneNew (live_nodes (nodes_at config i) s) s turn.state
   step_none (Taken p x) turn is =
       let t = took_so config i s p x turn is in
-      subst (λ (z : Turn State Message Report). NoneNew (left (nodes_at config i) s) s z.state) (sym t.2)
-      (taken_none (left (nodes_at config i) s) (name_at config p) x s t.0 linked t.1)
+      subst (λ (z : Turn State Message Report). NoneNew (live_nodes (nodes_at config i) s) s z.state) (sym t.2)
+      (taken_none (live_nodes (nodes_at config i) s) (name_at config p) x s t.0 linked t.1)
   step_none (Own action) turn is =
       let t = did_so config i s action turn is in
-      subst (λ (z : Turn State Message Report). NoneNew (left (nodes_at config i) s) s z.state) (sym t.2)
-      (acted_none (left (nodes_at config i) s) (nodes_at config i) (ports_at config i) action s t.0 linked t.1)
+      subst (λ (z : Turn State Message Report). NoneNew (live_nodes (nodes_at config i) s) s z.state) (sym t.2)
+      (acted_none (live_nodes (nodes_at config i) s) (nodes_at config i) (ports_at config i) action s t.0 linked t.1)
 
   -- a step makes no command ready
   pub step_makes_none : (input : Input Message Action) (turn : Turn State Message Report)
       → node_step config i s input ≡ Some turn → (op : OpId)
-      → is_ready (left (nodes_at config i) turn.state) (turn.state.stages op) turn.state ≡ true
-      → is_ready (left (nodes_at config i) s) (s.stages op) s ≡ true
+      → is_ready (live_nodes (nodes_at config i) turn.state) (turn.state.stages op) turn.state ≡ true
+      → is_ready (live_nodes (nodes_at config i) s) (s.stages op) s ≡ true
   step_makes_none input turn is op ready = step_none input turn is op
       (subst (λ m. is_ready m (turn.state.stages op) turn.state ≡ true)
-      (sym (left_same (nodes_at config i) s turn.state (step_sees_none config i s input turn is))) ready)
+      (sym (live_same (nodes_at config i) s turn.state (step_sees_none config i s input turn is))) ready)
 
   -- and a retry leaves its command not ready
   pub step_unready : (op : OpId) (turn : Turn State Message Report) → node_step config i s (Own (Retry op)) ≡ Some turn
-      → is_ready (left (nodes_at config i) turn.state) (turn.state.stages op) turn.state ≡ false
+      → is_ready (live_nodes (nodes_at config i) turn.state) (turn.state.stages op) turn.state ≡ false
   step_unready op turn is =
       let t = did_so config i s (Retry op) turn is in
       subst (λ m. is_ready m (turn.state.stages op) turn.state ≡ false)
-      (left_same (nodes_at config i) s turn.state (step_sees_none config i s (Own (Retry op)) turn is))
-      (subst (λ (z : Turn State Message Report). is_ready (left (nodes_at config i) s)
+      (live_same (nodes_at config i) s turn.state (step_sees_none config i s (Own (Retry op)) turn is))
+      (subst (λ (z : Turn State Message Report). is_ready (live_nodes (nodes_at config i) s)
       (z.state.stages op) z.state ≡ false) (sym t.2)
-      (retried_unready (left (nodes_at config i) s) (nodes_at config i) (ports_at config i) op s t.0 linked t.1))
+      (retried_unready (live_nodes (nodes_at config i) s) (nodes_at config i) (ports_at config i) op s t.0 linked t.1))
 
   -- and each other command ready as it was
   pub step_others : (op other : OpId) → op ≢ other → (turn : Turn State Message Report)
       → node_step config i s (Own (Retry op)) ≡ Some turn
-      → is_ready (left (nodes_at config i) turn.state) (turn.state.stages other) turn.state
-      ≡ is_ready (left (nodes_at config i) s) (s.stages other) s
+      → is_ready (live_nodes (nodes_at config i) turn.state) (turn.state.stages other) turn.state
+      ≡ is_ready (live_nodes (nodes_at config i) s) (s.stages other) s
   step_others op other differ turn is =
       let t = did_so config i s (Retry op) turn is in
       subst (λ m. is_ready m (turn.state.stages other) turn.state
-      ≡ is_ready (left (nodes_at config i) s) (s.stages other) s)
-      (left_same (nodes_at config i) s turn.state (step_sees_none config i s (Own (Retry op)) turn is))
-      (subst (λ (z : Turn State Message Report). is_ready (left (nodes_at config i) s) (z.state.stages other) z.state
-      ≡ is_ready (left (nodes_at config i) s) (s.stages other) s) (sym t.2)
-      (retried_others (left (nodes_at config i) s) (nodes_at config i) (ports_at config i) op other differ s t.0 linked t.1))
+      ≡ is_ready (live_nodes (nodes_at config i) s) (s.stages other) s)
+      (live_same (nodes_at config i) s turn.state (step_sees_none config i s (Own (Retry op)) turn is))
+      (subst (λ (z : Turn State Message Report). is_ready (live_nodes (nodes_at config i) s) (z.state.stages other) z.state
+      ≡ is_ready (live_nodes (nodes_at config i) s) (s.stages other) s) (sym t.2)
+      (retried_others (live_nodes (nodes_at config i) s) (nodes_at config i) (ports_at config i) op other differ s t.0 linked t.1))

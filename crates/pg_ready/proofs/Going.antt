@@ -27,7 +27,7 @@ use Rattle.pg_step.specs.FrameMachine.{losing_machine_of, node_step, place_turn,
 use Rattle.pg_step.specs.LossLaws.{LosingFrameWorld}
 use Rattle.pg_step.specs.Nodes.{Node, Nodes, every}
 use Rattle.pg_step.specs.Peers.{would_grant}
-use Rattle.pg_step.specs.State.{Stage, State, Status, Use, left}
+use Rattle.pg_step.specs.State.{Stage, State, Status, Use, live_nodes}
 use Rattle.pg_step.specs.State.Response.{Given}
 use Rattle.pg_step.specs.State.Stage.{Asking, Changing, Closed, Waiting}
 use Rattle.pg_step.specs.State.Use.{Fresh, Locking, Owning, Spent, Updating}
@@ -46,7 +46,7 @@ use Rattle.pg_history.proofs.steps.Made.{did_so}
 use Rattle.pg_history.proofs.steps.Single.{Makes, ok_is}
 use Rattle.pg_history.proofs.steps.Ways.{told_append}
 use Rattle.pg_loss.specs.Reached.{LosingReaches}
-use Rattle.pg_loss.proofs.Bridge.{left_same}
+use Rattle.pg_loss.proofs.Bridge.{live_same}
 use Rattle.pg_loss.proofs.Lossy.{Died, Makes as LossyMakes, Passed, Sees, Steps, Went, bare, makes, noted, passed}
 use Rattle.pg_ready.specs.Ready.{AsksOn, GaveUp, RetryGoesOn, HasBegun, IsAnswered, is_ready, is_ready_at}
 use Rattle.pg_ready.proofs.Holders.{all_linked}
@@ -168,7 +168,7 @@ module _ (config : Config) (es : List (LosingEvent Action)) (w v : LosingFrameWo
     all = changes (losing_machine_of config) (bare w).world (bare v).world (Do i (Retry op)) h
 
     module _ (t : NodeTurn) (same : h.turn ≡ mapped_turn Sent (place_turn config t)) (lost : t.state.lost ≡ (w.world.node i).state.lost)
-        (went : Turned (left (nodes_at config i) (w.world.node i).state) op t) where
+        (went : Turned (live_nodes (nodes_at config i) (w.world.node i).state) op t) where
       state_is : (v.world.node i).state ≡ t.state
       state_is = all.state ∙ ap (λ (z : Turn State (Noticed Message) Report). z.state) same
 
@@ -179,16 +179,16 @@ module _ (config : Config) (es : List (LosingEvent Action)) (w v : LosingFrameWo
       reported_is = all.reported ∙ ap (λ r. w.world.reported ++ (i, r) ∷ []) report_is
 
       -- it is not ready now
-      waits_now : (stage : Stage) → t.state.stages op ≡ stage → is_ready (left (nodes_at config i) (w.world.node i).state) stage t.state ≡ false → is_ready_at config v i op ≡ false
+      waits_now : (stage : Stage) → t.state.stages op ≡ stage → is_ready (live_nodes (nodes_at config i) (w.world.node i).state) stage t.state ≡ false → is_ready_at config v i op ≡ false
       waits_now stage at none =
-          subst (λ (z : State). is_ready (left (nodes_at config i) z) (z.stages op) z ≡ false) (sym state_is)
-          (subst (λ m. is_ready m (t.state.stages op) t.state ≡ false) (left_same (nodes_at config i) (w.world.node i).state t.state lost)
-          (subst (λ z. is_ready (left (nodes_at config i) (w.world.node i).state) z t.state ≡ false) (sym at) none))
+          subst (λ (z : State). is_ready (live_nodes (nodes_at config i) z) (z.stages op) z ≡ false) (sym state_is)
+          (subst (λ m. is_ready m (t.state.stages op) t.state ≡ false) (live_same (nodes_at config i) (w.world.node i).state t.state lost)
+          (subst (λ z. is_ready (live_nodes (nodes_at config i) (w.world.node i).state) z t.state ≡ false) (sym at) none))
 
       stage_now : (stage : Stage) → t.state.stages op ≡ stage → (v.world.node i).state.stages op ≡ stage
       stage_now stage at = ap (λ (z : State). z.stages op) state_is ∙ at
 
-      goes_so : WentOn (left (nodes_at config i) (w.world.node i).state) op t.state t.reported → RetryGoesOn config w v i op
+      goes_so : WentOn (live_nodes (nodes_at config i) (w.world.node i).state) op t.state t.reported → RetryGoesOn config w v i op
       goes_so (Answered closed gave) = IsAnswered
           (ap (λ ts. answers_by i ts op.port) reported_is ∙ (told_append (answer_by i op.port) w.world.reported ((i, t.reported) ∷ [])
           ∙ ap (λ xs. answers_by i w.world.reported op.port ++ xs) (append-nil (answer_by i op.port (i, t.reported))
@@ -210,7 +210,7 @@ module _ (config : Config) (es : List (LosingEvent Action)) (w v : LosingFrameWo
         let t = did_so config i (w.world.node i).state (Retry op) u made_own in
         gone_on t.0 (same ∙ ap (mapped_turn Sent) t.2)
         (ap (λ (z : Turn State Message Report). z.state.lost) (sym t.2) ∙ step_sees_none config i (w.world.node i).state (Own (Retry op)) u made_own)
-        (acted_goes (left (nodes_at config i) (w.world.node i).state) op (nodes_at config i) (ports_at config i) (w.world.node i).state t.0 (all_linked config es w l i) ready t.1)
+        (acted_goes (live_nodes (nodes_at config i) (w.world.node i).state) op (nodes_at config i) (ports_at config i) (w.world.node i).state t.0 (all_linked config es w l i) ready t.1)
     by_made (Sees p is not_yet same) = absurd (cc (some_is h.given ∙ is))
 
     goes_by : RetryGoesOn config w v i op
@@ -237,7 +237,7 @@ module _ (config : Config) (es : List (LosingEvent Action)) (w : LosingFrameWorl
   before = (w.world.node i).state
 
   abbrev counting : Nodes
-  counting = left (nodes_at config i) (w.world.node i).state
+  counting = live_nodes (nodes_at config i) (w.world.node i).state
 
   can : (waits counting (before.stages op) before ≡ true) × (is_open (before.stages op) ≡ true)
   can = ready_waits counting (before.stages op) before ready

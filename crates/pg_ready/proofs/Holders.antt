@@ -39,7 +39,7 @@ use Rattle.pg_step.specs.Losses.{forgets, see_loss}
 use Rattle.pg_step.specs.LossLaws.{LosingFrameWorld}
 use Rattle.pg_step.specs.Nodes.{Node, Nodes, every, greatest}
 use Rattle.pg_step.specs.Peers.{exchange, is_bad_exchange, would_grant}
-use Rattle.pg_step.specs.State.{Stage, State, Status, Use, left}
+use Rattle.pg_step.specs.State.{Stage, State, Status, Use, live_nodes}
 use Rattle.pg_step.specs.State.Stage.{Asking, Changing, Closed, Waiting}
 use Rattle.pg_step.specs.State.Status.{Unasked}
 use Rattle.pg_step.specs.State.Use.{Fresh, Locking, Owning, Spent, Updating}
@@ -228,17 +228,17 @@ module _ (m : Nodes) (P : RefParts → Type 0) (own : (c : ℕ) → P (own_refer
 -- ---- a step
 
 module _ (config : Config) (i : ℕ) (here : IsHere config i) (s : State) where
-  of_own : (c : ℕ) → IsOfNode config (own_reference (left (nodes_at config i) s) c)
+  of_own : (c : ℕ) → IsOfNode config (own_reference (live_nodes (nodes_at config i) s) c)
   of_own c = record { place = i; number = c; here = here; is = refl }
 
   step_keeps : (input : Input Message Action) (turn : Turn State Message Report) → node_step config i s input ≡ Some turn
       → ((p : ℕ) (x : Message) → input ≡ Taken p x → AsksWell (IsOfNode config) x) → Held (IsOfNode config) s.locks → Held (IsOfNode config) turn.state.locks
   step_keeps (Taken p x) turn is good h =
       let t = took_so config i s p x turn is in
-      subst (λ (u : Turn State Message Report). Held (IsOfNode config) u.state.locks) (sym t.2) (taken_keeps (left (nodes_at config i) s) (IsOfNode config) of_own (name_at config p) x s t.0 (good p x refl) t.1 h)
+      subst (λ (u : Turn State Message Report). Held (IsOfNode config) u.state.locks) (sym t.2) (taken_keeps (live_nodes (nodes_at config i) s) (IsOfNode config) of_own (name_at config p) x s t.0 (good p x refl) t.1 h)
   step_keeps (Own action) turn is good h =
       let t = did_so config i s action turn is in
-      subst (λ (u : Turn State Message Report). Held (IsOfNode config) u.state.locks) (sym t.2) (acted_keeps (left (nodes_at config i) s) (IsOfNode config) of_own (nodes_at config i) (ports_at config i) action s t.0 t.1 h)
+      subst (λ (u : Turn State Message Report). Held (IsOfNode config) u.state.locks) (sym t.2) (acted_keeps (live_nodes (nodes_at config i) s) (IsOfNode config) of_own (nodes_at config i) (ports_at config i) action s t.0 t.1 h)
 
 -- a request of node p is one under a reference of its own
 asks_own : (config : Config) (p : ℕ) (to : Node) (x : Message) → IsHere config p → IsOurs (name_at config p) to x → AsksWell (IsOfNode config) x

@@ -1,4 +1,4 @@
--- Where nothing is on the way to a node that is left, each lock that such a node gave is that of a ready command.
+-- Where nothing is on the way to a live node, each lock that such a node gave is that of a ready command.
 use Rattle.std.proofs.Common.{◌≡◌, ◌≢◌, ◌⊎◌, inl, inr, ℕ, Bool, true, false, map, List, [], ◌∷◌}
 use Rattle.std.proofs.Common.{Some, refl, ap, sym, ◌∙◌, subst}
 use Rattle.std.specs.List.{IsDistinct}
@@ -18,7 +18,7 @@ use Rattle.pg_step.specs.Attempts.{waits}
 use Rattle.pg_step.specs.Config.{Config, name_at, names_of, nodes_at}
 use Rattle.pg_step.specs.LossLaws.{LosingFrameWorld}
 use Rattle.pg_step.specs.Nodes.{Node, Nodes}
-use Rattle.pg_step.specs.State.{State, Status, Use, left}
+use Rattle.pg_step.specs.State.{State, Status, Use, live_nodes}
 use Rattle.pg_step.specs.State.Stage.{Asking, Changing}
 use Rattle.pg_step.specs.State.Status.{Asked, No, Unasked, Yes}
 use Rattle.pg_step.specs.State.Use.{Fresh, Locking, Owning, Spent, Updating}
@@ -34,7 +34,7 @@ use Rattle.pg_history.proofs.quiet.Rest.{pair_of}
 use Rattle.pg_history.proofs.quiet.Runs.{IsOfNode}
 use Rattle.pg_history.proofs.references.Keys.{terms}
 use Rattle.pg_history.proofs.references.References.{about, numbered_same}
-use Rattle.pg_loss.specs.Quiet.{IsQuietLeft}
+use Rattle.pg_loss.specs.Quiet.{IsQuietLive}
 use Rattle.pg_loss.specs.Reached.{LosingReaches}
 use Rattle.pg_loss.proofs.Bridge.{Left, live_at, near_at}
 use Rattle.pg_loss.proofs.Bridges.{Bridged, bridged}
@@ -84,7 +84,7 @@ has_lock name Fresh p f = absurd (cc f)
 has_lock name Spent p f = absurd f
 has_lock name (Updating op u c replied) p f = absurd (no_reply u name (replied p) f)
 
-module _ (config : Config) (apart : IsDistinct same_atom (names_of config)) (es : List (LosingEvent Action)) (w : LosingFrameWorld) (l : LosingReaches config es w) (quiet : IsQuietLeft config w)
+module _ (config : Config) (apart : IsDistinct same_atom (names_of config)) (es : List (LosingEvent Action)) (w : LosingFrameWorld) (l : LosingReaches config es w) (quiet : IsQuietLive config w)
     (i : ℕ) (here : IsHere config i) (lives : w.gone i ≡ false) (name : Term) (holder : RefParts) (is : (w.world.node i).state.locks name ≡ Some holder) where
   abbrev b : Bridged config apart (bare w)
   b = bridged config apart es w l
@@ -160,7 +160,7 @@ module _ (config : Config) (apart : IsDistinct same_atom (names_of config)) (es 
   links = all_linked config es w l known.place
 
   abbrev m : Nodes
-  m = left (nodes_at config known.place) (w.world.node known.place).state
+  m = live_nodes (nodes_at config known.place) (w.world.node known.place).state
 
   waits_so : (op : OpId) → waits m ((w.world.node known.place).state.stages op) (w.world.node known.place).state ≡ is_open ((w.world.node known.place).state.stages op)
   waits_so op = waits_for_retries config apart es w l quiet known.place known.here j_lives op

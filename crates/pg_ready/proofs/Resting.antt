@@ -34,12 +34,12 @@ use Rattle.pg_history.proofs.ends.Apart.{pair_first, pair_second, pair_swapped}
 use Rattle.pg_history.proofs.places.Shown.{IsHere}
 use Rattle.pg_history.proofs.quiet.Sums.{find_place}
 use Rattle.pg_history.proofs.steps.Ways.{packet_there, pair_there}
-use Rattle.pg_loss.specs.Quiet.{IsQuietLeft, most_takes_left}
+use Rattle.pg_loss.specs.Quiet.{IsQuietLive, most_takes_live}
 use Rattle.pg_loss.specs.Reached.{LosingReaches}
 use Rattle.pg_loss.proofs.Survives.{packets_heard}
 use Rattle.pg_loss.proofs.Takes.{takes_end}
 use Rattle.pg_left.proofs.Passing.{Leads, Leaves, leads_more}
-use Rattle.pg_ready.specs.Ready.{HasRoomLeft}
+use Rattle.pg_ready.specs.Ready.{HasRoomLive}
 use Rattle.pg_ready.proofs.Silence.{all_silent}
 
 abbrev Notice : Type 0
@@ -143,7 +143,7 @@ on_time config es w l =
 -- an event takes one from the room
 module _ (config : Config) (w v : LosingFrameWorld) (d : Event Action)
     (h : Happened (losing_frame_machine config) w.world d v.world) (k : ℕ) (times : OnTime w)
-    (room : HasRoomLeft config w (suc k)) where
+    (room : HasRoomLive config w (suc k)) where
   next_within : IsHere config (node_of d) → (input : Input (Stamped (Noticed Message)) Action) → h.input ≡ input
       → next_clock (w.world.node (node_of d)).clock input + k ≤ CLOCK_LIMIT
   next_within here (Own action) is = let own : (w.world.node (node_of d)).clock + suc k ≤ CLOCK_LIMIT =
@@ -159,7 +159,7 @@ module _ (config : Config) (w v : LosingFrameWorld) (d : Event Action)
       let peer : (w.world.node p).clock + suc k ≤ CLOCK_LIMIT = room p there in
       omega (arith, stamp, own, peer)
 
-  pub room_left : HasRoomLeft config v k
+  pub room_left : HasRoomLive config v k
   room_left i here = go (cases_eq i (node_of d))
     where
       go : (i ≡ node_of d) ⊎ (i ≡ node_of d → ⊥) → (v.world.node i).clock + k ≤ CLOCK_LIMIT
@@ -242,7 +242,7 @@ module _ (config : Config) (apart : IsDistinct same_atom (names_of config)) wher
 
   -- where all clocks have
   pub next_is_taken : (es : List (LosingEvent Action)) (w : LosingFrameWorld) (l : LosingReaches config es w)
-      → HasRoomLeft config w 1 → (x y : ℕ) (packet : Notice) (rest : List Notice)
+      → HasRoomLive config w 1 → (x y : ℕ) (packet : Notice) (rest : List Notice)
       → is_pair (length config) x y ≡ true → w.gone y ≡ false → w.world.wire x y ≡ packet ∷ rest
       → (v : LosingFrameWorld) × Leaves config w (Step (Take y x)) v
   next_is_taken es w l room x y packet rest pair lives is =
@@ -287,10 +287,10 @@ module _ (config : Config) (apart : IsDistinct same_atom (names_of config)) wher
       go (inl found) = inl found.1
       go (inr none) = inr none
 
-  pub next_or_quiet : (w : LosingFrameWorld) → Next w ⊎ IsQuietLeft config w
+  pub next_or_quiet : (w : LosingFrameWorld) → Next w ⊎ IsQuietLive config w
   next_or_quiet w = go (find_place n (λ a. Next w) (λ a. (b : ℕ) → b < n → IsEmpty w a b) (at_node w))
     where
-      go : ((a : ℕ) × Next w) ⊎ ((a : ℕ) → a < n → (b : ℕ) → b < n → IsEmpty w a b) → Next w ⊎ IsQuietLeft config w
+      go : ((a : ℕ) × Next w) ⊎ ((a : ℕ) → a < n → (b : ℕ) → b < n → IsEmpty w a b) → Next w ⊎ IsQuietLive config w
       go (inl found) = inl found.1
       go (inr none) = inr
           (λ a b pair lives. none a (below a (pair_first n a b pair)) b (below b (pair_second n a b pair)) pair lives)
@@ -301,7 +301,7 @@ module _ (config : Config) (apart : IsDistinct same_atom (names_of config)) wher
     pub world : LosingFrameWorld
     pub only : OnlyTakes takes
     pub leads : Leads config w (all_steps takes) world
-    pub quiet : IsQuietLeft config world
+    pub quiet : IsQuietLive config world
 
   one_take : (ts : List (Event Action)) (i p : ℕ) → OnlyTakes ts → OnlyTakes (ts ++ Take i p ∷ [])
   one_take [] i p only = tt
@@ -317,12 +317,12 @@ module _ (config : Config) (apart : IsDistinct same_atom (names_of config)) wher
     -- so many takes can follow at most, and one that is next would be one more
     rests_within : (k : ℕ) (ts : List (Event Action)) (done : List (LosingEvent Action)) (u : LosingFrameWorld)
         → OnlyTakes ts → Leads config w (all_steps ts) u → LosingReaches config done u
-        → k + length ts ≡ most_takes_left config w + 1 → HasRoomLeft config u k → Next u ⊎ IsQuietLeft config u
+        → k + length ts ≡ most_takes_live config w + 1 → HasRoomLive config u k → Next u ⊎ IsQuietLive config u
         → Rests w
     rests_within k ts done u only leads reached count room (inr quiet) =
         record { takes = ts; world = u; only = only; leads = leads; quiet = quiet }
     rests_within zero ts done u only leads reached count room (inl next) =
-        let few : length ts ≤ most_takes_left config w = takes_end config apart es w l ts u only leads in
+        let few : length ts ≤ most_takes_live config w = takes_end config apart es w l ts u only leads in
         absurd (omega (arith, few, count))
     rests_within (suc k) ts done u only leads reached count room (inl next) =
         let d : Event Action = Take next.to next.from in
@@ -338,6 +338,6 @@ module _ (config : Config) (apart : IsDistinct same_atom (names_of config)) wher
         (leads_more config done (nobody_gone (start_of (losing_frame_machine config))) u one.0 (Step d) reached one.1)
         (omega (arith, many, count)) left (next_or_quiet one.0)
 
-    pub comes_to_rest : HasRoomLeft config w (most_takes_left config w + 1) → Rests w
+    pub comes_to_rest : HasRoomLive config w (most_takes_live config w + 1) → Rests w
     comes_to_rest room =
-        rests_within (most_takes_left config w + 1) [] es w tt refl l (omega arith) room (next_or_quiet w)
+        rests_within (most_takes_live config w + 1) [] es w tt refl l (omega arith) room (next_or_quiet w)

@@ -16,7 +16,7 @@ use Rattle.pg_step.specs.Config.{Config, name_at, names_of, nodes_at}
 use Rattle.pg_step.specs.FrameMachine.{losing_frame_machine, losing_machine_of, node_step}
 use Rattle.pg_step.specs.LossLaws.{LosingFrameWorld}
 use Rattle.pg_step.specs.Nodes.{Node}
-use Rattle.pg_step.specs.State.{State, left}
+use Rattle.pg_step.specs.State.{State, live_nodes}
 use Rattle.pg_step.specs.Step.{Action, Issue, Retry}
 use Rattle.pg_step.specs.Turns.{Report}
 use Rattle.pg_step.specs.declared.command.OpId.{OpId}
@@ -26,13 +26,13 @@ use Rattle.pg_history.proofs.places.Shown.{IsHere}
 use Rattle.pg_history.proofs.references.Keys.{atoms, numbers, upd_same}
 use Rattle.pg_history.proofs.steps.Lossless.{step_sees_none}
 use Rattle.pg_history.proofs.steps.Ways.{own_place, packet_there, pair_there, state_after}
-use Rattle.pg_loss.specs.Quiet.{IsQuietLeft}
+use Rattle.pg_loss.specs.Quiet.{IsQuietLive}
 use Rattle.pg_loss.specs.Reached.{LosingReaches}
 use Rattle.pg_loss.proofs.Bridge.{Left, not_true}
 use Rattle.pg_loss.proofs.Bridges.{Bridged, bridged}
 use Rattle.pg_loss.proofs.Lossy.{Died, Makes, Passed, Sees, Steps, Went, bare, makes, passed}
 use Rattle.pg_left.proofs.Passing.{Leads, Leaves, leads_more}
-use Rattle.pg_ready.specs.Ready.{EachIsRetried, LossesSeen, NoLockLeft, NoneReadyLeft, OfReady, is_ready}
+use Rattle.pg_ready.specs.Ready.{EachIsRetried, LossesSeen, NoLockLive, NoneReadyLive, OfReady, is_ready}
 use Rattle.pg_ready.specs.Ready.{is_ready_at, is_retried}
 use Rattle.pg_ready.proofs.Fewer.{step_makes_none, step_others, step_unready}
 use Rattle.pg_ready.proofs.Going.{no_loss, own_given, retry_is}
@@ -42,8 +42,8 @@ use Rattle.pg_ready.proofs.Ready.{of_ready}
 -- ---- where none is ready
 
 pub no_lock : (config : Config) → IsDistinct same_atom (names_of config)
-    → (es : List (LosingEvent Action)) (w : LosingFrameWorld) → LosingReaches config es w → IsQuietLeft config w
-    → NoneReadyLeft config w → NoLockLeft config w
+    → (es : List (LosingEvent Action)) (w : LosingFrameWorld) → LosingReaches config es w → IsQuietLive config w
+    → NoneReadyLive config w → NoLockLive config w
 no_lock config apart es w l quiet none i name here lives = go ((w.world.node i).state.locks name) refl
   where
     go : (o : Option RefParts) → (w.world.node i).state.locks name ≡ o → (w.world.node i).state.locks name ≡ None
@@ -64,7 +64,7 @@ module _ (config : Config) (es : List (LosingEvent Action)) (w v : LosingFrameWo
     (l : LosingReaches config es w) where
   -- what is ready in a state of node i was ready
   abbrev WasReady : ℕ → OpId → State → Type 0
-  WasReady i op s = is_ready (left (nodes_at config i) s) (s.stages op) s ≡ true → is_ready_at config w i op ≡ true
+  WasReady i op s = is_ready (live_nodes (nodes_at config i) s) (s.stages op) s ≡ true → is_ready_at config w i op ≡ true
 
   abbrev SameLost : ℕ → State → Type 0
   SameLost i s = s.lost ≡ (w.world.node i).state.lost
@@ -105,9 +105,9 @@ module _ (config : Config) (es : List (LosingEvent Action)) (w v : LosingFrameWo
       where
         turned : (input : Input (Noticed Message) Action) (turn : Turn State (Noticed Message) Report)
             → Own (Retry op) ≡ input → Makes config i (w.world.node i).state input turn
-            → is_ready (left (nodes_at config i) turn.state) (turn.state.stages op) turn.state ≡ false
+            → is_ready (live_nodes (nodes_at config i) turn.state) (turn.state.stages op) turn.state ≡ false
         turned input turn own (Steps given t is made same) =
-            subst (λ (z : Turn State (Noticed Message) Report). is_ready (left (nodes_at config i) z.state)
+            subst (λ (z : Turn State (Noticed Message) Report). is_ready (live_nodes (nodes_at config i) z.state)
             (z.state.stages op) z.state ≡ false) (sym same)
             (step_unready config i (w.world.node i).state (all_linked config es w l i) op t
             (subst (λ z. node_step config i (w.world.node i).state z ≡ Some t)
@@ -117,7 +117,7 @@ module _ (config : Config) (es : List (LosingEvent Action)) (w v : LosingFrameWo
         by : Happened (losing_machine_of config) (bare w).world (Do i (Retry op)) (bare v).world
             → is_ready_at config v i op ≡ false
         by h = state_after (losing_machine_of config) (bare w).world (bare v).world (Do i (Retry op)) h
-            (λ (s : State). is_ready (left (nodes_at config i) s) (s.stages op) s ≡ false) i
+            (λ (s : State). is_ready (live_nodes (nodes_at config i) s) (s.stages op) s ≡ false) i
             (λ own. turned h.input h.turn (some_is h.given)
             (makes config i (w.world.node i).state h.input h.turn h.made)) (λ other. absurd (other refl))
 
@@ -133,10 +133,10 @@ module _ (config : Config) (es : List (LosingEvent Action)) (w v : LosingFrameWo
       where
         turned : (op ≢ other) → (input : Input (Noticed Message) Action) (turn : Turn State (Noticed Message) Report)
             → Own (Retry op) ≡ input → Makes config i (w.world.node i).state input turn
-            → is_ready (left (nodes_at config i) turn.state) (turn.state.stages other) turn.state
+            → is_ready (live_nodes (nodes_at config i) turn.state) (turn.state.stages other) turn.state
             ≡ is_ready_at config w i other
         turned apart input turn own (Steps given t is made same) =
-            subst (λ (z : Turn State (Noticed Message) Report). is_ready (left (nodes_at config i) z.state)
+            subst (λ (z : Turn State (Noticed Message) Report). is_ready (live_nodes (nodes_at config i) z.state)
             (z.state.stages other) z.state ≡ is_ready_at config w i other) (sym same)
             (step_others config i (w.world.node i).state (all_linked config es w l i) op other apart t
             (subst (λ z. node_step config i (w.world.node i).state z ≡ Some t)
@@ -146,9 +146,9 @@ module _ (config : Config) (es : List (LosingEvent Action)) (w v : LosingFrameWo
         by : Happened (losing_machine_of config) (bare w).world (Do i (Retry op)) (bare v).world
             → is_ready_at config v j other ≡ is_ready_at config w j other
         by h = state_after (losing_machine_of config) (bare w).world (bare v).world (Do i (Retry op)) h
-            (λ (s : State). is_ready (left (nodes_at config j) s) (s.stages other) s
+            (λ (s : State). is_ready (live_nodes (nodes_at config j) s) (s.stages other) s
             ≡ is_ready_at config w j other) j
-            (λ own. subst (λ k. is_ready (left (nodes_at config k) h.turn.state) (h.turn.state.stages other) h.turn.state
+            (λ own. subst (λ k. is_ready (live_nodes (nodes_at config k) h.turn.state) (h.turn.state.stages other) h.turn.state
             ≡ is_ready_at config w k other) (sym own) (turned (differ own) h.input h.turn (some_is h.given)
             (makes config i (w.world.node i).state h.input h.turn h.made))) (λ _. refl)
 
@@ -259,13 +259,13 @@ module _ (config : Config) (apart : IsDistinct same_atom (names_of config)) wher
   module _ (es : List (LosingEvent Action)) (w v : LosingFrameWorld) (l : LosingReaches config es w)
       (steps : List (Event Action)) (seen : LossesSeen config w)
       (more : Leads config w (all_steps steps) v) (each : EachIsRetried config w steps) where
-    pub none_ready : NoneReadyLeft config v
+    pub none_ready : NoneReadyLive config v
     none_ready i op here lives = not_true (is_ready_at config v i op) (λ ready.
         let fewer = fewer_ready i op steps es w v l seen more ready in
         absurd (cc (sym fewer.1
         ∙ each i op here (ap (λ (f : ℕ → Bool). f i) (sym (gone_later steps w v more)) ∙ lives) fewer.0)))
 
-    pub locks_freed : IsQuietLeft config v → NoLockLeft config v
+    pub locks_freed : IsQuietLive config v → NoLockLive config v
     locks_freed quiet =
         let later = reached_later (all_steps steps) es w v l more in
         no_lock config apart later.0 v later.1 quiet none_ready

@@ -14,7 +14,7 @@ use Rattle.pg_step.specs.Attempts.{same_op}
 use Rattle.pg_step.specs.Config.{Config, names_of, nodes_at, ports_at}
 use Rattle.pg_step.specs.FrameMachine.{losing_frame_machine}
 use Rattle.pg_step.specs.LossLaws.{LosingFrameWorld}
-use Rattle.pg_step.specs.State.{State, left}
+use Rattle.pg_step.specs.State.{State, live_nodes}
 use Rattle.pg_step.specs.Step.{Action, CLOCK_LIMIT, Issue, Retry}
 use Rattle.pg_step.specs.declared.command.OpId.{OpId}
 use Rattle.pg_history.specs.Counted.{how_many, is_open, open_at, open_in, open_number}
@@ -22,12 +22,12 @@ use Rattle.pg_history.proofs.locks.Stages.{commands}
 use Rattle.pg_history.proofs.places.Shown.{IsHere}
 use Rattle.pg_history.proofs.quiet.Sums.{find_place, total, total_le, total_lower, total_term}
 use Rattle.pg_history.proofs.references.Keys.{numbers}
-use Rattle.pg_loss.specs.Quiet.{left_open}
+use Rattle.pg_loss.specs.Quiet.{live_open}
 use Rattle.pg_loss.specs.Reached.{LosingReaches}
 use Rattle.pg_loss.proofs.Bridge.{not_true}
 use Rattle.pg_loss.proofs.Counting.{all_count}
 use Rattle.pg_left.proofs.Passing.{Leads, Leaves, leads_more}
-use Rattle.pg_ready.specs.Ready.{EachIsRetried, HasRoomLeft, LossesSeen, NoneReadyLeft, OnlyReady, OnlyRetries}
+use Rattle.pg_ready.specs.Ready.{EachIsRetried, HasRoomLive, LossesSeen, NoneReadyLive, OnlyReady, OnlyRetries}
 use Rattle.pg_ready.specs.Ready.{is_ready_at, is_retried}
 use Rattle.pg_ready.proofs.Going.{can_retry, ready_waits}
 use Rattle.pg_ready.proofs.Resting.{more_steps, on_time, room_left, went}
@@ -113,7 +113,7 @@ module _ (config : Config) (apart : IsDistinct same_atom (names_of config)) (es 
   spot : (i : ℕ) (op : OpId) → is_ready_at config w i op ≡ true → Spot i op
   spot i op ready =
       let s : State = (w.world.node i).state in
-      let opened : is_open (s.stages op) ≡ true = (ready_waits (left (nodes_at config i) s) (s.stages op) s ready).1 in
+      let opened : is_open (s.stages op) ≡ true = (ready_waits (live_nodes (nodes_at config i) s) (s.stages op) s ready).1 in
       let all = (all_count config es w i l).counts in
       let there = all.within op opened in
       let number = number_is op.number there.0 in
@@ -135,7 +135,7 @@ module _ (config : Config) (apart : IsDistinct same_atom (names_of config)) (es 
       → is_open ((w.world.node i).state.stages op) ≡ true
   open_ready i op false e = absurd (cc e)
   open_ready i op true e =
-      (ready_waits (left (nodes_at config i) (w.world.node i).state) ((w.world.node i).state.stages op)
+      (ready_waits (live_nodes (nodes_at config i) (w.world.node i).state) ((w.world.node i).state.stages op)
       (w.world.node i).state e).1
 
   few_at : (i : ℕ) → at_node w i ≤ (w.world.node i).state.opened
@@ -160,7 +160,7 @@ module _ (config : Config) (apart : IsDistinct same_atom (names_of config)) (es 
           (open_ready i (op_of port k) (not (w.gone i)))) in
           omega (arith, same, less)
 
-  few_ready : ready_many w ≤ left_open config w
+  few_ready : ready_many w ≤ live_open config w
   few_ready = total_le (length config) (at_node w) (λ i. (w.world.node i).state.opened) (λ i _. few_at i)
 
   record Found (u : LosingFrameWorld) : Type 0 where
@@ -311,8 +311,8 @@ module _ (config : Config) (apart : IsDistinct same_atom (names_of config)) (es 
     -- those that were ready, and no others
     pub each : EachIsRetried config w retries
     pub were : OnlyReady config w retries
-    pub none : NoneReadyLeft config world
-    pub left : HasRoomLeft config world room
+    pub none : NoneReadyLive config world
+    pub left : HasRoomLive config world room
 
   -- and what each retry of a ready command keeps is kept
   module _ (room : ℕ) (Q : LosingFrameWorld → Type 0)
@@ -355,7 +355,7 @@ module _ (config : Config) (apart : IsDistinct same_atom (names_of config)) (es 
     gone_as ts done u so = gone_later config apart ts w u so.leads
 
     retried_within : (k : ℕ) (ts : List (Event Action)) (done : List (LosingEvent Action)) (u : LosingFrameWorld)
-        → (so : Sofar ts done u) → ready_many u ≤ k → HasRoomLeft config u (k + room)
+        → (so : Sofar ts done u) → ready_many u ≤ k → HasRoomLive config u (k + room)
         → Found u ⊎ ((i : ℕ) (op : OpId) → IsHere config i → w.gone i ≡ false → is_ready_at config u i op ≡ false)
         → RetriedAll room Q
     retried_within k ts done u so few free (inr none) = record {
@@ -408,7 +408,7 @@ module _ (config : Config) (apart : IsDistinct same_atom (names_of config)) (es 
         (λ i here. let all : (u.world.node i).clock + (suc k + room) ≤ CLOCK_LIMIT = free i here in omega (arith, all)))
         (next_ready v (since_w (ts ++ d ∷ []) (done ++ Step d ∷ []) v later))
 
-    pub retried_all : HasRoomLeft config w (left_open config w + room) → Q w → RetriedAll room Q
+    pub retried_all : HasRoomLive config w (live_open config w + room) → Q w → RetriedAll room Q
     retried_all free first =
         let now : Sofar [] es w = record { kept = first; still = λ i op ready _. ready; were = λ i op tried. absurd (cc tried); only = tt; leads = refl; reached = l; seen_there = seen } in
-        retried_within (left_open config w) [] es w now few_ready free (next_ready w (since_w [] es w now))
+        retried_within (live_open config w) [] es w now few_ready free (next_ready w (since_w [] es w now))

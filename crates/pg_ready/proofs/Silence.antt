@@ -24,13 +24,13 @@ use Rattle.pg_history.proofs.quiet.Rest.{pair_of}
 use Rattle.pg_history.proofs.references.Keys.{atoms, read_other, split}
 use Rattle.pg_history.proofs.steps.Lossless.{step_sees_none}
 use Rattle.pg_history.proofs.steps.Ways.{Grown, Shorter, Unchanged, WayAfter, pair_there, state_after, way_after}
-use Rattle.pg_loss.specs.Quiet.{IsQuietLeft}
+use Rattle.pg_loss.specs.Quiet.{IsQuietLive}
 use Rattle.pg_loss.specs.Reached.{LosingReaches}
 use Rattle.pg_loss.proofs.Bridge.{Left}
 use Rattle.pg_loss.proofs.Bridges.{Bridged, bridged}
 use Rattle.pg_loss.proofs.Lossy.{Died, Lossy, Makes, Passed, Sees, Steps, Went, bare, makes, passed}
 use Rattle.pg_loss.proofs.Retries.{lost_waits}
-use Rattle.pg_ready.specs.Ready.{IsQuietAmongLeft}
+use Rattle.pg_ready.specs.Ready.{IsQuietAmongLive}
 use Rattle.pg_left.proofs.Passing.{kept_all, leads_more}
 
 -- behind a last notice there is nothing
@@ -118,8 +118,8 @@ module _ (config : Config) (apart : IsDistinct same_atom (names_of config)) wher
     b : Bridged config apart (bare w)
     b = bridged config apart es w l
 
-    pub among_left : IsQuietLeft config w → IsQuietAmongLeft config w
-    among_left quiet = record {
+    pub among_live : IsQuietLive config w → IsQuietAmongLive config w
+    among_live quiet = record {
       seen = λ i here lives p there gone. saw i here lives p there gone (cases_eq p i) ((w.world.node i).state.lost (name_at config p)) refl;
       none = λ x y pair _ lives. quiet x y pair lives;
     }
@@ -133,8 +133,8 @@ module _ (config : Config) (apart : IsDistinct same_atom (names_of config)) wher
             let lives_p : w.gone p ≡ false = lost_waits (w.gone p) (b.has.ways p i) (subst (λ z. Left (w.gone p) z (b.has.ways p i)) way (b.has.cut p i there here other is)) in
             absurd (cc (sym gone ∙ lives_p))
 
-    pub from_left : IsQuietAmongLeft config w → IsQuietLeft config w
-    from_left quiet x y pair lives = go (w.gone x) refl
+    pub from_among : IsQuietAmongLive config w → IsQuietLive config w
+    from_among quiet x y pair lives = go (w.gone x) refl
       where
         hx : IsHere config x
         hx = pair_first (length config) x y pair

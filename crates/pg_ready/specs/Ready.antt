@@ -16,7 +16,7 @@ use Rattle.pg_step.specs.Config.{Config, name_at, nodes_at}
 use Rattle.pg_step.specs.FrameMachine.{last_notice, losing_frame_machine}
 use Rattle.pg_step.specs.LossLaws.{LosingFrameWorld}
 use Rattle.pg_step.specs.Nodes.{Node, Nodes}
-use Rattle.pg_step.specs.State.{Stage, State, Status, left}
+use Rattle.pg_step.specs.State.{Stage, State, Status, live_nodes}
 use Rattle.pg_step.specs.State.Response.{Given}
 use Rattle.pg_step.specs.State.Stage.{Asking, Changing, Closed, Waiting}
 use Rattle.pg_step.specs.State.Use.{Locking, Updating}
@@ -26,11 +26,11 @@ use Rattle.pg_step.specs.declared.command.OpId.{OpId}
 use Rattle.pg_history.specs.History.{answers_by, entries}
 use Rattle.pg_history.specs.Quiet.{OnlyTakes}
 use Rattle.pg_loss.specs.Agreeing.{SawAll}
-use Rattle.pg_loss.specs.Quiet.{IsQuietLeft, left_open, most_takes_left}
+use Rattle.pg_loss.specs.Quiet.{IsQuietLive, live_open, most_takes_live}
 
--- Each node that is left has seen each loss, and nothing is on the way between two of them. What is on the way to a lost
+-- Each live node has seen each loss, and nothing is on the way between two of them. What is on the way to a lost
 -- node stays.
-pub record IsQuietAmongLeft (config : Config) (w : LosingFrameWorld) : Type 0 where
+pub record IsQuietAmongLive (config : Config) (w : LosingFrameWorld) : Type 0 where
   pub seen : (i : ℕ) → is_place (length config) i ≡ true → w.gone i ≡ false → SawAll config w i
   pub none : (x y : ℕ) → is_pair (length config) x y ≡ true → w.gone x ≡ false → w.gone y ≡ false → w.world.wire x y ≡ []
 
@@ -42,19 +42,19 @@ is_ready m stage s = false
 
 -- a command of node i is ready
 abbrev pub is_ready_at : Config → LosingFrameWorld → ℕ → OpId → Bool
-is_ready_at config w i op = is_ready (left (nodes_at config i) (w.world.node i).state) ((w.world.node i).state.stages op) (w.world.node i).state
+is_ready_at config w i op = is_ready (live_nodes (nodes_at config i) (w.world.node i).state) ((w.world.node i).state.stages op) (w.world.node i).state
 
--- no command of a node that is left is ready
-abbrev pub NoneReadyLeft : Config → LosingFrameWorld → Type 0
-NoneReadyLeft config w = (i : ℕ) (op : OpId)
+-- no command of a live node is ready
+abbrev pub NoneReadyLive : Config → LosingFrameWorld → Type 0
+NoneReadyLive config w = (i : ℕ) (op : OpId)
     → is_place (length config) i ≡ true → w.gone i ≡ false → is_ready_at config w i op ≡ false
 
--- no node that is left holds the lock of any name, for whomever
-abbrev pub NoLockLeft : Config → LosingFrameWorld → Type 0
-NoLockLeft config w = (i : ℕ) (name : Term)
+-- no live node holds the lock of any name, for whomever
+abbrev pub NoLockLive : Config → LosingFrameWorld → Type 0
+NoLockLive config w = (i : ℕ) (name : Term)
     → is_place (length config) i ≡ true → w.gone i ≡ false → (w.world.node i).state.locks name ≡ None
 
--- each node that is left has seen each loss
+-- each live node has seen each loss
 abbrev pub LossesSeen : Config → LosingFrameWorld → Type 0
 LossesSeen config w = (i : ℕ) → is_place (length config) i ≡ true → w.gone i ≡ false → SawAll config w i
 
@@ -72,7 +72,7 @@ OnlyRetries (Take j p ∷ events) = ⊥
 OnlyRetries (Do j (Issue port c) ∷ events) = ⊥
 OnlyRetries (Do j (Retry op) ∷ events) = OnlyRetries events
 
--- each ready command of a node that is left is tried again by one of these events
+-- each ready command of a live node is tried again by one of these events
 abbrev pub EachIsRetried : Config → LosingFrameWorld → List (Event Action) → Type 0
 EachIsRetried config w events = (i : ℕ) (op : OpId) → is_place (length config) i ≡ true → w.gone i ≡ false
     → is_ready_at config w i op ≡ true → is_retried i op events ≡ true
@@ -82,8 +82,8 @@ abbrev pub OnlyReady : Config → LosingFrameWorld → List (Event Action) → T
 OnlyReady config w events = (i : ℕ) (op : OpId) → is_retried i op events ≡ true → is_ready_at config w i op ≡ true
 
 -- no clock is nearer to its limit than so many events, of a lost node neither, since what it sent may be on the way
-abbrev pub HasRoomLeft : Config → LosingFrameWorld → ℕ → Type 0
-HasRoomLeft config w events = (i : ℕ)
+abbrev pub HasRoomLive : Config → LosingFrameWorld → ℕ → Type 0
+HasRoomLive config w events = (i : ℕ)
     → is_place (length config) i ≡ true → (w.world.node i).clock + events ≤ CLOCK_LIMIT
 
 -- The holder of the lock of a group is a reference of a node that is not lost, and of a ready command of it.
@@ -103,7 +103,7 @@ pub record OfReady (config : Config) (w : LosingFrameWorld) (name : Term) (holde
 
 -- What a retry of a ready command of node i comes to at once, from the world w to the world v.
 pub data RetryGoesOn (config : Config) (w v : LosingFrameWorld) (i : ℕ) (op : OpId) : Type 0 where
-  -- each node that is left has its update: it is answered ok
+  -- each live node has its update: it is answered ok
   IsAnswered : answers_by i v.world.reported op.port ≡ answers_by i w.world.reported op.port ++ (op.number, Given reply.Ok) ∷ []
       → (v.world.node i).state.stages op ≡ Closed → RetryGoesOn config w v i op
   -- it has the last grant: its update enters the history, and goes out
@@ -116,12 +116,12 @@ pub data RetryGoesOn (config : Config) (w v : LosingFrameWorld) (i : ℕ) (op : 
 
 -- What becomes of commands that a loss has left ready, where a world is reached.
 pub record ReadyGoOn (config : Config) (w : LosingFrameWorld) : Type 0 where
-  -- nothing is on the way to a node that is left exactly where each has seen each loss, and nothing is on the way between two of them
-  pub silence : IsQuietLeft config w ↔ IsQuietAmongLeft config w
+  -- nothing is on the way to a live node exactly where each has seen each loss, and nothing is on the way between two of them
+  pub silence : IsQuietLive config w ↔ IsQuietAmongLive config w
   -- there a lock that is held at such a node is that of a ready command, and where none is ready none is held
-  pub holders : (i : ℕ) (name : Term) (holder : RefParts) → IsQuietLeft config w → is_place (length config) i ≡ true → w.gone i ≡ false
+  pub holders : (i : ℕ) (name : Term) (holder : RefParts) → IsQuietLive config w → is_place (length config) i ≡ true → w.gone i ≡ false
       → (w.world.node i).state.locks name ≡ Some holder → OfReady config w name holder
-  pub free : IsQuietLeft config w → NoneReadyLeft config w → NoLockLeft config w
+  pub free : IsQuietLive config w → NoneReadyLive config w → NoLockLive config w
   -- a ready command can be tried again, where the clock of its node is not full, and goes on
   pub tried : (i : ℕ) (op : OpId) → is_ready_at config w i op ≡ true → is_place (length config) i ≡ true → w.gone i ≡ false → (w.world.node i).clock + 1 ≤ CLOCK_LIMIT
       → (v : LosingFrameWorld) × (losing_happens (losing_frame_machine config) last_notice w (Step (Do i (Retry op))) ≡ Some v)
@@ -129,21 +129,21 @@ pub record ReadyGoOn (config : Config) (w : LosingFrameWorld) : Type 0 where
       → losing_happens (losing_frame_machine config) last_notice w (Step (Do i (Retry op))) ≡ Some v → RetryGoesOn config w v i op
   -- once each was tried again, in whatever order and whatever else came in, none is ready; and where nothing is on the way then, no lock is held
   pub retried : (v : LosingFrameWorld) (steps : List (Event Action)) → LossesSeen config w → LosingLeads (losing_frame_machine config) last_notice w (all_steps steps) v
-      → EachIsRetried config w steps → NoneReadyLeft config v
+      → EachIsRetried config w steps → NoneReadyLive config v
   pub freed : (v : LosingFrameWorld) (steps : List (Event Action)) → LossesSeen config w → LosingLeads (losing_frame_machine config) last_notice w (all_steps steps) v
-      → EachIsRetried config w steps → IsQuietLeft config v → NoLockLeft config v
+      → EachIsRetried config w steps → IsQuietLive config v → NoLockLive config v
   -- after a retry each other command is ready exactly where it was before
   pub others : (v : LosingFrameWorld) (i j : ℕ) (op other : OpId) → losing_happens (losing_frame_machine config) last_notice w (Step (Do i (Retry op))) ≡ Some v
       → (j ≡ i → op ≢ other) → is_ready_at config v j other ≡ is_ready_at config w j other
   -- with room in the clocks the ready commands, and no others, can be tried again one after another
-  pub all : (room : ℕ) → LossesSeen config w → HasRoomLeft config w (left_open config w + room)
+  pub all : (room : ℕ) → LossesSeen config w → HasRoomLive config w (live_open config w + room)
       → (retries : List (Event Action)) × (v : LosingFrameWorld) × OnlyRetries retries
       × LosingLeads (losing_frame_machine config) last_notice w (all_steps retries) v × EachIsRetried config w retries × OnlyReady config w retries
-      × NoneReadyLeft config v × HasRoomLeft config v room
-  -- and each packet that is next on its way to a node that is left can be taken, until nothing is
-  pub taken : (x y : ℕ) (packet : Stamped (Noticed Message)) (rest : List (Stamped (Noticed Message))) → HasRoomLeft config w 1
+      × NoneReadyLive config v × HasRoomLive config v room
+  -- and each packet that is next on its way to a live node can be taken, until nothing is
+  pub taken : (x y : ℕ) (packet : Stamped (Noticed Message)) (rest : List (Stamped (Noticed Message))) → HasRoomLive config w 1
       → is_pair (length config) x y ≡ true → w.gone y ≡ false → w.world.wire x y ≡ packet ∷ rest
       → (v : LosingFrameWorld) × (losing_happens (losing_frame_machine config) last_notice w (Step (Take y x)) ≡ Some v)
-  pub rests : HasRoomLeft config w (most_takes_left config w + 1)
+  pub rests : HasRoomLive config w (most_takes_live config w + 1)
       → (takes : List (Event Action)) × (v : LosingFrameWorld) × OnlyTakes takes
-      × LosingLeads (losing_frame_machine config) last_notice w (all_steps takes) v × IsQuietLeft config v
+      × LosingLeads (losing_frame_machine config) last_notice w (all_steps takes) v × IsQuietLive config v

@@ -14,25 +14,25 @@ ghost use Rattle.pg_step.specs.LossLaws.{LosingFrameWorld};
 ghost use Rattle.pg_step.specs.Step.{Action, CLOCK_LIMIT, Retry};
 ghost use Rattle.pg_step.specs.declared.command.OpId.{OpId};
 ghost use Rattle.pg_history.specs.Quiet.{OnlyTakes};
-ghost use Rattle.pg_loss.specs.Quiet.{IsQuietLeft, left_open, most_takes_left};
+ghost use Rattle.pg_loss.specs.Quiet.{IsQuietLive, live_open, most_takes_live};
 ghost use Rattle.pg_loss.specs.Reached.{LosingReaches};
-ghost use Rattle.pg_ready.specs.Ready.{EachIsRetried, RetryGoesOn, HasRoomLeft, IsQuietAmongLeft, LossesSeen, NoLockLeft};
-ghost use Rattle.pg_ready.specs.Ready.{NoneReadyLeft, OfReady, OnlyReady, OnlyRetries, is_ready_at, is_retried};
+ghost use Rattle.pg_ready.specs.Ready.{EachIsRetried, RetryGoesOn, HasRoomLive, IsQuietAmongLive, LossesSeen, NoLockLive};
+ghost use Rattle.pg_ready.specs.Ready.{NoneReadyLive, OfReady, OnlyReady, OnlyRetries, is_ready_at, is_retried};
 
 /// Nothing is on the way to a node that is not lost exactly where each of them has seen each loss, and nothing is on the way
 /// between two of them.
 pub fn quiet_nodes_saw_the_losses()
     ensures { (config : Config) (w : LosingFrameWorld) (events : List (LosingEvent Action))
         → IsDistinct same_atom (names_of config) → LosingReaches config events w
-        → IsQuietLeft config w ↔ IsQuietAmongLeft config w }
+        → IsQuietLive config w ↔ IsQuietAmongLive config w }
 {}
 
 /// Where nothing is on the way to a node that is not lost, a lock that is held at such a node is that of a ready command of one:
 /// all has come that it gathers, as where the last that it waited for was lost, and its retry goes on from there.
-pub fn locks_left_are_of_ready_commands()
+pub fn live_locks_are_of_ready_commands()
     ensures { (config : Config) (w : LosingFrameWorld) (events : List (LosingEvent Action)) (i : ℕ) (name : Term)
         (holder : RefParts)
-        → IsDistinct same_atom (names_of config) → LosingReaches config events w → IsQuietLeft config w
+        → IsDistinct same_atom (names_of config) → LosingReaches config events w → IsQuietLive config w
         → is_place (length config) i ≡ true → w.gone i ≡ false
         → (w.world.node i).state.locks name ≡ Some holder → OfReady config w name holder }
 {}
@@ -56,8 +56,8 @@ pub fn a_retry_of_a_ready_command_goes_on()
 /// a lock.
 pub fn no_lock_where_none_is_ready()
     ensures { (config : Config) (w : LosingFrameWorld) (events : List (LosingEvent Action))
-        → IsDistinct same_atom (names_of config) → LosingReaches config events w → IsQuietLeft config w
-        → NoneReadyLeft config w → NoLockLeft config w }
+        → IsDistinct same_atom (names_of config) → LosingReaches config events w → IsQuietLive config w
+        → NoneReadyLive config w → NoLockLive config w }
 {}
 
 /// A command becomes ready only where its node sees a loss. After any other event a command that is ready was ready
@@ -90,12 +90,12 @@ pub fn retries_free_the_locks()
         (steps : List (Event Action))
         → IsDistinct same_atom (names_of config) → LosingReaches config events w → LossesSeen config w
         → LosingLeads (losing_frame_machine config) last_notice w (all_steps steps) v
-        → EachIsRetried config w steps → NoneReadyLeft config v }
+        → EachIsRetried config w steps → NoneReadyLive config v }
     ensures locks { (config : Config) (w v : LosingFrameWorld) (events : List (LosingEvent Action))
         (steps : List (Event Action))
         → IsDistinct same_atom (names_of config) → LosingReaches config events w → LossesSeen config w
         → LosingLeads (losing_frame_machine config) last_notice w (all_steps steps) v
-        → EachIsRetried config w steps → IsQuietLeft config v → NoLockLeft config v }
+        → EachIsRetried config w steps → IsQuietLive config v → NoLockLive config v }
 {}
 
 /// After a retry each other command is ready exactly where it was before.
@@ -111,11 +111,11 @@ pub fn a_retry_leaves_the_others()
 pub fn all_ready_commands_can_be_retried()
     ensures { (config : Config) (w : LosingFrameWorld) (events : List (LosingEvent Action)) (room : ℕ)
         → IsDistinct same_atom (names_of config) → LosingReaches config events w → LossesSeen config w
-        → HasRoomLeft config w (left_open config w + room)
+        → HasRoomLive config w (live_open config w + room)
         → (retries : List (Event Action)) × (v : LosingFrameWorld) × OnlyRetries retries
         × LosingLeads (losing_frame_machine config) last_notice w (all_steps retries) v
         × EachIsRetried config w retries × OnlyReady config w retries
-        × NoneReadyLeft config v × HasRoomLeft config v room }
+        × NoneReadyLive config v × HasRoomLive config v room }
 {}
 
 /// A world comes to rest, whoever was lost. While a packet or a last notice is on the way to a node that is not lost,
@@ -124,13 +124,13 @@ pub fn all_ready_commands_can_be_retried()
 pub fn a_world_comes_to_rest_past_losses()
     ensures goes_on { (config : Config) (w : LosingFrameWorld) (events : List (LosingEvent Action)) (x y : ℕ)
         (packet : Stamped (Noticed Message)) (rest : List (Stamped (Noticed Message)))
-        → IsDistinct same_atom (names_of config) → LosingReaches config events w → HasRoomLeft config w 1
+        → IsDistinct same_atom (names_of config) → LosingReaches config events w → HasRoomLive config w 1
         → is_pair (length config) x y ≡ true → w.gone y ≡ false → w.world.wire x y ≡ packet ∷ rest
         → (v : LosingFrameWorld)
         × (losing_happens (losing_frame_machine config) last_notice w (Step (Take y x)) ≡ Some v) }
     ensures rests { (config : Config) (w : LosingFrameWorld) (events : List (LosingEvent Action))
         → IsDistinct same_atom (names_of config) → LosingReaches config events w
-        → HasRoomLeft config w (most_takes_left config w + 1)
+        → HasRoomLive config w (most_takes_live config w + 1)
         → (takes : List (Event Action)) × (v : LosingFrameWorld) × OnlyTakes takes
-        × LosingLeads (losing_frame_machine config) last_notice w (all_steps takes) v × IsQuietLeft config v }
+        × LosingLeads (losing_frame_machine config) last_notice w (all_steps takes) v × IsQuietLive config v }
 {}

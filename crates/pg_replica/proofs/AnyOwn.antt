@@ -20,7 +20,7 @@ use Rattle.pg_step.specs.declared.refusal.Refusal.TheVariants.{NotWaiting, NodeL
 use Rattle.pg_step.specs.Attempts.{own_reference, reply_taken, reply_under, strange}
 use Rattle.pg_step.specs.Nodes.{Node, Nodes}
 use Rattle.pg_step.specs.Peers.{is_bad_exchange, exchange}
-use Rattle.pg_step.specs.State.{Use, left}
+use Rattle.pg_step.specs.State.{Use, live_nodes}
 use Rattle.pg_step.specs.State as machine
 use Rattle.pg_step.specs.State.Use.{Fresh, Spent}
 use Rattle.pg_step.specs.Step.{TimedTurn, CLOCK_LIMIT, taken, at_clock, timed, step_take}
@@ -124,15 +124,15 @@ module _ (own other peer : Node) where
     same_packet : (packet : Packet) → taken_packet one s packet ≡ taken_packet two s packet
     same_packet packet =
         ap (λ r. turned one (timed (max s.clock packet.stamp + 1) (cond (s.state.lost peer) (Err NodeLost) r)))
-        (same_taken own other (left (nodes_of one) s.state).peers peer s.state idle packet.message)
+        (same_taken own other (live_nodes (nodes_of one) s.state).peers peer s.state idle packet.message)
         ∙ same_turned (step_take (nodes_of two) peer (stamped_of packet) s)
 
     packet_idle : (packet : Packet) → LeavesIdle (taken_packet one s packet)
     packet_idle packet = turned_idle (step_take (nodes_of one) peer (stamped_of packet) s) (timed_idle (max s.clock packet.stamp + 1) _ (go (s.state.lost peer)))
       where
-        go : (b : Bool) → IfOk (cond b (Err NodeLost) (taken (left (nodes_of one) s.state) peer packet.message s.state)) (λ t. Idle t.state)
+        go : (b : Bool) → IfOk (cond b (Err NodeLost) (taken (live_nodes (nodes_of one) s.state) peer packet.message s.state)) (λ t. Idle t.state)
         go true = tt
-        go false = stays_idle own other (left (nodes_of one) s.state).peers peer s.state idle packet.message
+        go false = stays_idle own other (live_nodes (nodes_of one) s.state).peers peer s.state idle packet.message
 
     same_body : (body : List ℕ) → answered one s body ≡ answered two s body
     unfolding answered

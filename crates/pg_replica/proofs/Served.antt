@@ -39,9 +39,9 @@ consumes_then (Some a) (Some b) None xs ys p q = absurd q
 consumes_then (Some a) (Some b) (Some c) xs ys p q = p ∙ ap (λ (z : List ℕ). xs ++ z) q ∙ sym (append_assoc xs ys c)
 
 -- what is left of a known input is known
-left_of : (input : List ℕ) (r : Option (List ℕ)) (all : List ℕ) → Consumes (Some input) r all → (rest : List ℕ) × (input ≡ all ++ rest)
-left_of input None all c = absurd c
-left_of input (Some rest) all c = (rest, c)
+live_of : (input : List ℕ) (r : Option (List ℕ)) (all : List ℕ) → Consumes (Some input) r all → (rest : List ℕ) × (input ≡ all ++ rest)
+live_of input None all c = absurd c
+live_of input (Some rest) all c = (rest, c)
 
 nothing_left : (input : List ℕ) (r : Option (List ℕ)) (all : List ℕ) → Consumes (Some input) r all → IsAtEnd r → input ≡ all
 nothing_left input None all c e = absurd c
@@ -92,7 +92,7 @@ module _ (pair : Pair) (P : List (List ℕ) → Type 0) (r0 r1 : Option (List �
         go : (r : Option (List ℕ)) → Consumes r r2 all → IfSome r (λ input. Serves pair out0 out2 input (Err fault))
         go None c = tt
         go (Some bytes) c =
-            let left = left_of bytes r2 all c in
+            let left = live_of bytes r2 all c in
             let e = ended pair all left.0 h.unread h.state out0 h.written (onward pair all unread1 h.unread start s h.state out0 out1 h.written came h.progress) fault out2 h.stops in
             subst (λ (i : List ℕ). Serves pair out0 out2 i (Err fault)) (sym left.1) (record { output = e.output; wrote = e.wrote; is = e.is })
 
@@ -120,7 +120,7 @@ module _ (pair : Pair) (P : List (List ℕ) → Type 0) (r0 r1 : Option (List �
       go : (r : Option (List ℕ)) → Consumes r r1 input → IfSome r (λ input. Serves pair out0 out1 input (Err fault))
       go None c = tt
       go (Some bytes) c =
-          let left = left_of bytes r1 input c in
+          let left = live_of bytes r1 input c in
           let e = ended pair input left.0 unread s out0 out1 v.progress fault out1 h in
           subst (λ (i : List ℕ). Serves pair out0 out1 i (Err fault)) (sym left.1) (record { output = e.output; wrote = e.wrote; is = e.is })
 

@@ -1,4 +1,4 @@
--- A world in which one change is under way, and nothing else is on the way to a node that is left: each packet that is taken brings
+-- A world in which one change is under way, and nothing else is on the way to a live node: each packet that is taken brings
 -- the change one step on.
 use Rattle.std.proofs.Common.{◌≡◌, ◌≢◌, ◌⊎◌, inl, inr, ℕ, suc, ◌<◌, Bool, true, false, not, cond, nat_eq, length}
 use Rattle.std.proofs.Common.{map, List, [], ◌∷◌, ◌++◌, Some, None, Ok, refl, ap, sym, ◌∙◌, subst, append-nil}
@@ -28,7 +28,7 @@ use Rattle.pg_step.specs.Attempts.{reply_by, reply_taken, reply_under}
 use Rattle.pg_step.specs.Config.{Config, name_at, names_of, nodes_at}
 use Rattle.pg_step.specs.FrameMachine.{losing_machine_of}
 use Rattle.pg_step.specs.Nodes.{Node, Nodes}
-use Rattle.pg_step.specs.State.{State, formed, left}
+use Rattle.pg_step.specs.State.{State, formed, live_nodes}
 use Rattle.pg_step.specs.State.Response.{Given as Given_}
 use Rattle.pg_step.specs.State.Status.{Asked, Yes}
 use Rattle.pg_step.specs.declared.answer.Reply.TheVariants as reply
@@ -67,8 +67,8 @@ answered_now h op reported report gave = subst (λ xs. Contains xs (op.number, G
         ∙ ap (λ b. cond b ((op.number, Given_ reply.Ok) ∷ []) []) (eq-eqb op.port op.port refl)))
 
 -- one node of those that are formed is formed by those that count
-pub formed_left : (n : Nodes) (s : State) → formed n s ≡ true → formed (left n s) s ≡ true
-formed_left n s full = some_pass (λ q. not (s.lost q)) s.merged n.peers full
+pub formed_live : (n : Nodes) (s : State) → formed n s ≡ true → formed (live_nodes n s) s ≡ true
+formed_live n s full = some_pass (λ q. not (s.lost q)) s.merged n.peers full
 
 module _ (config : Config) (apart : IsDistinct same_atom (names_of config)) (h : ℕ) (here : IsHere config h)
     (gone : ℕ → Bool) (lost : Node → Bool) (known : (q : ℕ) → IsHere config q → lost (name_at config q) ≡ gone q)
@@ -227,10 +227,10 @@ module _ (config : Config) (apart : IsDistinct same_atom (names_of config)) (h :
       rest = (first config v x i h happened ways (alone.out i there)).1
 
       goes : PeerGoes own c u (phase i) rest t
-      goes = peer_goes own c u (left (nodes_at config i) (v.node i)) (v.node i) t
+      goes = peer_goes own c u (live_nodes (nodes_at config i) (v.node i)) (v.node i) t
           (first config v x i h happened ways (alone.out i there)).0 rest (phase i)
           (first config v x i h happened ways (alone.out i there)).2
-          (formed_left (nodes_at config i) (v.node i) (alone.full i (peer_here i there) there.1)) (alone.free i there)
+          (formed_live (nodes_at config i) (v.node i) (alone.full i (peer_here i there) there.1)) (alone.free i there)
           (turn config v x i h happened ways (alone.out i there)).1
 
       abbrev later : ℕ → Phase
@@ -340,7 +340,7 @@ module _ (config : Config) (apart : IsDistinct same_atom (names_of config)) (h :
       behind = (first config v x h p happened replies (alone.back p there)).1
 
       -- its peers are those that it does not see lost
-      counting : left (nodes_at config h) s ≡ all
+      counting : live_nodes (nodes_at config h) s ≡ all
       counting = ap (λ (f : Node → Bool). record { own = own; peers = filter (λ q. not (f q)) (nodes_at config h).peers }) alone.knew
 
       -- and goes on with the peer in a new phase
@@ -427,7 +427,7 @@ module _ (config : Config) (apart : IsDistinct same_atom (names_of config)) (h :
       pub home_takes : Fewer x more
       home_takes = took_as (then_phase p) refl ((first config v x h p happened replies (alone.back p there)).2)
 
-    -- whoever of those left takes a packet
+    -- whichever live node takes a packet
     pub takes : (v x : Bare) (i p : ℕ) (happened : Happened (losing_machine_of config) v (Take i p) x) → gone i ≡ false
         → (more : ℕ) → Alone v more → Fewer x more
     takes v x i p happened alive more alone = go (cases_eq i h) (cases_eq p h) (gone p) refl

@@ -1,4 +1,4 @@
--- A retry where nothing is on the way to a node that is left, and what is taken behind it.
+-- A retry where nothing is on the way to a live node, and what is taken behind it.
 use Rattle.std.proofs.Common.{◌≡◌, ◌≢◌, ◌⊎◌, inl, inr, ℕ, suc, ◌+◌, ◌-◌, ◌*◌, ◌<◌, ◌≤◌, Bool, true, false, not}
 use Rattle.std.proofs.Common.{cond, nat_lt, length, map, List, [], ◌∷◌, Option, None, Ok, Err}
 use Rattle.std.proofs.Common.{refl, ap, sym, ◌∙◌, subst, arith}
@@ -23,7 +23,7 @@ use Rattle.pg_step.specs.Config.{Config, name_at, names_of, nodes_at, ports_at}
 use Rattle.pg_step.specs.FrameMachine.{losing_machine_of}
 use Rattle.pg_step.specs.LossLaws.{LosingFrameWorld}
 use Rattle.pg_step.specs.Nodes.{Node, Nodes}
-use Rattle.pg_step.specs.State.{Stage, State, Status, Use, formed, left}
+use Rattle.pg_step.specs.State.{Stage, State, Status, Use, formed, live_nodes}
 use Rattle.pg_step.specs.State.Stage.{Asking, Changing, Waiting}
 use Rattle.pg_step.specs.State.Status.{Asked, No, Unasked, Yes}
 use Rattle.pg_step.specs.State.Use.{Locking, Updating}
@@ -45,7 +45,7 @@ use Rattle.pg_left.proofs.Passing.{Leads}
 use Rattle.pg_ready.specs.Ready.{is_ready}
 use Rattle.pg_ready.proofs.Going.{no_loss}
 use Rattle.pg_retries.proofs.Alone.{Alone, AtHome, Ends, End, Fewer, GoesOut, IsPeer_, Lock, Locks, Result_, Updates}
-use Rattle.pg_retries.proofs.Alone.{all, formed_left, home_turn, takes, weight, weight_is}
+use Rattle.pg_retries.proofs.Alone.{all, formed_live, home_turn, takes, weight, weight_is}
 use Rattle.pg_retries.proofs.Hearing.{Bare, full_later, own_known, own_reported, own_sent, own_state, own_turn}
 use Rattle.pg_retries.proofs.Peers.{IsNone, IsPeer, Placed, knows, of_peer, of_peers, placed, sum_of}
 
@@ -115,11 +115,11 @@ take_is e = cc
 module _ (config : Config) (apart : IsDistinct same_atom (names_of config)) (h : ℕ) (here : IsHere config h)
     (gone : ℕ → Bool) (lost : Node → Bool) (known : (q : ℕ) → IsHere config q → lost (name_at config q) ≡ gone q)
     (lives : gone h ≡ false) where
-  -- how many peers are left
+  -- how many peers are live
   abbrev pub peers : ℕ
   peers = total (length config) (λ q. cond (gone q) 0 1) - 1
 
-  -- nothing is on the way to a node that is left
+  -- nothing is on the way to a live node
   abbrev pub IsStill : Bare → Type 0
   IsStill v = (a b : ℕ) → is_pair (length config) a b ≡ true → gone b ≡ false → v.wire a b ≡ []
 
@@ -141,10 +141,10 @@ module _ (config : Config) (apart : IsDistinct same_atom (names_of config)) (h :
     abbrev c : ℕ
     c = (v.node h).references + 1
 
-    counting : left (nodes_at config h) s ≡ m
+    counting : live_nodes (nodes_at config h) s ≡ m
     counting = ap (λ (f : Node → Bool). record { own = name_at config h; peers = filter (λ q. not (f q)) (nodes_at config h).peers }) knew
 
-    abbrev turned : (t : NodeTurn) × (acted (nodes_at config h) (left (nodes_at config h) (v.node h)) (ports_at config h) (Retry op) (v.node h) ≡ Ok t)
+    abbrev turned : (t : NodeTurn) × (acted (nodes_at config h) (live_nodes (nodes_at config h) (v.node h)) (ports_at config h) (Retry op) (v.node h) ≡ Ok t)
     turned = (
       (own_turn config v x h (Retry op) retried).0,
       (own_turn config v x h (Retry op) retried).1,
@@ -161,7 +161,7 @@ module _ (config : Config) (apart : IsDistinct same_atom (names_of config)) (h :
     result : Result_ config apart h here gone lost known lives op u c (λ q. Ahead) turned.0
     result = subst (Result_ config apart h here gone lost known lives op u c (λ q. Ahead)) is_attempt
         (attempt_result m (name_at config) IsOne (knows config apart h here gone lost known) op u s
-        (ap (λ z. formed z s) (sym counting) ∙ formed_left (nodes_at config h) s (full h here lives)) (free h here lives))
+        (ap (λ z. formed z s) (sym counting) ∙ formed_live (nodes_at config h) s (full h here lives)) (free h here lives))
 
     abbrev all_changes : Changes {C = Action} (Do h (Retry op)) retried.turn v x
     all_changes = changes (losing_machine_of config) v x (Do h (Retry op)) retried
@@ -396,7 +396,7 @@ module _ (config : Config) (apart : IsDistinct same_atom (names_of config)) (h :
               let more : total (length config) weights ≡ now = alone.more_is in
               omega (arith, none, more)
 
-      -- a packet on the way between two nodes that are left
+      -- a packet on the way between two live nodes
       abbrev pub Packet : Type 0
       Packet = (a : ℕ) × (b : ℕ) × (packet : Noticed Message) × (rest : List (Noticed Message))
           × (is_pair (length config) a b ≡ true) × (gone a ≡ false) × (gone b ≡ false) × (y.wire a b ≡ packet ∷ rest)

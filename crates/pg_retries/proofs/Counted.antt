@@ -28,7 +28,7 @@ use Rattle.pg_history.proofs.places.Shown.{IsHere}
 use Rattle.pg_history.proofs.quiet.Bounds.{open_in_total}
 use Rattle.pg_history.proofs.quiet.Sums.{total, total_le, total_lower}
 use Rattle.pg_history.proofs.steps.Ways.{state_after}
-use Rattle.pg_loss.specs.Quiet.{left_open}
+use Rattle.pg_loss.specs.Quiet.{live_open}
 use Rattle.pg_loss.specs.Reached.{LosingReaches}
 use Rattle.pg_loss.proofs.Counting.{all_count}
 use Rattle.pg_loss.proofs.Lasts.{answers_later}
@@ -157,7 +157,7 @@ module _ (config : Config) (events : List (LosingEvent Action)) (w v : LosingFra
       total_le ports (λ port. open_at port t) (λ port. open_at port s) (λ port _. fewer_at i port) in
       omega (arith, was, was_sum, is, is_sum, few)
 
-  pub fewer_open : left_open config v ≤ left_open config w
+  pub fewer_open : live_open config v ≤ live_open config w
   fewer_open = total_le n (λ i. (v.world.node i).state.opened) (λ i. (w.world.node i).state.opened) (λ i _. fewer_opened i)
 
   -- one that was open and is answered is open no more
@@ -200,5 +200,5 @@ module _ (config : Config) (events : List (LosingEvent Action)) (w v : LosingFra
         total_lower ports op.port (λ port. open_at port t) (λ port. open_at port s) ((before i).counts.within op was_open).1 less_at (λ port _. fewer_at i port) in
         omega (arith, was, was_sum, is, is_sum, less)
 
-    pub less_open : left_open config v < left_open config w
+    pub less_open : live_open config v < live_open config w
     less_open = total_lower n i (λ j. (v.world.node j).state.opened) (λ j. (w.world.node j).state.opened) ((Decides-ltb i n).0 here) less_opened (λ j _. fewer_opened j)

@@ -1,4 +1,4 @@
--- Every open command of a node that is left is answered: retries one behind another, each with its takes.
+-- Every open command of a live node is answered: retries one behind another, each with its takes.
 use Rattle.std.proofs.Common.{◌≡◌, ◌⊎◌, inl, inr, ℕ, zero, suc, ◌+◌, ◌-◌, ◌*◌, ◌<◌, ◌≤◌, Bool, true, false, cond, length}
 use Rattle.std.proofs.Common.{List, [], ◌∷◌, ◌++◌, refl, ap, sym, ◌∙◌, subst, arith}
 use Rattle.std.specs.List.{IsDistinct}
@@ -15,12 +15,12 @@ use Rattle.pg_step.specs.declared.command.OpId.{OpId}
 use Rattle.pg_history.specs.Quiet.{OnlyTakes, OnlyTakesAndRetries, peer_count, total}
 use Rattle.pg_history.proofs.quiet.Answering.{both_too, takes_too}
 use Rattle.pg_history.proofs.quiet.Sums.{total_all, total_le}
-use Rattle.pg_loss.specs.Quiet.{IsQuietLeft, left_open}
+use Rattle.pg_loss.specs.Quiet.{IsQuietLive, live_open}
 use Rattle.pg_loss.specs.Reached.{LosingReaches}
 use Rattle.pg_left.proofs.Passing.{Leads}
-use Rattle.pg_ready.specs.Ready.{HasRoomLeft, NoneReadyLeft}
-use Rattle.pg_retries.specs.Retried.{FreesLocks, NoneOpenLeft, RetryGoesPastLosses, left_count, left_peer_count}
-use Rattle.pg_retries.specs.Retried.{most_events_left, most_events_to_free}
+use Rattle.pg_ready.specs.Ready.{HasRoomLive, NoneReadyLive}
+use Rattle.pg_retries.specs.Retried.{FreesLocks, NoneOpenLive, RetryGoesPastLosses, live_count, live_peer_count}
+use Rattle.pg_retries.specs.Retried.{most_events_live, most_events_to_free}
 use Rattle.pg_retries.proofs.Counted.{less_open}
 use Rattle.pg_retries.proofs.Finding.{OpenOne, open_or_none, some_opened}
 use Rattle.pg_retries.proofs.Freeing.{few_after, frees, retries_too, room_after}
@@ -38,9 +38,9 @@ one_more_take (Take j q ∷ ts) i p only = one_more_take ts i p only
 one_more_take (Do j action ∷ ts) i p only = absurd only
 
 -- no more peers are left than there are
-few_left : (config : Config) (w : LosingFrameWorld) → left_peer_count config w ≤ peer_count config
+few_left : (config : Config) (w : LosingFrameWorld) → live_peer_count config w ≤ peer_count config
 few_left config w =
-    let few : left_count config w ≤ total (length config) (λ i. 1) = total_le (length config) (λ i. cond (w.gone i) 0 1) (λ i. 1) (λ i _. one (w.gone i)) in
+    let few : live_count config w ≤ total (length config) (λ i. 1) = total_le (length config) (λ i. cond (w.gone i) 0 1) (λ i. 1) (λ i _. one (w.gone i)) in
     let all : total (length config) (λ i. 1) ≡ 1 * length config = total_all (length config) 1 (λ i. 1) (λ i _. refl) in
     omega (arith, few, all)
   where
@@ -51,8 +51,8 @@ few_left config w =
 module _ (config : Config) (apart : IsDistinct same_atom (names_of config)) where
   -- ---- one command is answered
 
-  module _ (es : List (LosingEvent Action)) (w : LosingFrameWorld) (l : LosingReaches config es w) (quiet : IsQuietLeft config w)
-      (none : NoneReadyLeft config w) (found : OpenOne config w) (room : HasRoomLeft config w (1 + 5 * left_peer_count config w)) where
+  module _ (es : List (LosingEvent Action)) (w : LosingFrameWorld) (l : LosingReaches config es w) (quiet : IsQuietLive config w)
+      (none : NoneReadyLive config w) (found : OpenOne config w) (room : HasRoomLive config w (1 + 5 * live_peer_count config w)) where
     abbrev i : ℕ
     i = found.place
 
@@ -74,7 +74,7 @@ module _ (config : Config) (apart : IsDistinct same_atom (names_of config)) wher
         (free_for config apart es w l quiet i found.here found.lives op none waiting.0) d.takes d.only d.world d.leads
         (λ j here lives. room j here)
 
-    one_more : (count : ℕ) → count < 5 * left_peer_count config w → Driven count → Driven (suc count)
+    one_more : (count : ℕ) → count < 5 * live_peer_count config w → Driven count → Driven (suc count)
     one_more count few d =
         let all = goes count d in
         let many : length d.takes ≡ count = d.many in
@@ -88,32 +88,32 @@ module _ (config : Config) (apart : IsDistinct same_atom (names_of config)) wher
           leads = steps_on config (Do i (Retry op) ∷ d.takes) (Take next.1 next.0 ∷ []) w d.world u.0 d.leads (u.0, u.1, refl {a = u.0});
         }
 
-    drive : (count : ℕ) → count ≤ 5 * left_peer_count config w → Driven count
+    drive : (count : ℕ) → count ≤ 5 * live_peer_count config w → Driven count
     drive zero low =
         let r = retry_happens config apart es w l quiet i found.here found.lives op found.is
-        (let all : (w.world.node found.place).clock + (1 + 5 * left_peer_count config w) ≤ CLOCK_LIMIT = room found.place found.here in omega (arith, all)) in
+        (let all : (w.world.node found.place).clock + (1 + 5 * live_peer_count config w) ≤ CLOCK_LIMIT = room found.place found.here in omega (arith, all)) in
         record { takes = []; world = r.0; only = tt; many = refl; leads = (r.0, r.1, refl) }
     drive (suc count) low = one_more count (omega (arith, low)) (drive count (omega (arith, low)))
 
-    last : Driven (5 * left_peer_count config w)
-    last = drive (5 * left_peer_count config w) (omega arith)
+    last : Driven (5 * live_peer_count config w)
+    last = drive (5 * live_peer_count config w) (omega arith)
 
     -- nothing is on the way again, none is ready, and one command less is open
     pub record OneAnswered : Type 0 where
       pub more : List (Event Action)
       pub world : LosingFrameWorld
       pub only : OnlyTakesAndRetries more
-      pub many : length more ≡ 1 + 5 * left_peer_count config w
+      pub many : length more ≡ 1 + 5 * live_peer_count config w
       pub leads : Leads config w (all_steps more) world
-      pub rests : IsQuietLeft config world
-      pub unready : NoneReadyLeft config world
-      pub same : left_peer_count config world ≡ left_peer_count config w
-      pub fewer : left_open config world < left_open config w
+      pub rests : IsQuietLive config world
+      pub unready : NoneReadyLive config world
+      pub same : live_peer_count config world ≡ live_peer_count config w
+      pub fewer : live_open config world < live_open config w
 
     pub one_answered : OneAnswered
     one_answered =
-        let all = goes (5 * left_peer_count config w) last in
-        let many : length last.takes ≡ 5 * left_peer_count config w = last.many in
+        let all = goes (5 * live_peer_count config w) last in
+        let many : length last.takes ≡ 5 * live_peer_count config w = last.many in
         let ok = all.answered (omega (arith, many)) in
         let only = takes_too last.takes last.only in
         record {
@@ -135,8 +135,8 @@ module _ (config : Config) (apart : IsDistinct same_atom (names_of config)) wher
     pub world : LosingFrameWorld
     pub only : OnlyTakesAndRetries more
     pub leads : Leads config w (all_steps more) world
-    pub none_open : NoneOpenLeft config world
-    pub quiet : IsQuietLeft config world
+    pub none_open : NoneOpenLive config world
+    pub quiet : IsQuietLive config world
 
   behind : (w v : LosingFrameWorld) (ts : List (Event Action)) → OnlyTakesAndRetries ts → Leads config w (all_steps ts) v → AllAnswered v → AllAnswered w
   behind w v ts only l all = record {
@@ -148,34 +148,34 @@ module _ (config : Config) (apart : IsDistinct same_atom (names_of config)) wher
     quiet = all.quiet;
   }
 
-  answered_within : (k peers : ℕ) (es : List (LosingEvent Action)) (w : LosingFrameWorld) → LosingReaches config es w → IsQuietLeft config w
-      → NoneReadyLeft config w → left_peer_count config w ≡ peers → left_open config w ≤ k → HasRoomLeft config w ((1 + 5 * peers) * k)
-      → OpenOne config w ⊎ NoneOpenLeft config w → AllAnswered w
+  answered_within : (k peers : ℕ) (es : List (LosingEvent Action)) (w : LosingFrameWorld) → LosingReaches config es w → IsQuietLive config w
+      → NoneReadyLive config w → live_peer_count config w ≡ peers → live_open config w ≤ k → HasRoomLive config w ((1 + 5 * peers) * k)
+      → OpenOne config w ⊎ NoneOpenLive config w → AllAnswered w
   answered_within k peers es w l quiet unready count few room (inr none) =
       record { more = []; world = w; only = tt; leads = refl; none_open = none; quiet = quiet }
   answered_within zero peers es w l quiet unready count few room (inl found) =
-      let some : 1 ≤ left_open config w = some_opened config w es l found in absurd (omega (arith, some, few))
+      let some : 1 ≤ live_open config w = some_opened config w es l found in absurd (omega (arith, some, few))
   answered_within (suc k) peers es w l quiet unready count few room (inl found) =
       let sum : (1 + 5 * peers) * suc k ≡ (1 + 5 * peers) * k + (1 + 5 * peers) = mul-suc (1 + 5 * peers) k in
-      let free : HasRoomLeft config w (1 + 5 * left_peer_count config w) =
+      let free : HasRoomLive config w (1 + 5 * live_peer_count config w) =
       λ i here. let all : (w.world.node i).clock + (1 + 5 * peers) * suc k ≤ CLOCK_LIMIT = room i here in omega (arith, all, sum, count) in
       let one = one_answered es w l quiet unready found free in
-      let less : left_open config one.world < left_open config w = one.fewer in
-      let many : length one.more ≡ 1 + 5 * left_peer_count config w = one.many in
+      let less : live_open config one.world < live_open config w = one.fewer in
+      let many : length one.more ≡ 1 + 5 * live_peer_count config w = one.many in
       let reached = leads_on config es (all_steps one.more) (nobody_gone (start_of (losing_frame_machine config))) w one.world l one.leads in
-      let left : HasRoomLeft config one.world ((1 + 5 * peers) * k) = room_run config one.more es w one.world ((1 + 5 * peers) * k) l one.leads
+      let left : HasRoomLive config one.world ((1 + 5 * peers) * k) = room_run config one.more es w one.world ((1 + 5 * peers) * k) l one.leads
       (λ i here. let all : (w.world.node i).clock + (1 + 5 * peers) * suc k ≤ CLOCK_LIMIT = room i here in omega (arith, all, sum, many, count)) in
       behind w one.world one.more one.only one.leads
       (answered_within k peers (es ++ all_steps one.more) one.world reached one.rests one.unready (one.same ∙ count) (omega (arith, less, few)) left
       (open_or_none config one.world (es ++ all_steps one.more) reached))
 
   module _ (es : List (LosingEvent Action)) (w : LosingFrameWorld) (l : LosingReaches config es w)
-      (free : HasRoomLeft config w (most_events_left config w + 1)) where
+      (free : HasRoomLive config w (most_events_live config w + 1)) where
     abbrev room : ℕ
-    room = (1 + 5 * peer_count config) * left_open config w
+    room = (1 + 5 * peer_count config) * live_open config w
 
-    first_room : HasRoomLeft config w (most_events_to_free config w + 1 + room)
-    first_room i here = let all : (w.world.node i).clock + (most_events_left config w + 1) ≤ CLOCK_LIMIT = free i here in omega (arith, all)
+    first_room : HasRoomLive config w (most_events_to_free config w + 1 + room)
+    first_room i here = let all : (w.world.node i).clock + (most_events_live config w + 1) ≤ CLOCK_LIMIT = free i here in omega (arith, all)
 
     abbrev freed : FreesLocks config w
     freed = frees config apart es w l room first_room
@@ -196,15 +196,15 @@ module _ (config : Config) (apart : IsDistinct same_atom (names_of config)) wher
     reached = leads_on config es (all_steps before) (nobody_gone (start_of (losing_frame_machine config))) w freed.world l leads
 
     abbrev peers : ℕ
-    peers = left_peer_count config freed.world
+    peers = live_peer_count config freed.world
 
-    enough : HasRoomLeft config freed.world ((1 + 5 * peers) * left_open config w)
+    enough : HasRoomLive config freed.world ((1 + 5 * peers) * live_open config w)
     enough i here =
         let all : (freed.world.world.node i).clock + room ≤ CLOCK_LIMIT = room_after config apart es w l room first_room i here in
-        let few : left_peer_count config freed.world ≤ peer_count config = few_left config freed.world in
-        let one : (1 + 5 * peers) * left_open config w ≡ 1 * left_open config w + 5 * peers * left_open config w = add-mul 1 (5 * peers) (left_open config w) in
-        let two : room ≡ 1 * left_open config w + 5 * peer_count config * left_open config w = add-mul 1 (5 * peer_count config) (left_open config w) in
-        let turn : 5 * peers * left_open config w ≤ 5 * peer_count config * left_open config w = scaled (5 * peers) (5 * peer_count config) (left_open config w) (omega (arith, few)) in
+        let few : live_peer_count config freed.world ≤ peer_count config = few_left config freed.world in
+        let one : (1 + 5 * peers) * live_open config w ≡ 1 * live_open config w + 5 * peers * live_open config w = add-mul 1 (5 * peers) (live_open config w) in
+        let two : room ≡ 1 * live_open config w + 5 * peer_count config * live_open config w = add-mul 1 (5 * peer_count config) (live_open config w) in
+        let turn : 5 * peers * live_open config w ≤ 5 * peer_count config * live_open config w = scaled (5 * peers) (5 * peer_count config) (live_open config w) (omega (arith, few)) in
         omega (arith, all, one, two, turn)
       where
         scaled : (a b k : ℕ) → a ≤ b → a * k ≤ b * k
@@ -212,5 +212,5 @@ module _ (config : Config) (apart : IsDistinct same_atom (names_of config)) wher
 
     pub all_answered : AllAnswered w
     all_answered = behind w freed.world before only leads
-        (answered_within (left_open config w) peers (es ++ all_steps before) freed.world reached freed.quiet freed.none refl
+        (answered_within (live_open config w) peers (es ++ all_steps before) freed.world reached freed.quiet freed.none refl
         (few_after config apart es w l room first_room) enough (open_or_none config freed.world (es ++ all_steps before) reached))

@@ -1,4 +1,4 @@
--- An open command of a node that is left, where there is one.
+-- An open command of a live node, where there is one.
 use Rattle.std.proofs.Common.{◌≡◌, ◌⊎◌, inl, inr, ℕ, ◌+◌, ◌<◌, ◌≤◌, Bool, true, false, length, List}
 use Rattle.std.proofs.Common.{refl, ap, sym, ◌∙◌, arith}
 use Rattle.std.proofs.lemmas.Bool.{cases_lt}
@@ -14,10 +14,10 @@ use Rattle.pg_history.proofs.commands.Counting.{Counts}
 use Rattle.pg_history.proofs.places.Shown.{IsHere}
 use Rattle.pg_history.proofs.quiet.Bounds.{some_open}
 use Rattle.pg_history.proofs.quiet.Sums.{find_place, total_term}
-use Rattle.pg_loss.specs.Quiet.{left_open}
+use Rattle.pg_loss.specs.Quiet.{live_open}
 use Rattle.pg_loss.specs.Reached.{LosingReaches}
 use Rattle.pg_loss.proofs.Counting.{all_count}
-use Rattle.pg_retries.specs.Retried.{NoneOpenLeft}
+use Rattle.pg_retries.specs.Retried.{NoneOpenLive}
 
 pub record OpenOne (config : Config) (w : LosingFrameWorld) : Type 0 where
   pub place : ℕ
@@ -79,14 +79,14 @@ module _ (config : Config) (w : LosingFrameWorld) where
           found (inr none) = inr (λ _ _. none)
 
   module _ (es : List (LosingEvent Action)) (l : LosingReaches config es w) where
-    pub open_or_none : OpenOne config w ⊎ NoneOpenLeft config w
+    pub open_or_none : OpenOne config w ⊎ NoneOpenLive config w
     open_or_none = go (find_place n (λ i. OpenOne config w) NoneAtNode at_node)
       where
-        go : ((i : ℕ) × OpenOne config w) ⊎ ((i : ℕ) → i < n → NoneAtNode i) → OpenOne config w ⊎ NoneOpenLeft config w
+        go : ((i : ℕ) × OpenOne config w) ⊎ ((i : ℕ) → i < n → NoneAtNode i) → OpenOne config w ⊎ NoneOpenLive config w
         go (inl found) = inl found.1
         go (inr none) = inr closed
           where
-            closed : NoneOpenLeft config w
+            closed : NoneOpenLive config w
             closed i op here lives = told (is_open ((w.world.node i).state.stages op)) refl
               where
                 counts : Counts (ports_at config i) (w.world.node i).state
@@ -102,10 +102,10 @@ module _ (config : Config) (w : LosingFrameWorld) where
                     within (inr low) = none i ((Decides-ltb i n).0 here) here lives op.port ((counts.within op is).1) op.number (omega (arith, low))
 
     -- where a command is open, one is counted as open
-    pub some_opened : OpenOne config w → 1 ≤ left_open config w
+    pub some_opened : OpenOne config w → 1 ≤ live_open config w
     some_opened found =
         let one : 1 ≤ (w.world.node found.place).state.opened =
         some_open (ports_at config found.place) (w.world.node found.place).state ((all_count config es w found.place l).counts) found.op found.is in
-        let all : (w.world.node found.place).state.opened ≤ left_open config w =
+        let all : (w.world.node found.place).state.opened ≤ live_open config w =
         total_term n found.place (λ i. (w.world.node i).state.opened) ((Decides-ltb found.place n).0 found.here) in
         omega (arith, one, all)

@@ -1,4 +1,4 @@
--- Takes, retries of ready commands and takes free every lock of the nodes that are left.
+-- Takes, retries of ready commands and takes free every lock of the live nodes.
 use Rattle.std.proofs.Common.{◌≡◌, ◌⊎◌, inl, inr, ℕ, zero, suc, ◌+◌, ◌*◌, ◌≤◌, true, false, length}
 use Rattle.std.proofs.Common.{List, [], ◌∷◌, ◌++◌, refl, ap, ◌∙◌, arith}
 use Rattle.std.specs.List.{IsDistinct}
@@ -15,15 +15,15 @@ use Rattle.pg_step.specs.declared.command.OpId.{OpId}
 use Rattle.pg_history.specs.Quiet.{OnlyTakes, OnlyTakesAndRetries, peer_count}
 use Rattle.pg_history.proofs.places.Shown.{IsHere}
 use Rattle.pg_history.proofs.quiet.Answering.{takes_too}
-use Rattle.pg_loss.specs.Quiet.{IsQuietLeft, left_open, most_takes_left}
+use Rattle.pg_loss.specs.Quiet.{IsQuietLive, live_open, most_takes_live}
 use Rattle.pg_loss.specs.Reached.{LosingReaches}
 use Rattle.pg_loss.proofs.Takes.{takes_end}
 use Rattle.pg_left.proofs.Passing.{Leads, Leaves, leads_more}
-use Rattle.pg_ready.specs.Ready.{HasRoomLeft, LossesSeen, NoneReadyLeft, OnlyRetries, is_ready_at}
+use Rattle.pg_ready.specs.Ready.{HasRoomLive, LossesSeen, NoneReadyLive, OnlyRetries, is_ready_at}
 use Rattle.pg_ready.proofs.Resting.{Next, Rests, comes_to_rest, next_is_taken, next_or_quiet, on_time, room_left, went}
 use Rattle.pg_ready.proofs.Retried.{no_lock, seen_later}
 use Rattle.pg_ready.proofs.Rounds.{RetriedAll, retried_all}
-use Rattle.pg_ready.proofs.Silence.{among_left}
+use Rattle.pg_ready.proofs.Silence.{among_live}
 use Rattle.pg_retries.specs.Retried.{FreesLocks, most_events_to_free}
 use Rattle.pg_retries.proofs.Counted.{fewer_open}
 use Rattle.pg_retries.proofs.Reaching.{leads_on, none_on, room_run}
@@ -46,11 +46,11 @@ module _ (config : Config) (apart : IsDistinct same_atom (names_of config)) wher
     world : LosingFrameWorld
     only : OnlyTakes takes
     leads : Leads config u (all_steps takes) world
-    quiet : IsQuietLeft config world
-    left : HasRoomLeft config world room
+    quiet : IsQuietLive config world
+    left : HasRoomLive config world room
 
   settled : (k room : ℕ) (es : List (LosingEvent Action)) (u : LosingFrameWorld) → LosingReaches config es u → LossesSeen config u → heavy config apart u ≤ k
-      → HasRoomLeft config u (k + 1 + room) → Next config apart u ⊎ IsQuietLeft config u → Settled u room
+      → HasRoomLive config u (k + 1 + room) → Next config apart u ⊎ IsQuietLive config u → Settled u room
   settled k room es u l seen light free (inr quiet) = record {
     takes = [];
     world = u;
@@ -89,12 +89,12 @@ module _ (config : Config) (apart : IsDistinct same_atom (names_of config)) wher
   -- ---- from any world
 
   module _ (es : List (LosingEvent Action)) (w : LosingFrameWorld) (l : LosingReaches config es w) (room : ℕ)
-      (free : HasRoomLeft config w (most_events_to_free config w + 1 + room)) where
+      (free : HasRoomLive config w (most_events_to_free config w + 1 + room)) where
     abbrev P : ℕ
     P = peer_count config
 
     abbrev open_ : ℕ
-    open_ = left_open config w
+    open_ = live_open config w
 
     rest : Rests config apart w
     rest = comes_to_rest config apart es w l
@@ -110,30 +110,30 @@ module _ (config : Config) (apart : IsDistinct same_atom (names_of config)) wher
     reached = leads_on config es (all_steps rest.takes) (nobody_gone (start_of (losing_frame_machine config))) w u l rest.leads
 
     seen : LossesSeen config u
-    seen = (among_left config apart to_rest u reached rest.quiet).seen
+    seen = (among_live config apart to_rest u reached rest.quiet).seen
 
-    few : left_open config u ≤ open_
+    few : live_open config u ≤ open_
     few = fewer_open config es w u l rest.takes (takes_too rest.takes rest.only) rest.leads
 
     abbrev later : ℕ
     later = 6 * P * open_ + 1 + room
 
-    room_there : HasRoomLeft config u (left_open config u + later)
-    room_there = room_run config rest.takes es w u (left_open config u + later) l rest.leads
+    room_there : HasRoomLive config u (live_open config u + later)
+    room_there = room_run config rest.takes es w u (live_open config u + later) l rest.leads
         (λ i here.
         let all : (w.world.node i).clock + (most_events_to_free config w + 1 + room) ≤ CLOCK_LIMIT = free i here in
-        let many : length rest.takes ≤ most_takes_left config w = takes_end config apart es w l rest.takes u rest.only rest.leads in
+        let many : length rest.takes ≤ most_takes_live config w = takes_end config apart es w l rest.takes u rest.only rest.leads in
         omega (arith, all, many, few))
 
     -- what is taken behind the retries is bounded by what is open
     abbrev Light : LosingFrameWorld → Type 0
-    Light z = LossesSeen config z × (heavy config apart z + P * left_open config z ≤ 6 * P * open_)
+    Light z = LossesSeen config z × (heavy config apart z + P * live_open config z ≤ 6 * P * open_)
 
-    light_there : heavy config apart u + P * left_open config u ≤ 6 * P * open_
+    light_there : heavy config apart u + P * live_open config u ≤ 6 * P * open_
     light_there =
-        let five : heavy config apart u ≤ 5 * P * left_open config u = quiet_light config apart to_rest u reached rest.quiet in
-        let most : 5 * P * left_open config u ≤ 5 * P * open_ = mul-le-mul_left (5 * P) few in
-        let ones : P * left_open config u ≤ P * open_ = mul-le-mul_left P few in
+        let five : heavy config apart u ≤ 5 * P * live_open config u = quiet_light config apart to_rest u reached rest.quiet in
+        let most : 5 * P * live_open config u ≤ 5 * P * open_ = mul-le-mul_left (5 * P) few in
+        let ones : P * live_open config u ≤ P * open_ = mul-le-mul_left P few in
         let all : 6 * P * open_ ≡ 5 * P * open_ + P * open_ = six P open_ in
         omega (arith, five, most, ones, all)
 
@@ -141,7 +141,7 @@ module _ (config : Config) (apart : IsDistinct same_atom (names_of config)) wher
         → a.gone i ≡ false → is_ready_at config a i op ≡ true → Leaves config a (Step (Do i (Retry op))) b → Light a → Light b
     keeps done a b i op r here alive ready leaves old =
         let less = retry_less config apart done a b r i op here ready leaves in
-        let before : heavy config apart a + P * left_open config a ≤ 6 * P * open_ = old.1 in
+        let before : heavy config apart a + P * live_open config a ≤ 6 * P * open_ = old.1 in
         (seen_later config apart done a b r old.0 (Do i (Retry op)) leaves, omega (arith, less, before))
 
     tried : RetriedAll config apart to_rest u reached seen later Light
@@ -158,7 +158,7 @@ module _ (config : Config) (apart : IsDistinct same_atom (names_of config)) wher
 
     last : Settled z room
     last = settled (6 * P * open_) room to_tried z reached_tried tried.kept.0
-        (let light : heavy config apart z + P * left_open config z ≤ 6 * P * open_ = tried.kept.1 in omega (arith, light))
+        (let light : heavy config apart z + P * live_open config z ≤ 6 * P * open_ = tried.kept.1 in omega (arith, light))
         tried.left (next_or_quiet config apart z)
 
     abbrev to_last : List (LosingEvent Action)
@@ -167,7 +167,7 @@ module _ (config : Config) (apart : IsDistinct same_atom (names_of config)) wher
     reached_last : LosingReaches config to_last last.world
     reached_last = leads_on config to_tried (all_steps last.takes) (nobody_gone (start_of (losing_frame_machine config))) z last.world reached_tried last.leads
 
-    none : NoneReadyLeft config last.world
+    none : NoneReadyLive config last.world
     none = none_on config apart to_tried z reached_tried tried.kept.0 tried.none last.takes last.world last.leads
 
     pub frees : FreesLocks config w
@@ -192,18 +192,18 @@ module _ (config : Config) (apart : IsDistinct same_atom (names_of config)) wher
       free = no_lock config apart to_last last.world reached_last last.quiet none;
     }
 
-    pub room_after : HasRoomLeft config frees.world room
+    pub room_after : HasRoomLive config frees.world room
     unfolding frees
     room_after = last.left
 
-    pub few_after : left_open config frees.world ≤ left_open config w
+    pub few_after : live_open config frees.world ≤ live_open config w
     unfolding frees
     few_after =
-        let by_retries : left_open config z ≤ left_open config u = fewer_open config to_rest u z reached tried.retries (retries_too tried.retries tried.only) tried.leads in
-        let by_takes : left_open config last.world ≤ left_open config z = fewer_open config to_tried z last.world reached_tried last.takes (takes_too last.takes last.only) last.leads in
+        let by_retries : live_open config z ≤ live_open config u = fewer_open config to_rest u z reached tried.retries (retries_too tried.retries tried.only) tried.leads in
+        let by_takes : live_open config last.world ≤ live_open config z = fewer_open config to_tried z last.world reached_tried last.takes (takes_too last.takes last.only) last.leads in
         omega (arith, few, by_retries, by_takes)
 
 pub frees_all : (config : Config) (apart : IsDistinct same_atom (names_of config)) (es : List (LosingEvent Action)) (w : LosingFrameWorld)
-    → LosingReaches config es w → HasRoomLeft config w (most_events_to_free config w + 1) → FreesLocks config w
+    → LosingReaches config es w → HasRoomLive config w (most_events_to_free config w + 1) → FreesLocks config w
 frees_all config apart es w l free = frees config apart es w l 0
     (λ i here. let all : (w.world.node i).clock + (most_events_to_free config w + 1) ≤ CLOCK_LIMIT = free i here in omega (arith, all))

@@ -8,7 +8,7 @@ use Rattle.pg_machine.proofs.Options.{map_is_some, some_is}
 use Rattle.pg_machine.proofs.Steps.{changes}
 use Rattle.pg_step.specs.Config.{Config, name_at, nodes_at, ports_at}
 use Rattle.pg_step.specs.FrameMachine.{losing_machine_of, node_step, place_turn}
-use Rattle.pg_step.specs.State.{State, formed, left}
+use Rattle.pg_step.specs.State.{State, formed, live_nodes}
 use Rattle.pg_step.specs.Step.{Action, acted, taken}
 use Rattle.pg_step.specs.Turns.{NodeTurn, Report}
 use Rattle.pg_history.proofs.places.Shown.{IsHere}
@@ -64,7 +64,7 @@ module _ (config : Config) (v x : Bare) (i p : ℕ) (happened : Happened (losing
   pub heard : (t : Turn State Message Report) × (node_step config i (v.node i) (Taken p first.0) ≡ Some t) × (mapped_turn Sent t ≡ happened.turn)
   heard = map_is_some (mapped_turn Sent) (node_step config i (v.node i) (Taken p first.0)) happened.turn made
 
-  pub turn : (t : NodeTurn) × (taken (left (nodes_at config i) (v.node i)) (name_at config p) first.0 (v.node i) ≡ Ok t) × (heard.0 ≡ place_turn config t)
+  pub turn : (t : NodeTurn) × (taken (live_nodes (nodes_at config i) (v.node i)) (name_at config p) first.0 (v.node i) ≡ Ok t) × (heard.0 ≡ place_turn config t)
   turn = took_so config i (v.node i) p first.0 heard.0 heard.1
 
   pub turn_is : happened.turn ≡ mapped_turn Sent (place_turn config turn.0)
@@ -96,7 +96,7 @@ module _ (config : Config) (v x : Bare) (i : ℕ) (action : Action) (happened : 
       (ap ((losing_machine_of config).step i (v.node i)) (some_is happened.given) ∙ happened.made)
 
   pub own_turn : (t : NodeTurn)
-      × (acted (nodes_at config i) (left (nodes_at config i) (v.node i)) (ports_at config i) action (v.node i) ≡ Ok t)
+      × (acted (nodes_at config i) (live_nodes (nodes_at config i) (v.node i)) (ports_at config i) action (v.node i) ≡ Ok t)
       × (acts.0 ≡ place_turn config t)
   own_turn = did_so config i (v.node i) action acts.0 acts.1
 

@@ -1,4 +1,4 @@
--- The peers of a node that are left, by their places, and sums over them.
+-- The live peers of a node, by their places, and sums over them.
 use Rattle.std.proofs.Common.{◌≡◌, ◌⊎◌, inl, inr, ℕ, ◌+◌, ◌*◌, ◌<◌, Bool, true, false, not, ◌&&◌}
 use Rattle.std.proofs.Common.{cond, length, List, [], ◌∷◌, refl, ap, sym, ◌∙◌, subst, arith}
 use Rattle.std.specs.Cmp.{first_so, second_so}

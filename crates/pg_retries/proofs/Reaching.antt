@@ -25,7 +25,7 @@ use Rattle.pg_step.specs.Config.{Config, name_at, names_of, nodes_at, ports_at}
 use Rattle.pg_step.specs.FrameMachine.{last_notice, losing_frame_machine, losing_machine_of, place_turn, placed}
 use Rattle.pg_step.specs.LossLaws.{LosingFrameWorld}
 use Rattle.pg_step.specs.Nodes.{Node, Nodes}
-use Rattle.pg_step.specs.State.{State, left}
+use Rattle.pg_step.specs.State.{State, live_nodes}
 use Rattle.pg_step.specs.State.Stage.{Asking, Changing, Closed, Waiting}
 use Rattle.pg_step.specs.State.{Stage}
 use Rattle.pg_step.specs.Step.{Action, CLOCK_LIMIT, Retry}
@@ -36,21 +36,21 @@ use Rattle.pg_history.proofs.ends.Apart.{pair_first, pair_second}
 use Rattle.pg_history.proofs.steps.Ways.{packet_there, pair_there}
 use Rattle.pg_history.proofs.places.Shown.{IsHere}
 use Rattle.pg_history.proofs.quiet.Sums.{total}
-use Rattle.pg_loss.specs.Quiet.{IsQuietLeft}
+use Rattle.pg_loss.specs.Quiet.{IsQuietLive}
 use Rattle.pg_loss.specs.Reached.{LosingReaches}
-use Rattle.pg_loss.proofs.Bridge.{left_same, not_true}
+use Rattle.pg_loss.proofs.Bridge.{live_same, not_true}
 use Rattle.pg_loss.proofs.Bridges.{Bridged, bridged}
 use Rattle.pg_loss.proofs.Counting.{all_count}
-use Rattle.pg_loss.proofs.Formation.{is_formed_left}
+use Rattle.pg_loss.proofs.Formation.{is_formed_live}
 use Rattle.pg_loss.proofs.Lossy.{Died, Passed, Went, bare, passed}
 use Rattle.pg_loss.proofs.Retries.{waits_for_retries}
 use Rattle.pg_left.proofs.Passing.{Leads, Leaves, leads_more}
-use Rattle.pg_ready.specs.Ready.{HasRoomLeft, LossesSeen, NoLockLeft, NoneReadyLeft, is_ready, is_ready_at}
+use Rattle.pg_ready.specs.Ready.{HasRoomLive, LossesSeen, NoLockLive, NoneReadyLive, is_ready, is_ready_at}
 use Rattle.pg_ready.proofs.Going.{no_loss, retry_is}
 use Rattle.pg_ready.proofs.Resting.{next_with_room, on_time, room_left, went}
 use Rattle.pg_ready.proofs.Retried.{fewer_ready, gone_later, no_lock, seen_later}
-use Rattle.pg_ready.proofs.Silence.{all_silent, among_left}
-use Rattle.pg_retries.specs.Retried.{HasRoomAmongLeft, IsFreeLeft, RetryGoesPastLosses, left_peer_count}
+use Rattle.pg_ready.proofs.Silence.{all_silent, among_live}
+use Rattle.pg_retries.specs.Retried.{HasRoomAmongLive, IsFreeLive, RetryGoesPastLosses, live_peer_count}
 use Rattle.pg_retries.proofs.Alone.{Alone, weight}
 use Rattle.pg_retries.proofs.Answered.{IsStill, begun, begun_many, ends_answered, opens, some_packet, still_again, taken_all}
 use Rattle.pg_history.proofs.quiet.Phases.Phase.{Ahead}
@@ -64,8 +64,8 @@ leads_on config (e ∷ es) more w v u l k = (l.0, l.1, leads_on config es more l
 
 -- each event takes one from the room
 pub room_run : (config : Config) (ts : List (Event Action)) (es : List (LosingEvent Action)) (w v : LosingFrameWorld) (k : ℕ)
-    → LosingReaches config es w → Leads config w (all_steps ts) v → HasRoomLeft config w (length ts + k) → HasRoomLeft config v k
-room_run config [] es w v k l more room = subst (λ z. HasRoomLeft config z k) more
+    → LosingReaches config es w → Leads config w (all_steps ts) v → HasRoomLive config w (length ts + k) → HasRoomLive config v k
+room_run config [] es w v k l more room = subst (λ z. HasRoomLive config z k) more
     (λ i here. let all : (w.world.node i).clock + (0 + k) ≤ CLOCK_LIMIT = room i here in omega (arith, all))
 room_run config (d ∷ ts) es w v k l more room =
     let u : LosingFrameWorld = more.0 in
@@ -85,10 +85,10 @@ seen_run config apart (d ∷ ts) es w v l seen more = seen_run config apart ts (
     (leads_more config es (nobody_gone (start_of (losing_frame_machine config))) w more.0 (Step d) l more.1)
     (seen_later config apart es w more.0 l seen d more.1) more.2
 
--- an event takes one from the room of the nodes that are left, since what they take comes from one of them
+-- an event takes one from the room of the live nodes, since what they take comes from one of them
 module _ (config : Config) (apart : IsDistinct same_atom (names_of config)) (es : List (LosingEvent Action)) (w v : LosingFrameWorld)
     (l : LosingReaches config es w) (seen : LossesSeen config w) (d : Event Action) (leaves : Leaves config w (Step d) v) (k : ℕ)
-    (room : HasRoomAmongLeft config w (suc k)) where
+    (room : HasRoomAmongLive config w (suc k)) where
   went_so : Happened (losing_frame_machine config) w.world d v.world
   went_so = happened (losing_frame_machine config) w.world v.world d (went config w v d leaves).0
 
@@ -117,7 +117,7 @@ module _ (config : Config) (apart : IsDistinct same_atom (names_of config)) (es 
       let peer : (w.world.node p).clock + suc k ≤ CLOCK_LIMIT = room p (pair_second (length config) (node_of d) p pair) (sender_lives p x first.0 pair alive first.1) in
       omega (arith, stamp, own, peer)
 
-  pub room_among : HasRoomAmongLeft config v k
+  pub room_among : HasRoomAmongLive config v k
   room_among i here lives = go (cases_eq i (node_of d))
     where
       alive : w.gone i ≡ false
@@ -137,8 +137,8 @@ module _ (config : Config) (apart : IsDistinct same_atom (names_of config)) (es 
 
 room_among_run : (config : Config) (apart : IsDistinct same_atom (names_of config)) (ts : List (Event Action)) (es : List (LosingEvent Action))
     (w v : LosingFrameWorld) (k : ℕ) → LosingReaches config es w → LossesSeen config w → Leads config w (all_steps ts) v
-    → HasRoomAmongLeft config w (length ts + k) → HasRoomAmongLeft config v k
-room_among_run config apart [] es w v k l seen more room = subst (λ z. HasRoomAmongLeft config z k) more
+    → HasRoomAmongLive config w (length ts + k) → HasRoomAmongLive config v k
+room_among_run config apart [] es w v k l seen more room = subst (λ z. HasRoomAmongLive config z k) more
     (λ i here lives. let all : (w.world.node i).clock + (0 + k) ≤ CLOCK_LIMIT = room i here lives in omega (arith, all))
 room_among_run config apart (d ∷ ts) es w v k l seen more room =
     room_among_run config apart ts (es ++ Step d ∷ []) more.0 v k
@@ -149,8 +149,8 @@ room_among_run config apart (d ∷ ts) es w v k l seen more room =
 
 -- where none is ready none becomes ready
 pub none_on : (config : Config) (apart : IsDistinct same_atom (names_of config)) (events : List (LosingEvent Action)) (w : LosingFrameWorld)
-    → LosingReaches config events w → LossesSeen config w → NoneReadyLeft config w → (steps : List (Event Action)) (v : LosingFrameWorld)
-    → Leads config w (all_steps steps) v → NoneReadyLeft config v
+    → LosingReaches config events w → LossesSeen config w → NoneReadyLive config w → (steps : List (Event Action)) (v : LosingFrameWorld)
+    → Leads config w (all_steps steps) v → NoneReadyLive config v
 none_on config apart events w l seen none steps v more i o there alive = not_true (is_ready_at config v i o)
     (λ ready. never (fewer_ready config apart i o steps events w v l seen more ready).0)
   where
@@ -167,13 +167,13 @@ no_packets [] e = refl
 no_packets (x ∷ xs) e = absurd (cc)
 
 module _ (config : Config) (apart : IsDistinct same_atom (names_of config)) (events : List (LosingEvent Action)) (w : LosingFrameWorld)
-    (l : LosingReaches config events w) (quiet : IsQuietLeft config w) (h : ℕ) (here : IsHere config h) (lives : w.gone h ≡ false)
+    (l : LosingReaches config events w) (quiet : IsQuietLive config w) (h : ℕ) (here : IsHere config h) (lives : w.gone h ≡ false)
     (op : OpId) where
   abbrev s : State
   s = (w.world.node h).state
 
   abbrev counting : Nodes
-  counting = left (nodes_at config h) (w.world.node h).state
+  counting = live_nodes (nodes_at config h) (w.world.node h).state
 
   -- ---- it can be tried again
 
@@ -212,9 +212,9 @@ module _ (config : Config) (apart : IsDistinct same_atom (names_of config)) (eve
   b : Bridged config apart (bare w)
   b = bridged config apart events w l
 
-  -- each node that is left has seen each loss
+  -- each live node has seen each loss
   seen : LossesSeen config w
-  seen = (among_left config apart events w l quiet).seen
+  seen = (among_live config apart events w l quiet).seen
 
   abbrev lost : Node → Bool
   lost = (w.world.node h).state.lost
@@ -234,7 +234,7 @@ module _ (config : Config) (apart : IsDistinct same_atom (names_of config)) (eve
   still : IsStill config apart h here w.gone lost known lives (plain w.world)
   still x y pair alive = ap packets_of (quiet x y pair alive)
 
-  module _ (u : Update) (waiting : (w.world.node h).state.stages op ≡ Waiting u) (free : IsFreeLeft config w (name_of u))
+  module _ (u : Update) (waiting : (w.world.node h).state.stages op ≡ Waiting u) (free : IsFreeLive config w (name_of u))
       (ts : List (Event Action)) (only : OnlyTakes ts) (v : LosingFrameWorld) (more : Leads config w (all_steps (Do h (Retry op) ∷ ts)) v) where
     abbrev c : ℕ
     c = (w.world.node h).state.references + 1
@@ -256,7 +256,7 @@ module _ (config : Config) (apart : IsDistinct same_atom (names_of config)) (eve
 
     first : Alone config apart h here w.gone lost known lives op u c (plain x.world) total_weight
     first = begun config apart h here w.gone lost known lives (plain w.world) (plain x.world) op u waiting retried.0 refl still
-        (λ i there alive. is_formed_left config apart events w l quiet i there alive) (λ i there alive. free i there alive)
+        (λ i there alive. is_formed_live config apart events w l quiet i there alive) (λ i there alive. free i there alive)
 
     last : (now : ℕ) × (total_weight ≡ length ts + now) × Alone config apart h here w.gone lost known lives op u c (plain v.world) now
     last = taken_all config apart h here w.gone lost known lives op u c ts only x v more.2 retried.1 total_weight first
@@ -265,12 +265,12 @@ module _ (config : Config) (apart : IsDistinct same_atom (names_of config)) (eve
     now = last.0
 
     abbrev peers : ℕ
-    peers = left_peer_count config w
+    peers = live_peer_count config w
 
     sum : length ts + now ≡ 5 * peers
     sum =
         let all : total_weight ≡ 5 * peers = begun_many config apart h here w.gone lost known lives (plain w.world) (plain x.world) op u waiting retried.0 refl still
-        (λ i there alive. is_formed_left config apart events w l quiet i there alive) (λ i there alive. free i there alive) in
+        (λ i there alive. is_formed_live config apart events w l quiet i there alive) (λ i there alive. free i there alive) in
         let taken : total_weight ≡ length ts + now = last.1 in
         omega (arith, all, taken)
 
@@ -287,8 +287,8 @@ module _ (config : Config) (apart : IsDistinct same_atom (names_of config)) (eve
     alive_there = ap (λ (f : ℕ → Bool). f h) gone_same ∙ lives
 
     -- those that count are the same
-    same_nodes : left (nodes_at config h) (v.world.node h).state ≡ counting
-    same_nodes = left_same (nodes_at config h) (v.world.node h).state (w.world.node h).state (sym (last.2.knew))
+    same_nodes : live_nodes (nodes_at config h) (v.world.node h).state ≡ counting
+    same_nodes = live_same (nodes_at config h) (v.world.node h).state (w.world.node h).state (sym (last.2.knew))
 
     unready_there : is_ready_at config v h op ≡ false
     unready_there = not_true (is_ready_at config v h op)
@@ -300,7 +300,7 @@ module _ (config : Config) (apart : IsDistinct same_atom (names_of config)) (eve
     unready : is_ready counting ((v.world.node h).state.stages op) (v.world.node h).state ≡ false
     unready = ap (λ z. is_ready z ((v.world.node h).state.stages op) (v.world.node h).state) (sym same_nodes) ∙ unready_there
 
-    quiet_if : IsStill config apart h here w.gone lost known lives (plain v.world) → IsQuietLeft config v
+    quiet_if : IsStill config apart h here w.gone lost known lives (plain v.world) → IsQuietLive config v
     quiet_if none a y pair alive = no_packets (v.world.wire a y) (none a y pair (ap (λ (f : ℕ → Bool). f y) (sym gone_same) ∙ alive))
 
     waits_so : IsStill config apart h here w.gone lost known lives (plain v.world)
@@ -315,8 +315,8 @@ module _ (config : Config) (apart : IsDistinct same_atom (names_of config)) (eve
         go (inl more_) = lt-ltb peers now more_ ∙ sym (lt-ltb (length ts) (4 * peers) (omega (arith, sum, more_)))
         go (inr few) = le-ltb peers now few ∙ sym (le-ltb (length ts) (4 * peers) (omega (arith, sum, few)))
 
-    module _ (room : HasRoomAmongLeft config w (1 + 5 * left_peer_count config w)) where
-      room_later : HasRoomAmongLeft config v now
+    module _ (room : HasRoomAmongLive config w (1 + 5 * live_peer_count config w)) where
+      room_later : HasRoomAmongLive config v now
       room_later = room_among_run config apart (Do h (Retry op) ∷ ts) events w v now l seen more
           (λ i there alive. let before : (w.world.node i).clock + (1 + 5 * peers) ≤ CLOCK_LIMIT = room i there alive in omega (arith, before, sum))
 
@@ -369,7 +369,7 @@ module _ (config : Config) (apart : IsDistinct same_atom (names_of config)) (eve
 
   -- ---- where none is ready
 
-  module _ (none : NoneReadyLeft config w) where
+  module _ (none : NoneReadyLive config w) where
     -- each open command waits for its retry, with no attempt under way
     waiting_is : is_open ((w.world.node h).state.stages op) ≡ true → (u : Update) × ((w.world.node h).state.stages op ≡ Waiting u)
     waiting_is opened = go (s.stages op) refl (waiting_so opened) opened (none h op here lives)
@@ -381,30 +381,30 @@ module _ (config : Config) (apart : IsDistinct same_atom (names_of config)) (eve
         go (Asking k) is wait _ ready = absurd (cc (sym wait ∙ (ap (λ z. waits counting z s) is ∙ (sym (ap (λ z. is_ready counting z s) is) ∙ ready))))
         go (Changing k) is wait _ ready = absurd (cc (sym wait ∙ (ap (λ z. waits counting z s) is ∙ (sym (ap (λ z. is_ready counting z s) is) ∙ ready))))
 
-    pub free_for : (u : Update) → IsFreeLeft config w (name_of u)
+    pub free_for : (u : Update) → IsFreeLive config w (name_of u)
     free_for u i there alive = no_lock config apart events w l quiet none i (name_of u) there alive
 
-    pub none_later : (steps : List (Event Action)) (v : LosingFrameWorld) → Leads config w (all_steps steps) v → NoneReadyLeft config v
+    pub none_later : (steps : List (Event Action)) (v : LosingFrameWorld) → Leads config w (all_steps steps) v → NoneReadyLive config v
     none_later steps v more = none_on config apart events w l seen none steps v more
 
     pub open_waits : is_open ((w.world.node h).state.stages op) ≡ true → (u : Update) × ((w.world.node h).state.stages op ≡ Waiting u)
     open_waits opened = waiting_is opened
 
     -- so it is answered
-    module _ (opened : is_open ((w.world.node h).state.stages op) ≡ true) (room : HasRoomAmongLeft config w (1 + 5 * left_peer_count config w))
+    module _ (opened : is_open ((w.world.node h).state.stages op) ≡ true) (room : HasRoomAmongLive config w (1 + 5 * live_peer_count config w))
         (ts : List (Event Action)) (only : OnlyTakes ts) (v : LosingFrameWorld) (more : Leads config w (all_steps (Do h (Retry op) ∷ ts)) v) where
       pub retry_answered : RetryGoesPastLosses config w h op (length ts) v
       retry_answered =
           let waits_now = waiting_is opened in
           retry_goes waits_now.0 waits_now.1 (free_for waits_now.0) ts only v more room
 
-      pub locks_free : length ts ≡ 5 * left_peer_count config w → NoLockLeft config v
+      pub locks_free : length ts ≡ 5 * live_peer_count config w → NoLockLive config v
       locks_free all = no_lock config apart (events ++ all_steps (Do h (Retry op) ∷ ts)) v
           (leads_on config events (all_steps (Do h (Retry op) ∷ ts)) (nobody_gone (start_of (losing_frame_machine config))) w v l more)
           (retry_answered.quiet all) (none_later (Do h (Retry op) ∷ ts) v more)
 
 pub none_on_quiet : (config : Config) (apart : IsDistinct same_atom (names_of config)) (events : List (LosingEvent Action)) (w : LosingFrameWorld)
-    → LosingReaches config events w → IsQuietLeft config w → NoneReadyLeft config w → (i : ℕ) (op : OpId) (ts : List (Event Action)) (v : LosingFrameWorld)
-    → Leads config w (all_steps (Do i (Retry op) ∷ ts)) v → NoneReadyLeft config v
+    → LosingReaches config events w → IsQuietLive config w → NoneReadyLive config w → (i : ℕ) (op : OpId) (ts : List (Event Action)) (v : LosingFrameWorld)
+    → Leads config w (all_steps (Do i (Retry op) ∷ ts)) v → NoneReadyLive config v
 none_on_quiet config apart events w l quiet none i op ts v more =
-    none_on config apart events w l ((among_left config apart events w l quiet).seen) none (Do i (Retry op) ∷ ts) v more
+    none_on config apart events w l ((among_live config apart events w l quiet).seen) none (Do i (Retry op) ∷ ts) v more

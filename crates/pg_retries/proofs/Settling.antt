@@ -28,7 +28,7 @@ use Rattle.pg_step.specs.Config.{Config, name_at, names_of, nodes_at, ports_at}
 use Rattle.pg_step.specs.FrameMachine.{losing_machine_of, place_turn}
 use Rattle.pg_step.specs.LossLaws.{LosingFrameWorld}
 use Rattle.pg_step.specs.Nodes.{Node, Nodes, is_peer, to_peers}
-use Rattle.pg_step.specs.State.{Stage, State, Use, left}
+use Rattle.pg_step.specs.State.{Stage, State, Use, live_nodes}
 use Rattle.pg_step.specs.State.Stage.{Asking, Changing, Closed, Waiting}
 use Rattle.pg_step.specs.State.Use.{Fresh, Locking, Owning, Spent, Updating}
 use Rattle.pg_step.specs.Step.{Action, Retry, acted}
@@ -46,9 +46,9 @@ use Rattle.pg_history.proofs.quiet.Weights.{Lessens, Made, Pays, gives_up_pay, n
 use Rattle.pg_history.proofs.quiet.Weights.{round_goes_pay, sent_weight, use_weight, weigh}
 use Rattle.pg_history.proofs.references.Keys.{at_upd, numbers}
 use Rattle.pg_history.proofs.steps.Single.{Makes, ok_is}
-use Rattle.pg_loss.specs.Quiet.{IsQuietLeft, left_open}
+use Rattle.pg_loss.specs.Quiet.{IsQuietLive, live_open}
 use Rattle.pg_loss.specs.Reached.{LosingReaches}
-use Rattle.pg_loss.proofs.Bridge.{Left, any_filter, left_same, not_true}
+use Rattle.pg_loss.proofs.Bridge.{Left, any_filter, live_same, not_true}
 use Rattle.pg_loss.proofs.Bridges.{Bridged, bridged}
 use Rattle.pg_loss.proofs.Counting.{all_count}
 use Rattle.pg_loss.proofs.Lossy.{Died, Lossy, Passed, Went, bare, passed}
@@ -183,12 +183,12 @@ module _ (config : Config) (apart : IsDistinct same_atom (names_of config)) wher
   below k here = (Decides-ltb k n).0 here
 
   abbrev counting : ℕ → State → Nodes
-  counting i s = left (nodes_at config i) s
+  counting i s = live_nodes (nodes_at config i) s
 
   abbrev weight_at : ℕ → State → ℕ
   weight_at i s = node_weight (counting i s) n name s
 
-  -- what is on the way to the nodes that are left
+  -- what is on the way to the live nodes
   abbrev way_weights : Lossy → ℕ → ℕ
   way_weights v a = total n (λ b. on_way v.gone a b (weigh_noticed (v.world.wire a b)))
 
@@ -207,13 +207,13 @@ module _ (config : Config) (apart : IsDistinct same_atom (names_of config)) wher
   made_all es w l i c above = subst IsAtRest (sym ((all_count config es w i l).counts.fitting.fresh c above)) tt
 
   -- nothing is on the way: five for each peer of each open command
-  pub quiet_light : (es : List (LosingEvent Action)) (w : LosingFrameWorld) → LosingReaches config es w → IsQuietLeft config w
-      → heavy w ≤ 5 * peer_count config * left_open config w
+  pub quiet_light : (es : List (LosingEvent Action)) (w : LosingFrameWorld) → LosingReaches config es w → IsQuietLive config w
+      → heavy w ≤ 5 * peer_count config * live_open config w
   quiet_light es w l quiet =
       let k = 5 * peer_count config in
       let nodes : total n (node_weights (bare w)) ≤ total n (λ i. k * (w.world.node i).state.opened) = total_le n (node_weights (bare w)) (λ i. k * (w.world.node i).state.opened)
       (λ i low. let here = place i low in node_light config apart i here (counting i (w.world.node i).state) (own_out i here (w.world.node i).state) (w.world.node i).state ((all_count config es w i l).counts)) in
-      let all : total n (λ i. k * (w.world.node i).state.opened) ≡ k * left_open config w = total_scale n k (λ i. (w.world.node i).state.opened) in
+      let all : total n (λ i. k * (w.world.node i).state.opened) ≡ k * live_open config w = total_scale n k (λ i. (w.world.node i).state.opened) in
       let none : total n (way_weights (bare w)) ≡ 0 * n = total_all n 0 (way_weights (bare w)) (λ a low. row a (place a low)) in
       omega (arith, nodes, all, none)
     where
@@ -244,7 +244,7 @@ module _ (config : Config) (apart : IsDistinct same_atom (names_of config)) wher
     abbrev all : Changes d h.turn (bare v).world (bare x).world
     all = changes (losing_machine_of config) (bare v).world (bare x).world d h
 
-    -- of what is sent, that which goes to the nodes that are left
+    -- of what is sent, that which goes to the live nodes
     abbrev sent : ℕ
     sent = total n (λ b. on_way v.gone i b (weigh_noticed (h.turn.sends b)))
 
@@ -351,7 +351,7 @@ module _ (config : Config) (apart : IsDistinct same_atom (names_of config)) wher
           let is : took.event.turn ≡ mapped_turn Sent (place_turn config T) = turn_is config (bare v).world (bare x).world i p took.event ys way in
           let state : weight_at i took.event.turn.state ≡ node_weight m n name T.state =
           ap (λ (z : Turn State (Noticed Message) Report). weight_at i z.state) is
-          ∙ ap (λ z. node_weight z n name T.state) (sym (left_same (nodes_at config i) s T.state (known_is config (bare v).world (bare x).world i p took.event ys way))) in
+          ∙ ap (λ z. node_weight z n name T.state) (sym (live_same (nodes_at config i) s T.state (known_is config (bare v).world (bare x).world i p took.event ys way))) in
           let sends : turn_weight took.event.turn ≡ sent_weight m n name T =
           ap turn_weight is ∙ sent_as T i m in
           let less : sent_weight m n name T + node_weight m n name T.state + 1 ≤ node_weight m n name s + packet_weight y = lessens.less in
@@ -440,7 +440,7 @@ module _ (config : Config) (apart : IsDistinct same_atom (names_of config)) wher
 
       state_weight : weight_at i did.0.turn.state ≡ node_weight seat n name own.0.state
       state_weight = ap (λ (z : Turn State (Noticed Message) Report). weight_at i z.state) is
-          ∙ ap (λ z. node_weight z n name own.0.state) (sym (left_same (nodes_at config i) state own.0.state (own_known config (bare v).world (bare x).world i (Retry op) did.0)))
+          ∙ ap (λ z. node_weight z n name own.0.state) (sym (live_same (nodes_at config i) state own.0.state (own_known config (bare v).world (bare x).world i (Retry op) did.0)))
 
       sends_weight : turn_weight did.0.turn ≡ sent_weight seat n name own.0
       sends_weight = ap turn_weight is ∙ sent_as own.0 i seat
@@ -461,20 +461,20 @@ module _ (config : Config) (apart : IsDistinct same_atom (names_of config)) wher
       done : Tried seat n name state own.0
       done = acted_tried seat n name (nodes_at config i) (ports_at config i) op state own.0 (made_all es v l i) (all_linked config es v l i) ready own.1
 
-      fewer : left_open config x ≤ left_open config v
+      fewer : live_open config x ≤ live_open config v
       fewer = fewer_open config es v x l (Do i (Retry op) ∷ []) tt (x, leaves, refl)
 
       opened_there : 1 ≤ state.opened
       opened_there = some_open (ports_at config i) state ((all_count config es v i l).counts) op ((ready_waits seat (state.stages op) state ready).1)
 
-      pub retry_less : heavy x + P * left_open config x ≤ heavy v + P * left_open config v
+      pub retry_less : heavy x + P * live_open config x ≤ heavy v + P * live_open config v
       retry_less = go done
         where
-          go : Tried seat n name state own.0 → heavy x + P * left_open config x ≤ heavy v + P * left_open config v
+          go : Tried seat n name state own.0 → heavy x + P * live_open config x ≤ heavy v + P * live_open config v
           go (Paid pays) =
               let paid : sent_weight seat n name own.0 + node_weight seat n name own.0.state ≤ node_weight seat n name state = pays.pays in
               let light : heavy x ≤ heavy v + 0 = world_change 0 (omega (arith, paid)) in
-              let few : P * left_open config x ≤ P * left_open config v = mul-le-mul_left P fewer in
+              let few : P * live_open config x ≤ P * live_open config v = mul-le-mul_left P fewer in
               omega (arith, light, few)
           go (Ended packet one sends made light references opened) =
               let sent_is_ : sent_weight seat n name own.0 ≡ total n (λ y. weigh (to_peers seat (λ _. true) packet (name y))) =
@@ -485,9 +485,9 @@ module _ (config : Config) (apart : IsDistinct same_atom (names_of config)) wher
               (total_le (state.references + 1) (λ c. use_weight seat n name (own.0.state.uses c)) (λ c. use_weight seat n name (state.uses c)) (λ c _. light c)) in
               let change : heavy x ≤ heavy v + P = world_change P (omega (arith, sent_is_, few_sends, lighter)) in
               let now : (x.world.node i).state.opened ≡ state.opened - 1 = ap (λ (z : State). z.opened) (own_state config (bare v).world (bare x).world i (Retry op) did.0) ∙ opened in
-              let one_less : left_open config x < left_open config v = total_lower n i (λ j. (x.world.node j).state.opened) (λ j. (v.world.node j).state.opened) (below i here)
+              let one_less : live_open config x < live_open config v = total_lower n i (λ j. (x.world.node j).state.opened) (λ j. (v.world.node j).state.opened) (below i here)
               (omega (arith, now, opened_there))
               (λ j _. fewer_opened config es v x l (Do i (Retry op) ∷ []) tt (x, leaves, refl) j) in
-              let scaled : P * suc (left_open config x) ≤ P * left_open config v = mul-le-mul_left P (omega (arith, one_less)) in
-              let more : P * suc (left_open config x) ≡ P * left_open config x + P = mul-suc P (left_open config x) in
+              let scaled : P * suc (live_open config x) ≤ P * live_open config v = mul-le-mul_left P (omega (arith, one_less)) in
+              let more : P * suc (live_open config x) ≡ P * live_open config x + P = mul-suc P (live_open config x) in
               omega (arith, change, scaled, more)

@@ -1,4 +1,4 @@
--- What a retry comes to where nodes were lost, and nothing is on the way to a node that is left.
+-- What a retry comes to where nodes were lost, and nothing is on the way to a live node.
 use Rattle.std.specs.Prelude.{◌≡◌, ℕ, ◌+◌, ◌-◌, ◌*◌, ◌<◌, ◌≤◌, true, false, cond, nat_lt}
 use Rattle.std.specs.Prelude.{length, List, ◌∷◌, None, Some}
 use Rattle.pg_term.specs.declared.term.Term.{Term}
@@ -18,42 +18,42 @@ use Rattle.pg_step.specs.declared.command.OpId.{OpId}
 use Rattle.pg_history.specs.Counted.{is_open}
 use Rattle.pg_history.specs.History.{IsAnsweredOk, answers_by}
 use Rattle.pg_history.specs.Quiet.{OnlyTakes, OnlyTakesAndRetries, peer_count, total}
-use Rattle.pg_loss.specs.Quiet.{IsQuietLeft, left_open, most_takes_left}
-use Rattle.pg_ready.specs.Ready.{EachIsRetried, HasRoomLeft, NoLockLeft, NoneReadyLeft, OnlyReady, OnlyRetries}
+use Rattle.pg_loss.specs.Quiet.{IsQuietLive, live_open, most_takes_live}
+use Rattle.pg_ready.specs.Ready.{EachIsRetried, HasRoomLive, NoLockLive, NoneReadyLive, OnlyReady, OnlyRetries}
 
--- how many nodes are left
-abbrev pub left_count : Config → LosingFrameWorld → ℕ
-left_count config w = total (length config) (λ i. cond (w.gone i) 0 1)
+-- how many nodes are live
+abbrev pub live_count : Config → LosingFrameWorld → ℕ
+live_count config w = total (length config) (λ i. cond (w.gone i) 0 1)
 
--- how many peers each of them has among the others that are left
-abbrev pub left_peer_count : Config → LosingFrameWorld → ℕ
-left_peer_count config w = left_count config w - 1
+-- how many peers each of them has among the other live nodes
+abbrev pub live_peer_count : Config → LosingFrameWorld → ℕ
+live_peer_count config w = live_count config w - 1
 
--- no node that is left holds the lock of this name, for whomever
-abbrev pub IsFreeLeft : Config → LosingFrameWorld → Term → Type 0
-IsFreeLeft config w name = (i : ℕ) → is_place (length config) i ≡ true → w.gone i ≡ false
+-- no live node holds the lock of this name, for whomever
+abbrev pub IsFreeLive : Config → LosingFrameWorld → Term → Type 0
+IsFreeLive config w name = (i : ℕ) → is_place (length config) i ≡ true → w.gone i ≡ false
     → (w.world.node i).state.locks name ≡ None
 
--- no clock of a node that is left is nearer to its limit than so many events
-abbrev pub HasRoomAmongLeft : Config → LosingFrameWorld → ℕ → Type 0
-HasRoomAmongLeft config w events = (i : ℕ) → is_place (length config) i ≡ true → w.gone i ≡ false
+-- no clock of a live node is nearer to its limit than so many events
+abbrev pub HasRoomAmongLive : Config → LosingFrameWorld → ℕ → Type 0
+HasRoomAmongLive config w events = (i : ℕ) → is_place (length config) i ≡ true → w.gone i ≡ false
     → (w.world.node i).clock + events ≤ CLOCK_LIMIT
 
--- What a retry of a command of node i in the world w, where nothing was on the way to a node that is left, has come to once so
+-- What a retry of a command of node i in the world w, where nothing was on the way to a live node, has come to once so
 -- many packets were taken behind it.
 pub record RetryGoesPastLosses (config : Config) (w : LosingFrameWorld) (i : ℕ) (op : OpId) (count : ℕ) (v : LosingFrameWorld) : Type 0 where
   -- nobody is lost meanwhile
   pub gone : v.gone ≡ w.gone
-  -- five packets for each peer that is left are taken, and no more: three that the peer takes, and two replies
-  pub within : count ≤ 5 * left_peer_count config w
+  -- five packets for each live peer are taken, and no more: three that the peer takes, and two replies
+  pub within : count ≤ 5 * live_peer_count config w
   -- the command is open until four for each of them are
-  pub open_until : is_open ((v.world.node i).state.stages op) ≡ nat_lt count (4 * left_peer_count config w)
+  pub open_until : is_open ((v.world.node i).state.stages op) ≡ nat_lt count (4 * live_peer_count config w)
   -- then it is answered ok
-  pub answered : 4 * left_peer_count config w ≤ count → IsAnsweredOk op (answers_by i v.world.reported)
-  -- and where all are taken nothing is on the way again to a node that is left
-  pub quiet : count ≡ 5 * left_peer_count config w → IsQuietLeft config v
+  pub answered : 4 * live_peer_count config w ≤ count → IsAnsweredOk op (answers_by i v.world.reported)
+  -- and where all are taken nothing is on the way again to a live node
+  pub quiet : count ≡ 5 * live_peer_count config w → IsQuietLive config v
   -- until then a packet is on the way from one of them to another
-  pub on_the_way : count < 5 * left_peer_count config w
+  pub on_the_way : count < 5 * live_peer_count config w
       → (x : ℕ) × (y : ℕ) × (packet : Stamped (Noticed Message)) × (rest : List (Stamped (Noticed Message)))
       × (is_pair (length config) x y ≡ true) × (v.gone x ≡ false) × (v.gone y ≡ false) × (v.world.wire x y ≡ packet ∷ rest)
   -- and each that is next on its way to one of them can be taken
@@ -66,7 +66,7 @@ pub record RetryGoesPastLosses (config : Config) (w : LosingFrameWorld) (i : ℕ
 -- How much room in the clocks suffices to free every lock, where no command comes in and no node is lost: takes until nothing is on the way, a retry of each
 -- open command at most, and six takes for each peer of each.
 abbrev pub most_events_to_free : Config → LosingFrameWorld → ℕ
-most_events_to_free config w = most_takes_left config w + left_open config w + 6 * peer_count config * left_open config w
+most_events_to_free config w = most_takes_live config w + live_open config w + 6 * peer_count config * live_open config w
 
 -- Takes that bring a world to rest, retries of the commands that are ready there, and takes that bring it to rest again.
 pub record FreesLocks (config : Config) (w : LosingFrameWorld) : Type 0 where
@@ -74,7 +74,7 @@ pub record FreesLocks (config : Config) (w : LosingFrameWorld) : Type 0 where
   pub rested : LosingFrameWorld
   pub only_first : OnlyTakes first
   pub leads_first : LosingLeads (losing_frame_machine config) last_notice w (all_steps first) rested
-  pub rests : IsQuietLeft config rested
+  pub rests : IsQuietLive config rested
   pub retries : List (Event Action)
   pub tried : LosingFrameWorld
   -- of each command that is ready there, and of no other
@@ -86,54 +86,54 @@ pub record FreesLocks (config : Config) (w : LosingFrameWorld) : Type 0 where
   pub world : LosingFrameWorld
   pub only_last : OnlyTakes last
   pub leads_last : LosingLeads (losing_frame_machine config) last_notice tried (all_steps last) world
-  -- nothing is on the way to a node that is left, no command of one is ready, and none holds a lock
-  pub quiet : IsQuietLeft config world
-  pub none : NoneReadyLeft config world
-  pub free : NoLockLeft config world
+  -- nothing is on the way to a live node, no command of one is ready, and none holds a lock
+  pub quiet : IsQuietLive config world
+  pub none : NoneReadyLive config world
+  pub free : NoLockLive config world
 
--- no command of a node that is left is open: each that came in there is answered
-abbrev pub NoneOpenLeft : Config → LosingFrameWorld → Type 0
-NoneOpenLeft config w = (i : ℕ) (op : OpId) → is_place (length config) i ≡ true → w.gone i ≡ false
+-- no command of a live node is open: each that came in there is answered
+abbrev pub NoneOpenLive : Config → LosingFrameWorld → Type 0
+NoneOpenLive config w = (i : ℕ) (op : OpId) → is_place (length config) i ≡ true → w.gone i ≡ false
     → is_open ((w.world.node i).state.stages op) ≡ false
 
--- How much room in the clocks suffices to answer every open command of a node that is left, where no command comes in and no node is lost: those that
+-- How much room in the clocks suffices to answer every open command of a live node, where no command comes in and no node is lost: those that
 -- free every lock, and for each open command its retry and five takes for each peer.
-abbrev pub most_events_left : Config → LosingFrameWorld → ℕ
-most_events_left config w = most_events_to_free config w + (1 + 5 * peer_count config) * left_open config w
+abbrev pub most_events_live : Config → LosingFrameWorld → ℕ
+most_events_live config w = most_events_to_free config w + (1 + 5 * peer_count config) * live_open config w
 
 -- What becomes of retries, where a world is reached.
 pub record RetriesGoOn (config : Config) (w : LosingFrameWorld) : Type 0 where
-  -- where nothing is on the way to a node that is left, each open command of one can be tried again
-  pub begins : (i : ℕ) (op : OpId) → IsQuietLeft config w → is_place (length config) i ≡ true → w.gone i ≡ false
+  -- where nothing is on the way to a live node, each open command of one can be tried again
+  pub begins : (i : ℕ) (op : OpId) → IsQuietLive config w → is_place (length config) i ≡ true → w.gone i ≡ false
       → is_open ((w.world.node i).state.stages op) ≡ true → (w.world.node i).clock + 1 ≤ CLOCK_LIMIT
       → (v : LosingFrameWorld) × (losing_happens (losing_frame_machine config) last_notice w (Step (Do i (Retry op))) ≡ Some v)
   -- and goes so, where it waits for its next attempt and the lock of its group is free
   pub goes : (v : LosingFrameWorld) (takes : List (Event Action)) (i : ℕ) (op : OpId) (update : Update)
-      → IsQuietLeft config w → is_place (length config) i ≡ true → w.gone i ≡ false
-      → (w.world.node i).state.stages op ≡ Waiting update → IsFreeLeft config w (name_of update)
-      → HasRoomAmongLeft config w (1 + 5 * left_peer_count config w) → OnlyTakes takes
+      → IsQuietLive config w → is_place (length config) i ≡ true → w.gone i ≡ false
+      → (w.world.node i).state.stages op ≡ Waiting update → IsFreeLive config w (name_of update)
+      → HasRoomAmongLive config w (1 + 5 * live_peer_count config w) → OnlyTakes takes
       → LosingLeads (losing_frame_machine config) last_notice w (all_steps (Do i (Retry op) ∷ takes)) v
       → RetryGoesPastLosses config w i op (length takes) v
-  -- or where no command of a node that is left is ready
+  -- or where no command of a live node is ready
   pub answered : (v : LosingFrameWorld) (takes : List (Event Action)) (i : ℕ) (op : OpId)
-      → IsQuietLeft config w → NoneReadyLeft config w → is_place (length config) i ≡ true → w.gone i ≡ false
+      → IsQuietLive config w → NoneReadyLive config w → is_place (length config) i ≡ true → w.gone i ≡ false
       → is_open ((w.world.node i).state.stages op) ≡ true
-      → HasRoomAmongLeft config w (1 + 5 * left_peer_count config w) → OnlyTakes takes
+      → HasRoomAmongLive config w (1 + 5 * live_peer_count config w) → OnlyTakes takes
       → LosingLeads (losing_frame_machine config) last_notice w (all_steps (Do i (Retry op) ∷ takes)) v
       → RetryGoesPastLosses config w i op (length takes) v
   -- none is ready meanwhile, and where all is taken no lock is held
-  pub unready : (v : LosingFrameWorld) (takes : List (Event Action)) (i : ℕ) (op : OpId) → IsQuietLeft config w → NoneReadyLeft config w
-      → LosingLeads (losing_frame_machine config) last_notice w (all_steps (Do i (Retry op) ∷ takes)) v → NoneReadyLeft config v
+  pub unready : (v : LosingFrameWorld) (takes : List (Event Action)) (i : ℕ) (op : OpId) → IsQuietLive config w → NoneReadyLive config w
+      → LosingLeads (losing_frame_machine config) last_notice w (all_steps (Do i (Retry op) ∷ takes)) v → NoneReadyLive config v
   pub unlocked : (v : LosingFrameWorld) (takes : List (Event Action)) (i : ℕ) (op : OpId)
-      → IsQuietLeft config w → NoneReadyLeft config w → is_place (length config) i ≡ true → w.gone i ≡ false
+      → IsQuietLive config w → NoneReadyLive config w → is_place (length config) i ≡ true → w.gone i ≡ false
       → is_open ((w.world.node i).state.stages op) ≡ true
-      → HasRoomAmongLeft config w (1 + 5 * left_peer_count config w) → OnlyTakes takes
+      → HasRoomAmongLive config w (1 + 5 * live_peer_count config w) → OnlyTakes takes
       → LosingLeads (losing_frame_machine config) last_notice w (all_steps (Do i (Retry op) ∷ takes)) v
-      → length takes ≡ 5 * left_peer_count config w → NoLockLeft config v
+      → length takes ≡ 5 * live_peer_count config w → NoLockLive config v
   -- with room in the clocks takes and retries free every lock
-  pub frees : HasRoomLeft config w (most_events_to_free config w + 1) → FreesLocks config w
-  -- and answer every open command of the nodes that are left
-  pub answers : HasRoomLeft config w (most_events_left config w + 1)
+  pub frees : HasRoomLive config w (most_events_to_free config w + 1) → FreesLocks config w
+  -- and answer every open command of the live nodes
+  pub answers : HasRoomLive config w (most_events_live config w + 1)
       → (more : List (Event Action)) × (v : LosingFrameWorld) × OnlyTakesAndRetries more
       × LosingLeads (losing_frame_machine config) last_notice w (all_steps more) v
-      × NoneOpenLeft config v × IsQuietLeft config v
+      × NoneOpenLive config v × IsQuietLive config v

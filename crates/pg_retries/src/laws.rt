@@ -14,78 +14,78 @@ ghost use Rattle.pg_step.specs.Step.{Action, CLOCK_LIMIT, Retry};
 ghost use Rattle.pg_step.specs.declared.command.OpId.{OpId};
 ghost use Rattle.pg_history.specs.Counted.{is_open};
 ghost use Rattle.pg_history.specs.Quiet.{OnlyTakes, OnlyTakesAndRetries};
-ghost use Rattle.pg_loss.specs.Quiet.{IsQuietLeft};
+ghost use Rattle.pg_loss.specs.Quiet.{IsQuietLive};
 ghost use Rattle.pg_loss.specs.Reached.{LosingReaches};
-ghost use Rattle.pg_ready.specs.Ready.{HasRoomLeft, NoLockLeft, NoneReadyLeft};
-ghost use Rattle.pg_retries.specs.Retried.{FreesLocks, HasRoomAmongLeft, IsFreeLeft, NoneOpenLeft};
-ghost use Rattle.pg_retries.specs.Retried.{RetryGoesPastLosses, left_peer_count, most_events_left, most_events_to_free};
+ghost use Rattle.pg_ready.specs.Ready.{HasRoomLive, NoLockLive, NoneReadyLive};
+ghost use Rattle.pg_retries.specs.Retried.{FreesLocks, HasRoomAmongLive, IsFreeLive, NoneOpenLive};
+ghost use Rattle.pg_retries.specs.Retried.{RetryGoesPastLosses, live_peer_count, most_events_live, most_events_to_free};
 
-/// A retry is answered, whoever was lost. Where nothing is on the way to a node that is left, each open command of such a node can
-/// be tried again. Let it wait for its next attempt, and no node that is left hold the lock of its group. From then on, in
-/// whatever order packets are taken, it is answered ok when four for each peer that is left are taken, and after one more
+/// A retry is answered, whoever was lost. Where nothing is on the way to a live node, each open command of such a node can
+/// be tried again. Let it wait for its next attempt, and no live node hold the lock of its group. From then on, in
+/// whatever order packets are taken, it is answered ok when four for each live peer are taken, and after one more
 /// for each of them nothing is on the way again.
 ///
 /// It is about takes alone: where other commands come in meanwhile or a node is lost, this one may wait again.
 pub fn a_retry_is_answered_past_losses()
     ensures begins { (config : Config) (w : LosingFrameWorld) (events : List (LosingEvent Action)) (i : ℕ) (op : OpId)
-        → IsDistinct same_atom (names_of config) → LosingReaches config events w → IsQuietLeft config w
+        → IsDistinct same_atom (names_of config) → LosingReaches config events w → IsQuietLive config w
         → is_place (length config) i ≡ true → w.gone i ≡ false
         → is_open ((w.world.node i).state.stages op) ≡ true → (w.world.node i).clock + 1 ≤ CLOCK_LIMIT
         → (v : LosingFrameWorld)
         × (losing_happens (losing_frame_machine config) last_notice w (Step (Do i (Retry op))) ≡ Some v) }
     ensures goes { (config : Config) (w v : LosingFrameWorld) (events : List (LosingEvent Action))
         (takes : List (Event Action)) (i : ℕ) (op : OpId) (update : Update)
-        → IsDistinct same_atom (names_of config) → LosingReaches config events w → IsQuietLeft config w
+        → IsDistinct same_atom (names_of config) → LosingReaches config events w → IsQuietLive config w
         → is_place (length config) i ≡ true → w.gone i ≡ false
-        → (w.world.node i).state.stages op ≡ Waiting update → IsFreeLeft config w (name_of update)
-        → HasRoomAmongLeft config w (1 + 5 * left_peer_count config w) → OnlyTakes takes
+        → (w.world.node i).state.stages op ≡ Waiting update → IsFreeLive config w (name_of update)
+        → HasRoomAmongLive config w (1 + 5 * live_peer_count config w) → OnlyTakes takes
         → LosingLeads (losing_frame_machine config) last_notice w (all_steps (Do i (Retry op) ∷ takes)) v
         → RetryGoesPastLosses config w i op (length takes) v }
 {}
 
-/// Where nothing is on the way to a node that is left, and no command of one is ready, the retry of each open command is answered
-/// so; no command is ready meanwhile, and once all is taken no node that is left holds a lock.
+/// Where nothing is on the way to a live node, and no command of one is ready, the retry of each open command is answered
+/// so; no command is ready meanwhile, and once all is taken no live node holds a lock.
 pub fn retries_are_answered_where_none_is_ready()
     ensures goes { (config : Config) (w v : LosingFrameWorld) (events : List (LosingEvent Action))
         (takes : List (Event Action)) (i : ℕ) (op : OpId)
-        → IsDistinct same_atom (names_of config) → LosingReaches config events w → IsQuietLeft config w
-        → NoneReadyLeft config w → is_place (length config) i ≡ true → w.gone i ≡ false
+        → IsDistinct same_atom (names_of config) → LosingReaches config events w → IsQuietLive config w
+        → NoneReadyLive config w → is_place (length config) i ≡ true → w.gone i ≡ false
         → is_open ((w.world.node i).state.stages op) ≡ true
-        → HasRoomAmongLeft config w (1 + 5 * left_peer_count config w) → OnlyTakes takes
+        → HasRoomAmongLive config w (1 + 5 * live_peer_count config w) → OnlyTakes takes
         → LosingLeads (losing_frame_machine config) last_notice w (all_steps (Do i (Retry op) ∷ takes)) v
         → RetryGoesPastLosses config w i op (length takes) v }
     ensures unready { (config : Config) (w v : LosingFrameWorld) (events : List (LosingEvent Action))
         (takes : List (Event Action)) (i : ℕ) (op : OpId)
-        → IsDistinct same_atom (names_of config) → LosingReaches config events w → IsQuietLeft config w
-        → NoneReadyLeft config w
+        → IsDistinct same_atom (names_of config) → LosingReaches config events w → IsQuietLive config w
+        → NoneReadyLive config w
         → LosingLeads (losing_frame_machine config) last_notice w (all_steps (Do i (Retry op) ∷ takes)) v
-        → NoneReadyLeft config v }
+        → NoneReadyLive config v }
     ensures locks { (config : Config) (w v : LosingFrameWorld) (events : List (LosingEvent Action))
         (takes : List (Event Action)) (i : ℕ) (op : OpId)
-        → IsDistinct same_atom (names_of config) → LosingReaches config events w → IsQuietLeft config w
-        → NoneReadyLeft config w → is_place (length config) i ≡ true → w.gone i ≡ false
+        → IsDistinct same_atom (names_of config) → LosingReaches config events w → IsQuietLive config w
+        → NoneReadyLive config w → is_place (length config) i ≡ true → w.gone i ≡ false
         → is_open ((w.world.node i).state.stages op) ≡ true
-        → HasRoomAmongLeft config w (1 + 5 * left_peer_count config w) → OnlyTakes takes
+        → HasRoomAmongLive config w (1 + 5 * live_peer_count config w) → OnlyTakes takes
         → LosingLeads (losing_frame_machine config) last_notice w (all_steps (Do i (Retry op) ∷ takes)) v
-        → length takes ≡ 5 * left_peer_count config w → NoLockLeft config v }
+        → length takes ≡ 5 * live_peer_count config w → NoLockLive config v }
 {}
 
-/// From each world, whoever was lost, takes lead to where nothing is on the way to a node that is left; then a retry of each command
+/// From each world, whoever was lost, takes lead to where nothing is on the way to a live node; then a retry of each command
 /// that is ready there, and of no other; then takes to where nothing is on the way again, no command of such a node is ready,
 /// and none holds a lock, where no clock comes near its limit.
 pub fn every_lock_can_be_freed_past_losses()
     ensures { (config : Config) (w : LosingFrameWorld) (events : List (LosingEvent Action))
         → IsDistinct same_atom (names_of config) → LosingReaches config events w
-        → HasRoomLeft config w (most_events_to_free config w + 1) → FreesLocks config w }
+        → HasRoomLive config w (most_events_to_free config w + 1) → FreesLocks config w }
 {}
 
 /// Nothing is stuck, whoever was lost. From each world takes and retries alone lead to one in which each command is answered that
-/// came in at a node that is left, and nothing is on the way to such a node, where no clock comes near its limit.
+/// came in at a live node, and nothing is on the way to such a node, where no clock comes near its limit.
 pub fn every_command_can_be_answered_past_losses()
     ensures { (config : Config) (w : LosingFrameWorld) (events : List (LosingEvent Action))
         → IsDistinct same_atom (names_of config) → LosingReaches config events w
-        → HasRoomLeft config w (most_events_left config w + 1)
+        → HasRoomLive config w (most_events_live config w + 1)
         → (more : List (Event Action)) × (v : LosingFrameWorld) × OnlyTakesAndRetries more
         × LosingLeads (losing_frame_machine config) last_notice w (all_steps more) v
-        × NoneOpenLeft config v × IsQuietLeft config v }
+        × NoneOpenLive config v × IsQuietLive config v }
 {}

@@ -20,7 +20,7 @@ use pg_loss::each_world_keeps_past_losses;
 use pg_ready::{
     a_retry_leaves_the_others, a_retry_of_a_ready_command_goes_on,
     a_world_comes_to_rest_past_losses, all_ready_commands_can_be_retried,
-    locks_left_are_of_ready_commands, no_lock_where_none_is_ready, quiet_nodes_saw_the_losses,
+    live_locks_are_of_ready_commands, no_lock_where_none_is_ready, quiet_nodes_saw_the_losses,
     retries_free_the_locks,
 };
 
@@ -36,7 +36,7 @@ pub fn each_world_past_losses()
     nodes_that_heard_the_lost_agree();
     ended_processes_were_finished_past_losses();
     quiet_nodes_saw_the_losses();
-    locks_left_are_of_ready_commands();
+    live_locks_are_of_ready_commands();
     no_lock_where_none_is_ready();
     a_retry_of_a_ready_command_goes_on();
     retries_free_the_locks();

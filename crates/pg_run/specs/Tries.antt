@@ -9,7 +9,7 @@ use Rattle.pg_node.specs.declared.node.Node.{Node}
 use Rattle.pg_node_state.specs.Issued.{ports_of}
 use Rattle.pg_node.specs.Nodes.{held_by, links_of, has_lost}
 use Rattle.pg_node_state.specs.Waiting.{is_ready}
-use Rattle.pg_node_state.specs.States.{answers_of, kept_by, left_of}
+use Rattle.pg_node_state.specs.States.{answers_of, kept_by, live_of}
 use Rattle.pg_ring.specs.Slots.{slots_left, taken}
 use Rattle.pg_run.specs.declared.linked.LinkedNode.{LinkedNode}
 use Rattle.pg_run.specs.declared.linked.Peer.{Peer}
@@ -61,11 +61,11 @@ pub data Part : Type 0 where
 
 -- whether a command of a node waits to be tried again
 abbrev pub waits_at : {T : Type 0} {g : Ghosts T} → Node T g → OpId → Bool
-waits_at node op = waits (left_of (held_by node)) ((kept_by (held_by node)).stages op) (kept_by (held_by node))
+waits_at node op = waits (live_of (held_by node)) ((kept_by (held_by node)).stages op) (kept_by (held_by node))
 
 -- whether all has come that it gathers
 abbrev pub is_ready_at : {T : Type 0} {g : Ghosts T} → Node T g → OpId → Bool
-is_ready_at node op = is_ready (left_of (held_by node)) ((kept_by (held_by node)).stages op) (kept_by (held_by node))
+is_ready_at node op = is_ready (live_of (held_by node)) ((kept_by (held_by node)).stages op) (kept_by (held_by node))
 
 module _ {T L I : Type 0} {g : Ghosts T} (accepts : L → List ℕ → L → Type 0) (gives : I → List ℕ → I → Type 0) where
   -- it came by some acts

@@ -14,7 +14,7 @@ use Rattle.pg_machine.specs.Places.{is_place, is_pair}
 use Rattle.pg_machine.specs.Machine.{Input, Turn, Event, Taken, Own, Take, Do, node_of, first_from}
 use Rattle.pg_machine.specs.Happened.{Happened}
 use Rattle.pg_step.specs.Nodes.{Node, Nodes, is_peer}
-use Rattle.pg_step.specs.State.{State, left}
+use Rattle.pg_step.specs.State.{State, live_nodes}
 use Rattle.pg_step.specs.Turns.{NodeTurn, Report}
 use Rattle.pg_step.specs.Step.{Action, taken, node_takes, node_acts}
 use Rattle.pg_step.specs.Config.{Config, names_of, name_at, nodes_at, ports_at}
@@ -81,7 +81,7 @@ not_so : (b : Bool) → not b ≡ true → b ≡ false
 not_so true e = absurd (cc)
 not_so false e = refl
 
--- ---- those that are left
+-- ---- those that are live
 
 none_kept : (test keep : Node → Bool) (xs : List Node) → list_any test xs ≡ false → list_any test (filter keep xs) ≡ false
 none_kept test keep [] none = refl
@@ -93,7 +93,7 @@ none_kept test keep (x ∷ xs) none = go (test x) (keep x) refl none (none_kept 
     go false true is e rest = ap (λ b. b || list_any test (filter keep xs)) is ∙ rest e
     go false false is e rest = rest e
 
--- a peer that is not lost is left
+-- a peer that is not lost is live
 still_there : (lost : Node → Bool) (p : Node) (xs : List Node) → lost p ≡ false → list_any (same_atom p) xs ≡ true → list_any (same_atom p) (filter (λ q. not (lost q)) xs) ≡ true
 still_there lost p [] lives there = there
 still_there lost p (x ∷ xs) lives there = go (same_atom p x) (lost x) refl refl there (still_there lost p xs lives)
@@ -123,11 +123,11 @@ module _ (config : Config) (apart : IsDistinct same_atom (names_of config)) (i :
       other_there (names_of config) i p (place_below p (first_so (is_place (length config) p) _ both))
       (eqb-false i p (not_so (nat_eq i p) (second_so (is_place (length config) p) _ both)))
 
-  alone_left : (s : State) → is_place (length config) i ≡ true → is_peer (left (nodes_at config i) s) (name_at config i) ≡ false
+  alone_left : (s : State) → is_place (length config) i ≡ true → is_peer (live_nodes (nodes_at config i) s) (name_at config i) ≡ false
   alone_left s there = none_kept (same_atom (name_at config i)) (λ q. not (s.lost q)) (nodes_at config i).peers (alone there)
 
   sends_one : (s : State) (r : Result NodeTurn Refusal) (t : Turn State Message Report) (there : is_place (length config) i ≡ true)
-      → ((q : Node) → OnceIfOk (left (nodes_at config i) s) (alone_left s there) q r) → placed config r ≡ Some t → SendsOne i t
+      → ((q : Node) → OnceIfOk (live_nodes (nodes_at config i) s) (alone_left s there) q r) → placed config r ≡ Some t → SendsOne i t
   sends_one s (Err f) t there each made = absurd (cc)
   sends_one s (Ok n) t there each made = subst (SendsOne i) (some_is made) (record {
     one = λ q. below (is_place (length config) q) q;
@@ -149,7 +149,7 @@ module _ (config : Config) (apart : IsDistinct same_atom (names_of config)) (i :
       sends_one s (node_takes (nodes_at config i) (name_at config p) x s) t there (λ q. go there q (s.lost (name_at config p)) refl) made
     where
       m : Nodes
-      m = left (nodes_at config i) s
+      m = live_nodes (nodes_at config i) s
 
       go : (there : is_place (length config) i ≡ true) (q : Node) (b : Bool) → s.lost (name_at config p) ≡ b → OnceIfOk m (alone_left s there) q (cond b (Err NodeLost) (taken m (name_at config p) x s))
       go there q true _ = tt
@@ -157,7 +157,7 @@ module _ (config : Config) (apart : IsDistinct same_atom (names_of config)) (i :
           takes_once m (alone_left s there) q (name_at config p) (still_there s.lost (name_at config p) (nodes_at config i).peers lives (peer_there p pair)) x s
   step_sends_one s (Own action) t there made =
       sends_one s (node_acts (nodes_at config i) (ports_at config i) action s) t there
-      (λ q. acts_once (left (nodes_at config i) s) (alone_left s there) q (nodes_at config i) (ports_at config i) action s) made
+      (λ q. acts_once (live_nodes (nodes_at config i) s) (alone_left s there) q (nodes_at config i) (ports_at config i) action s) made
 
 pub event_sends_one : (config : Config) (w v : FrameWorld) (e : Event Action) (h : Happened (machine_of config) w e v) → IsDistinct same_atom (names_of config) → SendsOne (node_of e) h.turn
 event_sends_one config w v (Do i action) h apart =

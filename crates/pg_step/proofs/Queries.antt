@@ -17,7 +17,7 @@ use Rattle.pg_machine.specs.Machine.{Turn, Do, happens}
 use Rattle.pg_machine.specs.Happened.{Happened}
 use Rattle.pg_machine.specs.Places.{is_place}
 use Rattle.pg_step.specs.Nodes.{Nodes}
-use Rattle.pg_step.specs.State.{State, Response, left as left_nodes}
+use Rattle.pg_step.specs.State.{State, Response, live_nodes}
 use Rattle.pg_step.specs.State.Response.{Given, Read}
 use Rattle.pg_step.specs.Turns.{NodeTurn, Report, and_then}
 use Rattle.pg_step.specs.Commands.{has_large_name, has_foreign_pid, ends_unformed, ends_unmade}
@@ -40,11 +40,11 @@ abbrev answered : ℕ → Response → State → NodeTurn
 answered port response s = and_then (count_command port s) (answer (next_op port s) response)
 
 module _ (config : Config) (w v : FrameWorld) (i port : ℕ) (c : Command) (response : Response)
-    (is : command (nodes_at config i) (left_nodes (nodes_at config i) (w.node i)) port c (w.node i) ≡ answered port response (w.node i)) (h : Happened (machine_of config) w (Do i (Issue port c)) v) where
+    (is : command (nodes_at config i) (live_nodes (nodes_at config i) (w.node i)) port c (w.node i) ≡ answered port response (w.node i)) (h : Happened (machine_of config) w (Do i (Issue port c)) v) where
   turn_is : h.turn ≡ place_turn config (answered port response (w.node i))
   turn_is = go (nat_lt port (ports_at config i)) (ap (node_step config i (w.node i)) (some_is h.given) ∙ h.made)
     where
-      go : (b : Bool) → placed config (cond b (Ok (command (nodes_at config i) (left_nodes (nodes_at config i) (w.node i)) port c (w.node i))) (Err NoSuchPlace)) ≡ Some h.turn
+      go : (b : Bool) → placed config (cond b (Ok (command (nodes_at config i) (live_nodes (nodes_at config i) (w.node i)) port c (w.node i))) (Err NoSuchPlace)) ≡ Some h.turn
           → h.turn ≡ place_turn config (answered port response (w.node i))
       go true e = sym (some_is e) ∙ ap (place_turn config) is
       go false e = absurd (cc)
@@ -77,7 +77,7 @@ pub refused_answers : (config : Config) (w v : FrameWorld) (i port : ℕ) (c : C
     → happens (machine_of config) w (Do i (Issue port c)) ≡ Some v → OnlyAnswers i port (refused fault) w v
 refused_answers config w v i port c fault is e =
     only_answers config w v i port c (refused fault)
-    (ap (λ f. and_then (count_command port (w.node i)) (command_by f (left_nodes (nodes_at config i) (w.node i)) (next_op port (w.node i)) c)) is)
+    (ap (λ f. and_then (count_command port (w.node i)) (command_by f (live_nodes (nodes_at config i) (w.node i)) (next_op port (w.node i)) c)) is)
     (happened (machine_of config) w v (Do i (Issue port c)) e)
 
 query_turn : (whole m : Nodes) (port : ℕ) (c : Command) (s : State) → is_query c ≡ true → has_large_name c ≡ false → command whole m port c s ≡ answered port (Read c s.table) s
@@ -95,7 +95,7 @@ query_turn whole m port (Finish pid) s q fits = absurd (cc)
 pub query_answers : (config : Config) (w v : FrameWorld) (i port : ℕ) (c : Command) → is_query c ≡ true → has_large_name c ≡ false
     → happens (machine_of config) w (Do i (Issue port c)) ≡ Some v → OnlyAnswers i port (Read c (w.node i).table) w v
 query_answers config w v i port c q fits e =
-    only_answers config w v i port c (Read c (w.node i).table) (query_turn (nodes_at config i) (left_nodes (nodes_at config i) (w.node i)) port c (w.node i) q fits) (happened (machine_of config) w v (Do i (Issue port c)) e)
+    only_answers config w v i port c (Read c (w.node i).table) (query_turn (nodes_at config i) (live_nodes (nodes_at config i) (w.node i)) port c (w.node i) q fits) (happened (machine_of config) w v (Do i (Issue port c)) e)
 
 -- ---- the look
 
@@ -120,14 +120,14 @@ left_turn whole m port name pid s fine absent =
 pub created : (config : Config) (w v : FrameWorld) (i port : ℕ) (name : Term) (counts : Counts) → fault_of (nodes_at config i) (w.node i) (Create name) ≡ None
     → (w.node i).table name ≡ Some counts → happens (machine_of config) w (Do i (Issue port (Create name))) ≡ Some v → OnlyAnswers i port (Given reply.Ok) w v
 created config w v i port name counts fine there e =
-    only_answers config w v i port (Create name) (Given reply.Ok) (created_turn (nodes_at config i) (left_nodes (nodes_at config i) (w.node i)) port name counts (w.node i) fine there) (happened (machine_of config) w v (Do i (Issue port (Create name))) e)
+    only_answers config w v i port (Create name) (Given reply.Ok) (created_turn (nodes_at config i) (live_nodes (nodes_at config i) (w.node i)) port name counts (w.node i) fine there) (happened (machine_of config) w v (Do i (Issue port (Create name))) e)
 
 pub joined : (config : Config) (w v : FrameWorld) (i port : ℕ) (name : Term) (pid : Pid) → fault_of (nodes_at config i) (w.node i) (Join name pid) ≡ None
     → (w.node i).table name ≡ None → happens (machine_of config) w (Do i (Issue port (Join name pid))) ≡ Some v → OnlyAnswers i port (Given (reply.NoSuchGroup name)) w v
 joined config w v i port name pid fine absent e =
-    only_answers config w v i port (Join name pid) (Given (reply.NoSuchGroup name)) (joined_turn (nodes_at config i) (left_nodes (nodes_at config i) (w.node i)) port name pid (w.node i) fine absent) (happened (machine_of config) w v (Do i (Issue port (Join name pid))) e)
+    only_answers config w v i port (Join name pid) (Given (reply.NoSuchGroup name)) (joined_turn (nodes_at config i) (live_nodes (nodes_at config i) (w.node i)) port name pid (w.node i) fine absent) (happened (machine_of config) w v (Do i (Issue port (Join name pid))) e)
 
 pub left : (config : Config) (w v : FrameWorld) (i port : ℕ) (name : Term) (pid : Pid) → fault_of (nodes_at config i) (w.node i) (Leave name pid) ≡ None
     → (w.node i).table name ≡ None → happens (machine_of config) w (Do i (Issue port (Leave name pid))) ≡ Some v → OnlyAnswers i port (Given (reply.NoSuchGroup name)) w v
 left config w v i port name pid fine absent e =
-    only_answers config w v i port (Leave name pid) (Given (reply.NoSuchGroup name)) (left_turn (nodes_at config i) (left_nodes (nodes_at config i) (w.node i)) port name pid (w.node i) fine absent) (happened (machine_of config) w v (Do i (Issue port (Leave name pid))) e)
+    only_answers config w v i port (Leave name pid) (Given (reply.NoSuchGroup name)) (left_turn (nodes_at config i) (live_nodes (nodes_at config i) (w.node i)) port name pid (w.node i) fine absent) (happened (machine_of config) w v (Do i (Issue port (Leave name pid))) e)

@@ -13,7 +13,7 @@ use Rattle.pg_multicall.specs.Gathered.{what_of}
 use Rattle.pg_multicall.specs.declared.gather.Taken.{Taken as Heard}
 use Rattle.pg_multicall.specs.declared.gather.Taken.TheVariants as what
 use Rattle.pg_step.specs.Nodes.{Node, Nodes}
-use Rattle.pg_step.specs.State.{State, left, Use}
+use Rattle.pg_step.specs.State.{State, live_nodes, Use}
 use Rattle.pg_step.specs.Turns.{NodeTurn}
 use Rattle.pg_step.specs.Peers.{is_bad_exchange, exchange}
 use Rattle.pg_refs.specs.Numbered.{number_in}
@@ -128,17 +128,17 @@ fits_or_full clock t = behind_clock clock false (Ok t) refl
 
 pub acts_in_order : (m : Nodes) (ports : ℕ) (action : Action) (s : Timed State)
     → refusal_of (step_act m ports action s) ≡ first_that_holds (
-    (not (nat_lt (port_of action) ports), NoSuchPlace) ∷ (retries_none (left m s.state) action s.state, NotWaiting) ∷ (is_full (s.clock + 1), ClockFull) ∷ [])
+    (not (nat_lt (port_of action) ports), NoSuchPlace) ∷ (retries_none (live_nodes m s.state) action s.state, NotWaiting) ∷ (is_full (s.clock + 1), ClockFull) ∷ [])
 acts_in_order m ports (Issue port c) s = go (nat_lt port ports)
   where
-    go : (b : Bool) → refusal_of (timed (s.clock + 1) (cond b (Ok (command m (left m s.state) port c s.state)) (Err NoSuchPlace)))
+    go : (b : Bool) → refusal_of (timed (s.clock + 1) (cond b (Ok (command m (live_nodes m s.state) port c s.state)) (Err NoSuchPlace)))
         ≡ cond (not b) (Some NoSuchPlace) (cond (is_full (s.clock + 1)) (Some ClockFull) None)
-    go true = fits_or_full (s.clock + 1) (command m (left m s.state) port c s.state)
+    go true = fits_or_full (s.clock + 1) (command m (live_nodes m s.state) port c s.state)
     go false = refl
-acts_in_order m ports (Retry op) s = go (nat_lt op.port ports) (waits (left m s.state) (s.state.stages op) s.state)
+acts_in_order m ports (Retry op) s = go (nat_lt op.port ports) (waits (live_nodes m s.state) (s.state.stages op) s.state)
   where
     again : NodeTurn
-    again = tried_again (s.state.stages op) (left m s.state) op s.state
+    again = tried_again (s.state.stages op) (live_nodes m s.state) op s.state
 
     go : (b d : Bool) → refusal_of (timed (s.clock + 1) (cond b (cond d (Ok again) (Err NotWaiting)) (Err NoSuchPlace)))
         ≡ cond (not b) (Some NoSuchPlace) (cond (not d) (Some NotWaiting) (cond (is_full (s.clock + 1)) (Some ClockFull) None))
@@ -148,11 +148,11 @@ acts_in_order m ports (Retry op) s = go (nat_lt op.port ports) (waits (left m s.
 
 pub takes_in_order : (m : Nodes) (p : Node) (x : Stamped Message) (s : Timed State)
     → refusal_of (step_take m p x s) ≡ first_that_holds (
-    (s.state.lost p, NodeLost) ∷ (is_full (max s.clock x.stamp + 1), ClockFull) ∷ (is_no_message (left m s.state) p x.packet s.state, NotAMessage) ∷ [])
+    (s.state.lost p, NodeLost) ∷ (is_full (max s.clock x.stamp + 1), ClockFull) ∷ (is_no_message (live_nodes m s.state) p x.packet s.state, NotAMessage) ∷ [])
 takes_in_order m p x s = go (s.state.lost p)
   where
     counted : Nodes
-    counted = left m s.state
+    counted = live_nodes m s.state
 
     clock : ℕ
     clock = max s.clock x.stamp + 1

@@ -92,5 +92,5 @@ abbrev pub formed : Nodes → State → Bool
 formed m s = list_all s.merged m.peers
 
 -- the nodes that count for a node: itself, and its peers whose loss it has not seen
-abbrev pub left : Nodes → State → Nodes
-left m s = record { own = m.own; peers = filter (λ q. not (s.lost q)) m.peers }
+abbrev pub live_nodes : Nodes → State → Nodes
+live_nodes m s = record { own = m.own; peers = filter (λ q. not (s.lost q)) m.peers }

@@ -8,7 +8,7 @@ use Rattle.pg_step.specs.declared.command.Command.{Command}
 use Rattle.pg_step.specs.declared.command.OpId.{OpId}
 use Rattle.pg_machine.specs.Clocked.{Timed, Stamped, stamped}
 use Rattle.pg_step.specs.Nodes.{Node, Nodes}
-use Rattle.pg_step.specs.State.{State, left}
+use Rattle.pg_step.specs.State.{State, live_nodes}
 use Rattle.pg_step.specs.Turns.{NodeTurn, Report}
 use Rattle.pg_step.specs.Peers.{lock_request, update_request, lock_freed, is_bad_exchange, exchange, process_end}
 use Rattle.pg_step.specs.Attempts.{reply_taken, retry}
@@ -41,10 +41,10 @@ acted whole m ports (Retry op) s = cond (nat_lt op.port ports) (retry m op s) (E
 
 -- A message of a peer, which must not be lost.
 abbrev pub node_takes : Nodes → Node → Message → State → Result NodeTurn Refusal
-node_takes m p x s = cond (s.lost p) (Err NodeLost) (taken (left m s) p x s)
+node_takes m p x s = cond (s.lost p) (Err NodeLost) (taken (live_nodes m s) p x s)
 
 abbrev pub node_acts : Nodes → ℕ → Action → State → Result NodeTurn Refusal
-node_acts m ports action s = acted m (left m s) ports action s
+node_acts m ports action s = acted m (live_nodes m s) ports action s
 
 -- ---- with clock
 

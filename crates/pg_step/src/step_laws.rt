@@ -11,7 +11,7 @@ ghost use Rattle.pg_message.specs.declared.message.Said.{Said};
 ghost use Rattle.pg_message.specs.declared.message.Said.TheVariants.{Applied};
 ghost use Rattle.pg_multicall.specs.Gathered.{with_reply};
 ghost use Rattle.pg_step.specs.declared.command.OpId.{OpId};
-ghost use Rattle.pg_step.specs.State.{Status, State, left};
+ghost use Rattle.pg_step.specs.State.{Status, State, live_nodes};
 ghost use Rattle.pg_step.specs.State.Use.{Locking, Updating};
 ghost use Rattle.pg_step.specs.Attempts.{all_granted, gathered, is_of_lock, is_unasked};
 ghost use Rattle.pg_step.specs.Attempts.{lock_status, none_denied, none_missing};
@@ -58,11 +58,11 @@ pub fn refusals_in_order()
         → refusal_of (step_take m p x s) ≡ first_that_holds (
         (s.state.lost p, NodeLost)
         ∷ (is_full (max s.clock x.stamp + 1), ClockFull)
-        ∷ (is_no_message (left m s.state) p x.packet s.state, NotAMessage) ∷ []) }
+        ∷ (is_no_message (live_nodes m s.state) p x.packet s.state, NotAMessage) ∷ []) }
     ensures own { (m : Nodes) (ports : ℕ) (action : Action) (s : Timed State)
         → refusal_of (step_act m ports action s) ≡ first_that_holds (
         (not (nat_lt (port_of action) ports), NoSuchPlace)
-        ∷ (retries_none (left m s.state) action s.state, NotWaiting)
+        ∷ (retries_none (live_nodes m s.state) action s.state, NotWaiting)
         ∷ (is_full (s.clock + 1), ClockFull) ∷ []) }
 {}
 

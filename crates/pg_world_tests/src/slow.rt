@@ -187,7 +187,7 @@ impl<'a> Scene<'a> {
         true
     }
 
-    // Whether a formed node that is left has applied the whole history of a group, and has seen each loss.
+    // Whether a formed live node has applied the whole history of a group, and has seen each loss.
     fn is_calm(&self, place: usize, node: &State, name: &Term) -> bool {
         node.formed()
             && self.world.applied(place, name) == len_of(self.world.history(name)) as u128
@@ -239,7 +239,7 @@ impl<'a> Scene<'a> {
         }
     }
 
-    /// Whether each node that is left has seen each loss.
+    /// Whether each live node has seen each loss.
     pub fn all_saw(&self) -> bool {
         (0..self.starts.len()).all(|place| match self.left_at(place) {
             Some(node) => lost_to(place, node) == self.lost(),

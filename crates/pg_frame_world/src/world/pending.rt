@@ -11,7 +11,7 @@ use std::alloc::AllocError;
 
 impl<T: GroupTable + Drop> FrameNodes<T> {
     ghost use Rattle.pg_frame_world.specs.Losing.{lost_of};
-    ghost use Rattle.pg_frame_world.specs.Pending.{lent_as, nodes_left, pending_of};
+    ghost use Rattle.pg_frame_world.specs.Pending.{lent_as, live_states, pending_of};
     ghost use Rattle.pg_frame_world.specs.Worlds.{traffic_of};
 
     /// The ends that are pending: each is that of a process whose home has it, and which some node has not. Of nodes
@@ -19,20 +19,20 @@ impl<T: GroupTable + Drop> FrameNodes<T> {
     ///
     /// Errors: `AllocError`.
     ///
-    /// Cost: a search at each node that is left for each process that has ended at its home, and the memory of the
+    /// Cost: a search at each live node for each process that has ended at its home, and the memory of the
     /// list.
     pub(crate) fn pending_ends(&self) -> Result<Vec<Pid>, AllocError>
         ensures list { IfOk result (λ pids. pids.items ≡ pending_of (traffic_of self.now).nodes (lost_of self.now)) }
     {
-        let left = self.nodes_left()?;
+        let left = self.live_states()?;
         pending_among(*self.nodes.allocator(), left.as_slice())
     }
 
     /// The nodes that are not lost.
     ///
     /// Errors: `AllocError`.
-    fn nodes_left(&self) -> Result<Vec<&NodeState<T>>, AllocError>
-        ensures { IfOk result (λ left. lent_as left.items ≡ nodes_left (traffic_of self.now).nodes (lost_of self.now)) }
+    fn live_states(&self) -> Result<Vec<&NodeState<T>>, AllocError>
+        ensures { IfOk result (λ left. lent_as left.items ≡ live_states (traffic_of self.now).nodes (lost_of self.now)) }
     {
         let mut left = Vec::new(*self.nodes.allocator());
         for place in 0..self.nodes.len() {

@@ -16,7 +16,7 @@ use Rattle.pg_step.specs.declared.answer.Reply.{Reply}
 use Rattle.pg_step.specs.declared.answer.Reply.TheVariants as reply
 use Rattle.pg_machine.specs.Machine.{Input, Turn, Taken, Own}
 use Rattle.pg_step.specs.Nodes.{Nodes, to_peers}
-use Rattle.pg_step.specs.State.{State, Stage, Response, left}
+use Rattle.pg_step.specs.State.{State, Stage, Response, live_nodes}
 use Rattle.pg_step.specs.State.Stage.{Waiting}
 use Rattle.pg_step.specs.State.Response.{Given}
 use Rattle.pg_step.specs.Turns.{NodeTurn, Report, becomes_and_sends, and_then, first_of}
@@ -200,13 +200,13 @@ module _ (May : OpId → Response → Type 0) where
       → ((port : ℕ) (c : Command) (r : Response) → input ≡ Own (Issue port c) → (r ≡ Given reply.Ok → ok_means_lock c ≡ false) → May (next_op port s) r)
       → Answering May turn.reported
   step_gives config i s (Taken p x) turn is may =
-      let m = left (nodes_at config i) s in
+      let m = live_nodes (nodes_at config i) s in
       let t = took_so config i s p x turn is in
       subst (λ u. Answering May u.reported) (sym t.2)
       (any_may s t.0 (taken_so m NoCommand AnyUpdate (Gives Never) (Gives Never) (ends_singly m) (name_at config p) x s t.0
       (λ node groups _ _. Silent refl refl) (λ pid _. Silent refl refl) t.1))
   step_gives config i s (Own action) turn is may =
-      let m = left (nodes_at config i) s in
+      let m = live_nodes (nodes_at config i) s in
       let t = did_so config i s action turn is in
       subst (λ u. Answering May u.reported) (sym t.2)
       (acted_gives m (nodes_at config i) (ports_at config i) action s t.0 (λ port c r same. may port c r (ap Own same)) t.1)

@@ -11,7 +11,7 @@ use Rattle.pg_step.specs.declared.command.Command.{Command}
 use Rattle.pg_step.specs.declared.command.OpId.{OpId}
 use Rattle.pg_machine.specs.Machine.{Input, Turn, Taken, Own}
 use Rattle.pg_step.specs.Nodes.{Node, Nodes, to_peers}
-use Rattle.pg_step.specs.State.{State, Status, Use, Stage, left}
+use Rattle.pg_step.specs.State.{State, Status, Use, Stage, live_nodes}
 use Rattle.pg_step.specs.State.Status.{Unasked}
 use Rattle.pg_step.specs.State.Use.{Locking, Owning, Updating, Spent}
 use Rattle.pg_step.specs.State.Stage.{Closed, Waiting, Asking, Changing}
@@ -159,13 +159,13 @@ module _ (Asks : OpId → Update → Type 0) where
       → ((port : ℕ) (c : Command) (u : Update) → input ≡ Own (Issue port c) → change_of c ≡ Some u → Asks (next_op port s) u)
       → HasAsked s → HasAsked turn.state × Begins turn.reported
   step_asked config i s (Taken p x) turn is asks all =
-      let m = left (nodes_at config i) s in
+      let m = live_nodes (nodes_at config i) s in
       let t = took_so config i s p x turn is in
       subst (λ u. HasAsked u.state × Begins u.reported) (sym t.2)
       (taken_so m Any Asks KeepsAsked KeepsAsked (asked_singly m) (name_at config p) x s t.0
       (λ node groups _ _. same_asked s (exchange (name_at config p) groups s) refl refl refl) (λ pid _. same_asked s (process_end pid s) refl refl refl) t.1 all)
   step_asked config i s (Own action) turn is asks all =
-      let m = left (nodes_at config i) s in
+      let m = live_nodes (nodes_at config i) s in
       let t = did_so config i s action turn is in
       subst (λ u. HasAsked u.state × Begins u.reported) (sym t.2)
       (acted_so m Any Asks KeepsAsked KeepsAsked (asked_singly m) (nodes_at config i)

@@ -22,7 +22,7 @@ use Rattle.pg_step.specs.Config.{Config, name_at, nodes_at, ports_at}
 use Rattle.pg_step.specs.FrameMachine.{FrameWorld, machine_of, node_step}
 use Rattle.pg_step.specs.Nodes.{Nodes}
 use Rattle.pg_step.specs.Peers.{exchange, process_end}
-use Rattle.pg_step.specs.State.{State, Response, left}
+use Rattle.pg_step.specs.State.{State, Response, live_nodes}
 use Rattle.pg_step.specs.Step.{CLOCK_LIMIT, Action, Issue, Retry, acted}
 use Rattle.pg_step.specs.Turns.{NodeTurn, Report}
 use Rattle.pg_history.specs.Counted.{CountsCommands, open_at, open_in}
@@ -63,7 +63,7 @@ module _ (config : Config) (i : ℕ) (s : State) where
   ports = ports_at config i
 
   abbrev m : Nodes
-  m = left (nodes_at config i) s
+  m = live_nodes (nodes_at config i) s
 
   commanded : (port : ℕ) (c : Command) → nat_lt port ports ≡ true → Balances ports s (Own (Issue port c)) (command_in (nodes_at config i) m port c s).state (command_in (nodes_at config i) m port c s).reported.gave
   unfolding came

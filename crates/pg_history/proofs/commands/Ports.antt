@@ -16,7 +16,7 @@ use Rattle.pg_step.specs.declared.command.OpId.{OpId}
 use Rattle.pg_machine.specs.Machine.{Input, Turn, Event, Taken, Own, Take, Do, node_of, first_from, input_of}
 use Rattle.pg_machine.specs.Happened.{Happened}
 use Rattle.pg_step.specs.Nodes.{Node, Nodes}
-use Rattle.pg_step.specs.State.{State, Use, left}
+use Rattle.pg_step.specs.State.{State, Use, live_nodes}
 use Rattle.pg_step.specs.State.Use.{Fresh, Locking, Owning, Updating, Spent}
 use Rattle.pg_step.specs.Turns.{NodeTurn, Report}
 use Rattle.pg_step.specs.Peers.{lock_request, update_request, lock_freed, is_bad_exchange, exchange, process_end}
@@ -132,11 +132,11 @@ module _ (m : Nodes) where
 
 pub step_counts : (config : Config) (i : ℕ) (s : State) (input : Input Message Action) (turn : Turn State Message Report) → node_step config i s input ≡ Some turn → turn.state.counts ≡ counts_by input s.counts
 step_counts config i s (Taken p x) turn is =
-    let m = left (nodes_at config i) s in
+    let m = live_nodes (nodes_at config i) s in
     let t = took_so config i s p x turn is in
     ap (λ (u : Turn State Message Report). u.state.counts) t.2 ∙ taken_counts m (name_at config p) s t.0 x t.1
 step_counts config i s (Own action) turn is =
-    let m = left (nodes_at config i) s in
+    let m = live_nodes (nodes_at config i) s in
     let t = did_so config i s action turn is in
     ap (λ (u : Turn State Message Report). u.state.counts) t.2 ∙ acted_counts m (nodes_at config i) (ports_at config i) action s t.0 t.1
 

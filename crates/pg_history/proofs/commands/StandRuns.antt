@@ -11,7 +11,7 @@ use Rattle.pg_step.specs.declared.command.OpId.{OpId}
 use Rattle.pg_machine.specs.Machine.{Input, Turn, Event, Taken, Own, node_of, start_of}
 use Rattle.pg_machine.specs.Happened.{Happened}
 use Rattle.pg_machine.specs.Clocked.{plain}
-use Rattle.pg_step.specs.State.{State, Response, left}
+use Rattle.pg_step.specs.State.{State, Response, live_nodes}
 use Rattle.pg_step.specs.Nodes.{to_peers}
 use Rattle.pg_step.specs.Peers.{exchange, process_end, ended_in}
 use Rattle.pg_step.specs.Turns.{Report, becomes_and_sends}
@@ -52,14 +52,14 @@ new_unanswered x s all port = (new_op s all.fitting port, go (has_answer (next_o
 step_stands : (x : Answers) (config : Config) (i : ℕ) (s : State) (input : Input Message Action) (turn : Turn State Message Report) → node_step config i s input ≡ Some turn
     → Kept x s → Kept (and_gave x turn.reported.gave) turn.state × ((op : OpId) → Stands op x s turn.state turn.reported)
 step_stands x config i s (Taken p message) turn is all =
-    let m = left (nodes_at config i) s in
+    let m = live_nodes (nodes_at config i) s in
     let t = took_so config i s p message turn is in
     subst (λ u. Kept (and_gave x u.reported.gave) u.state × ((op : OpId) → Stands op x s u.state u.reported)) (sym t.2)
     (taken_so m (Unanswered x) AnyUpdate (KeepsQuiet x) (KeepsAll x) (stands_singly x m) (name_at config p) message s t.0
     (λ node groups _ _. leaves_all x s (exchange (name_at config p) groups s) refl refl refl refl refl (same_fitting s _ refl refl refl refl))
     (λ pid _. leaves_all x s (process_end pid s) refl refl refl refl refl (same_fitting s _ refl refl refl refl)) t.1 all)
 step_stands x config i s (Own action) turn is all =
-    let m = left (nodes_at config i) s in
+    let m = live_nodes (nodes_at config i) s in
     let t = did_so config i s action turn is in
     subst (λ u. Kept (and_gave x u.reported.gave) u.state × ((op : OpId) → Stands op x s u.state u.reported)) (sym t.2)
     (acted_so m (Unanswered x) AnyUpdate (KeepsQuiet x) (KeepsAll x) (stands_singly x m) (nodes_at config i)

@@ -30,7 +30,7 @@ use Rattle.pg_step.specs.Commands.{command_by, count_command, fault_of, look, ne
 use Rattle.pg_step.specs.Config.{Config, made_at, name_at, nodes_at, ports_at}
 use Rattle.pg_step.specs.FrameMachine.{machine_of, node_step, FrameWorld}
 use Rattle.pg_step.specs.Nodes.{Node, Nodes}
-use Rattle.pg_step.specs.State.{State, left}
+use Rattle.pg_step.specs.State.{State, live_nodes}
 use Rattle.pg_step.specs.Step.{Action, CLOCK_LIMIT, Issue, Retry, acted}
 use Rattle.pg_step.specs.Turns.{NodeTurn, Report, and_then, nothing}
 use Rattle.pg_step.specs.declared.command.Command.{Command}
@@ -168,12 +168,12 @@ Gives own s turn = ((turn.state.processes ≡ s.processes) × (given_by turn.rep
 
 pub step_gives : (config : Config) (i : ℕ) (s : State) (input : Input Message Action) (turn : Turn State Message Report) → node_step config i s input ≡ Some turn → Gives (name_at config i) s turn
 step_gives config i s (Taken p x) turn is =
-    let m = left (nodes_at config i) s in
+    let m = live_nodes (nodes_at config i) s in
     let t = took_so config i s p x turn is in
     subst (Gives (name_at config i) s) (sym t.2)
     (taken_so m Never AnyUpdate (GivesNext m.own) (GivesNext m.own) (gives_singly m.own m) (name_at config p) x s t.0 (λ node groups _ _. inl (refl, refl)) (λ pid _. inl (refl, refl)) t.1)
 step_gives config i s (Own action) turn is =
-    let m = left (nodes_at config i) s in
+    let m = live_nodes (nodes_at config i) s in
     let t = did_so config i s action turn is in
     subst (Gives (name_at config i) s) (sym t.2) (acted_gives (nodes_at config i) m (ports_at config i) action s t.0 t.1)
 

@@ -9,7 +9,7 @@ use Rattle.pg_message.specs.declared.message.Message.{Message}
 use Rattle.pg_machine.specs.Machine.{Input, Turn, Taken, Own}
 use Rattle.pg_step.specs.declared.command.OpId.{OpId}
 use Rattle.pg_step.specs.Nodes.{Node, Nodes}
-use Rattle.pg_step.specs.State.{State, Status, Use, Stage, left}
+use Rattle.pg_step.specs.State.{State, Status, Use, Stage, live_nodes}
 use Rattle.pg_step.specs.State.Status.{Unasked}
 use Rattle.pg_step.specs.State.Use.{Fresh, Locking, Owning, Updating, Spent}
 use Rattle.pg_step.specs.State.Stage.{Closed, Waiting, Asking, Changing}
@@ -238,13 +238,13 @@ same_linked s t references uses stages counts linked = record {
 
 pub step_linked : (config : Config) (i : ℕ) (s : State) (input : Input Message Action) (turn : Turn State Message Report) → node_step config i s input ≡ Some turn → Linked s → Linked turn.state
 step_linked config i s (Taken p x) turn is linked =
-    let m = left (nodes_at config i) s in
+    let m = live_nodes (nodes_at config i) s in
     let t = took_so config i s p x turn is in
     subst (λ u. Linked u.state) (sym t.2)
     (taken_so m NewOp AnyUpdate KeepsLinked KeepsLinked (linked_singly m) (name_at config p) x s t.0
     (λ node groups _ _. same_linked s _ refl refl refl refl) (λ pid _. same_linked s _ refl refl refl refl) t.1 linked)
 step_linked config i s (Own action) turn is linked =
-    let m = left (nodes_at config i) s in
+    let m = live_nodes (nodes_at config i) s in
     let t = did_so config i s action turn is in
     subst (λ u. Linked u.state) (sym t.2)
     (acted_so m NewOp AnyUpdate KeepsLinked KeepsLinked (linked_singly m) (nodes_at config i) (λ pid u _ _ _. same_linked u _ refl refl refl refl) (ports_at config i) action s t.0

@@ -17,7 +17,7 @@ use Rattle.pg_machine.specs.Runs.{Leads}
 use Rattle.pg_step.specs.declared.command.OpId.{OpId}
 use Rattle.pg_step.specs.declared.refusal.Refusal.TheVariants.{NoSuchPlace, NotWaiting}
 use Rattle.pg_step.specs.Nodes.{Nodes}
-use Rattle.pg_step.specs.State.{State, Status, Use, Stage, formed, left}
+use Rattle.pg_step.specs.State.{State, Status, Use, Stage, formed}
 use Rattle.pg_step.specs.State.Status.{Unasked, Asked, Yes, No}
 use Rattle.pg_step.specs.State.Use.{Locking, Updating}
 use Rattle.pg_step.specs.State.Stage.{Closed, Waiting, Asking, Changing}
@@ -53,7 +53,7 @@ use Rattle.pg_history.proofs.quiet.Sums.{but, but_here, but_other, find_place, t
 use Rattle.pg_history.proofs.quiet.Sums.{total_all, total_but, total_le, total_tight}
 use Rattle.pg_history.proofs.quiet.Solo.{AtHome, Locks, Updates, Ends, Peer, Solo, home_turn, knows, takes, weight}
 use Rattle.pg_history.proofs.steps.Lasting.{all_stay, event_lasts}
-use Rattle.pg_history.proofs.steps.Lossless.{NobodyLost, did_all, event_nobody, left_all}
+use Rattle.pg_history.proofs.steps.Lossless.{NobodyLost, did_all, event_nobody, live_all}
 use Rattle.pg_history.proofs.steps.Single.{Makes, ok_is}
 
 -- ---- phases by their counts
@@ -400,7 +400,7 @@ module _ (config : Config) (apart : IsDistinct same_atom (names_of config)) (h :
   -- the retry is no event that is refused
   pub retry_happens : HasRoom config w 1 → (v : TimedFrameWorld) × (happens (frame_machine config) w (Do h (Retry op)) ≡ Some v)
   retry_happens room = does config w h (Retry op) here room (place_turn config (attempt m op waiting.0 s)) (
-      ap (λ z. placed config (acted m z (ports_at config h) (Retry op) s)) (left_all m s (rests.bridged.nobody h))
+      ap (λ z. placed config (acted m z (ports_at config h) (Retry op) s)) (live_all m s (rests.bridged.nobody h))
       ∙ ap (λ b. placed config (cond b (cond (waits m (s.stages op) s) (Ok (tried_again (s.stages op) m op s)) (Err NotWaiting)) (Err NoSuchPlace))) there
       ∙ ap (λ (stage : Stage). placed config (cond (waits m stage s) (Ok (tried_again stage m op s)) (Err NotWaiting))) waiting.1)
     where

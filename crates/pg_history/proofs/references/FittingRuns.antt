@@ -8,7 +8,7 @@ use Rattle.pg_machine.specs.Machine.{Input, Turn, Event, Taken, Own, node_of, st
 use Rattle.pg_machine.specs.Happened.{Happened}
 use Rattle.pg_machine.specs.Clocked.{plain}
 use Rattle.pg_step.specs.Nodes.{Nodes}
-use Rattle.pg_step.specs.State.{State, left}
+use Rattle.pg_step.specs.State.{State, live_nodes}
 use Rattle.pg_step.specs.Turns.{Report}
 use Rattle.pg_step.specs.Step.{CLOCK_LIMIT, Action}
 use Rattle.pg_step.specs.Commands.{next_op, count_command}
@@ -56,13 +56,13 @@ new_op s fitting port =
 
 step_fitting : (config : Config) (i : ℕ) (s : State) (input : Input Message Action) (turn : Turn State Message Report) → node_step config i s input ≡ Some turn → ReferencesFit s → ReferencesFit turn.state
 step_fitting config i s (Taken p x) turn is fitting =
-    let m = left (nodes_at config i) s in
+    let m = live_nodes (nodes_at config i) s in
     let t = took_so config i s p x turn is in
     subst (λ u. ReferencesFit u.state) (sym t.2)
     (taken_so m NewOp AnyUpdate Keeps Keeps (fitting_singly m) (name_at config p) x s t.0
     (λ node groups _ _. same_fitting s _ refl refl refl refl) (λ pid _. same_fitting s _ refl refl refl refl) t.1 fitting)
 step_fitting config i s (Own action) turn is fitting =
-    let m = left (nodes_at config i) s in
+    let m = live_nodes (nodes_at config i) s in
     let t = did_so config i s action turn is in
     subst (λ u. ReferencesFit u.state) (sym t.2)
     (acted_so m NewOp AnyUpdate Keeps Keeps (fitting_singly m) (nodes_at config i) (λ pid u _ _ _. same_fitting u _ refl refl refl refl) (ports_at config i) action s t.0 (new_op s fitting) (λ port c u _ _. tt) t.1 fitting)

@@ -19,7 +19,7 @@ use Rattle.pg_machine.specs.Happened.{Happened}
 use Rattle.pg_machine.specs.Clocked.{Timed, Stamped, unstamped, next_clock, timed, timed_turn}
 use Rattle.pg_lock.specs.Attempts.{after_round, does_wait}
 use Rattle.pg_step.specs.Nodes.{Node, Nodes, every, greatest}
-use Rattle.pg_step.specs.State.{State, Use, Stage, left}
+use Rattle.pg_step.specs.State.{State, Use, Stage, live_nodes}
 use Rattle.pg_step.specs.State.Status.{Unasked}
 use Rattle.pg_step.specs.State.Use.{Fresh, Locking, Owning, Updating, Spent}
 use Rattle.pg_step.specs.State.Stage.{Closed, Waiting, Asking, Changing}
@@ -188,11 +188,11 @@ module _ (m : Nodes) where
 
 pub step_makes_two : (config : Config) (i : ℕ) (s : State) (input : Input Message Action) (turn : Turn State Message Report) → node_step config i s input ≡ Some turn → turn.state.references ≤ s.references + 2
 step_makes_two config i s (Taken p x) turn is =
-    let m = left (nodes_at config i) s in
+    let m = live_nodes (nodes_at config i) s in
     let t = took_so config i s p x turn is in
     subst (λ u. u.state.references ≤ s.references + 2) (sym t.2) (taken_makes m (name_at config p) s t.0 x t.1)
 step_makes_two config i s (Own action) turn is =
-    let m = left (nodes_at config i) s in
+    let m = live_nodes (nodes_at config i) s in
     let t = did_so config i s action turn is in
     subst (λ u. u.state.references ≤ s.references + 2) (sym t.2) (acted_makes m (nodes_at config i) (ports_at config i) action s t.0 t.1)
 

@@ -13,7 +13,7 @@ use Rattle.pg_machine.specs.Happened.{Happened}
 use Rattle.pg_machine.specs.Runs.{Leads}
 use Rattle.pg_machine.specs.Clocked.{plain}
 use Rattle.pg_step.specs.Nodes.{Node, Nodes}
-use Rattle.pg_step.specs.State.{State, Status, Use, left}
+use Rattle.pg_step.specs.State.{State, Status, Use, live_nodes}
 use Rattle.pg_step.specs.State.Status.{Unasked}
 use Rattle.pg_step.specs.State.Use.{Fresh, Locking, Owning, Updating, Spent}
 use Rattle.pg_step.specs.Turns.{NodeTurn, Report}
@@ -193,13 +193,13 @@ same_state s t references uses stages counts fitting = (same_fitting s t referen
 
 step_follows : (config : Config) (i : ℕ) (s : State) (input : Input Message Action) (turn : Turn State Message Report) → node_step config i s input ≡ Some turn → ReferencesFit s → ReferencesFit turn.state × AllFollow s turn.state
 step_follows config i s (Taken p x) turn is fitting =
-    let m = left (nodes_at config i) s in
+    let m = live_nodes (nodes_at config i) s in
     let t = took_so config i s p x turn is in
     subst (λ u. ReferencesFit u.state × AllFollow s u.state) (sym t.2)
     (taken_so m NewOp AnyUpdate Goes Goes (follows_singly m) (name_at config p) x s t.0
     (λ node groups _ _. same_state s _ refl refl refl refl) (λ pid _. same_state s _ refl refl refl refl) t.1 fitting)
 step_follows config i s (Own action) turn is fitting =
-    let m = left (nodes_at config i) s in
+    let m = live_nodes (nodes_at config i) s in
     let t = did_so config i s action turn is in
     subst (λ u. ReferencesFit u.state × AllFollow s u.state) (sym t.2)
     (acted_so m NewOp AnyUpdate Goes Goes (follows_singly m) (nodes_at config i) (λ pid u _ _ _. same_state u _ refl refl refl refl) (ports_at config i) action s t.0 (new_op s fitting) (λ port c u _ _. tt) t.1 fitting)

@@ -5,7 +5,7 @@ use Rattle.pg_message.specs.declared.message.Message.{Message}
 use Rattle.pg_machine.specs.Machine.{Input, Turn, Event, Taken, Own, node_of, start_of}
 use Rattle.pg_machine.specs.Happened.{Happened}
 use Rattle.pg_step.specs.Nodes.{Node, Nodes}
-use Rattle.pg_step.specs.State.{State, left}
+use Rattle.pg_step.specs.State.{State, live_nodes}
 use Rattle.pg_step.specs.Turns.{NodeTurn, Report}
 use Rattle.pg_step.specs.Step.{CLOCK_LIMIT, Action, taken, acted, node_takes}
 use Rattle.pg_step.specs.declared.refusal.Refusal.TheVariants.{NodeLost}
@@ -27,25 +27,25 @@ all_kept [] = refl
 all_kept (x ∷ xs) = ap (λ ys. x ∷ ys) (all_kept xs)
 
 -- where no loss was seen, all count
-pub left_all : (m : Nodes) (s : State) → NoneLost s → left m s ≡ m
-left_all m s nobody = ap (λ (lost : Node → Bool). record { own = m.own; peers = filter (λ q. not (lost q)) m.peers }) nobody
+pub live_all : (m : Nodes) (s : State) → NoneLost s → live_nodes m s ≡ m
+live_all m s nobody = ap (λ (lost : Node → Bool). record { own = m.own; peers = filter (λ q. not (lost q)) m.peers }) nobody
     ∙ (λ k. record { own = m.own; peers = all_kept m.peers k })
 
 pub takes_all : (m : Nodes) (p : Node) (x : Message) (s : State) → NoneLost s → node_takes m p x s ≡ taken m p x s
-takes_all m p x s nobody = ap (λ (lost : Node → Bool). cond (lost p) (Err NodeLost) (taken (left m s) p x s)) nobody ∙ ap (λ z. taken z p x s) (left_all m s nobody)
+takes_all m p x s nobody = ap (λ (lost : Node → Bool). cond (lost p) (Err NodeLost) (taken (live_nodes m s) p x s)) nobody ∙ ap (λ z. taken z p x s) (live_all m s nobody)
 
 module _ (config : Config) (i : ℕ) (s : State) (nobody : NoneLost s) where
   pub took_all : (p : ℕ) (x : Message) (turn : Turn State Message Report) → node_step config i s (Taken p x) ≡ Some turn
       → (t : NodeTurn) × Makes (taken (nodes_at config i) (name_at config p) x s) t × (turn ≡ place_turn config t)
   took_all p x turn is =
       let t = took_so config i s p x turn is in
-      (t.0, subst (λ z. Makes (taken z (name_at config p) x s) t.0) (left_all (nodes_at config i) s nobody) t.1, t.2)
+      (t.0, subst (λ z. Makes (taken z (name_at config p) x s) t.0) (live_all (nodes_at config i) s nobody) t.1, t.2)
 
   pub did_all : (action : Action) (turn : Turn State Message Report) → node_step config i s (Own action) ≡ Some turn
       → (t : NodeTurn) × Makes (acted (nodes_at config i) (nodes_at config i) (ports_at config i) action s) t × (turn ≡ place_turn config t)
   did_all action turn is =
       let t = did_so config i s action turn is in
-      (t.0, subst (λ z. Makes (acted (nodes_at config i) z (ports_at config i) action s) t.0) (left_all (nodes_at config i) s nobody) t.1, t.2)
+      (t.0, subst (λ z. Makes (acted (nodes_at config i) z (ports_at config i) action s) t.0) (live_all (nodes_at config i) s nobody) t.1, t.2)
 
 -- ---- no step sees a loss
 
@@ -78,12 +78,12 @@ sees_none m = record {
 
 pub step_sees_none : (config : Config) (i : ℕ) (s : State) (input : Input Message Action) (turn : Turn State Message Report) → node_step config i s input ≡ Some turn → turn.state.lost ≡ s.lost
 step_sees_none config i s (Taken p x) turn is =
-    let m = left (nodes_at config i) s in
+    let m = live_nodes (nodes_at config i) s in
     let t = took_so config i s p x turn is in
     ap (λ (u : Turn State Message Report). u.state.lost) t.2
     ∙ taken_so m Any AnyUpdate SeesNone SeesNone (sees_none m) (name_at config p) x s t.0 (λ node groups _ _. refl) (λ pid _. refl) t.1
 step_sees_none config i s (Own action) turn is =
-    let m = left (nodes_at config i) s in
+    let m = live_nodes (nodes_at config i) s in
     let t = did_so config i s action turn is in
     ap (λ (u : Turn State Message Report). u.state.lost) t.2
     ∙ acted_so m Any AnyUpdate SeesNone SeesNone (sees_none m) (nodes_at config i) (λ pid u _ _ _. refl) (ports_at config i) action s t.0 (λ port. tt) (λ port c u _ _. tt) t.1

@@ -12,7 +12,7 @@ use Rattle.pg_message.specs.declared.message.Message.{Message}
 use Rattle.pg_message.specs.declared.message.Message.TheVariants.{Call, Reply, DelLock, Exchange, Down}
 use Rattle.pg_machine.specs.Machine.{Input, Turn, Taken, Own}
 use Rattle.pg_step.specs.Nodes.{Node, Nodes, is_peer, to_peers}
-use Rattle.pg_step.specs.State.{State, left}
+use Rattle.pg_step.specs.State.{State, live_nodes}
 use Rattle.pg_step.specs.Turns.{NodeTurn, Report, becomes_and_sends}
 use Rattle.pg_step.specs.Peers.{is_bad_exchange, exchange, process_end, ended_in}
 use Rattle.pg_step.specs.Step.{Action, taken, acted}
@@ -66,22 +66,22 @@ TellsNothing (Own action) = Unit {0}
 
 -- what node i makes of an input in a state
 pub data StepMakes (config : Config) (i : ℕ) (s : State) (input : Input Message Action) (t : NodeTurn) : Type 0 where
-  Talking : Talks (left (nodes_at config i) s) s t → TellsNothing input → StepMakes config i s input t
+  Talking : Talks (live_nodes (nodes_at config i) s) s t → TellsNothing input → StepMakes config i s input t
   Merging : (p : ℕ) (node : Node) (groups : GroupList) → input ≡ Taken p (Exchange node groups) → is_bad_exchange (name_at config p) node s ≡ false
       → t ≡ exchange (name_at config p) groups s → StepMakes config i s input t
   Ending : (p : ℕ) (pid : Pid) → input ≡ Taken p (Down pid) → t ≡ process_end pid s → StepMakes config i s input t
 
 module _ (config : Config) (i : ℕ) (s : State) where
   -- of a packet
-  packet_makes : (p : ℕ) (x : Message) (t : NodeTurn) → Makes (taken (left (nodes_at config i) s) (name_at config p) x s) t → StepMakes config i s (Taken p x) t
+  packet_makes : (p : ℕ) (x : Message) (t : NodeTurn) → Makes (taken (live_nodes (nodes_at config i) s) (name_at config p) x s) t → StepMakes config i s (Taken p x) t
   packet_makes p (Call reference request) t is =
-      Talking (taken_so (left (nodes_at config i) s) Any AnyUpdate (Talks (left (nodes_at config i) s)) (Talks (left (nodes_at config i) s)) (talks_singly (left (nodes_at config i) s)) (name_at config p) (Call reference request) s t
+      Talking (taken_so (live_nodes (nodes_at config i) s) Any AnyUpdate (Talks (live_nodes (nodes_at config i) s)) (Talks (live_nodes (nodes_at config i) s)) (talks_singly (live_nodes (nodes_at config i) s)) (name_at config p) (Call reference request) s t
       (λ node groups e. absurd (cc)) (λ pid e. absurd (cc)) is) (refl, refl)
   packet_makes p (Reply reference said) t is =
-      Talking (taken_so (left (nodes_at config i) s) Any AnyUpdate (Talks (left (nodes_at config i) s)) (Talks (left (nodes_at config i) s)) (talks_singly (left (nodes_at config i) s)) (name_at config p) (Reply reference said) s t
+      Talking (taken_so (live_nodes (nodes_at config i) s) Any AnyUpdate (Talks (live_nodes (nodes_at config i) s)) (Talks (live_nodes (nodes_at config i) s)) (talks_singly (live_nodes (nodes_at config i) s)) (name_at config p) (Reply reference said) s t
       (λ node groups e. absurd (cc)) (λ pid e. absurd (cc)) is) (refl, refl)
   packet_makes p (DelLock name reference) t is =
-      Talking (taken_so (left (nodes_at config i) s) Any AnyUpdate (Talks (left (nodes_at config i) s)) (Talks (left (nodes_at config i) s)) (talks_singly (left (nodes_at config i) s)) (name_at config p) (DelLock name reference) s t
+      Talking (taken_so (live_nodes (nodes_at config i) s) Any AnyUpdate (Talks (live_nodes (nodes_at config i) s)) (Talks (live_nodes (nodes_at config i) s)) (talks_singly (live_nodes (nodes_at config i) s)) (name_at config p) (DelLock name reference) s t
       (λ node groups e. absurd (cc)) (λ pid e. absurd (cc)) is) (refl, refl)
   packet_makes p (Exchange node groups) t is = go (is_bad_exchange (name_at config p) node s) refl is
     where
@@ -97,17 +97,17 @@ module _ (config : Config) (i : ℕ) (s : State) where
 
   -- what is made of a packet and of what a node does of its own, with the nodes that it counts
   pub took_so : (p : ℕ) (x : Message) (turn : Turn State Message Report) → node_step config i s (Taken p x) ≡ Some turn
-      → (t : NodeTurn) × Makes (taken (left (nodes_at config i) s) (name_at config p) x s) t × (turn ≡ place_turn config t)
+      → (t : NodeTurn) × Makes (taken (live_nodes (nodes_at config i) s) (name_at config p) x s) t × (turn ≡ place_turn config t)
   took_so p x turn is = go (s.lost (name_at config p)) is
     where
-      go : (b : Bool) → placed config (cond b (Err NodeLost) (taken (left (nodes_at config i) s) (name_at config p) x s)) ≡ Some turn
-          → (t : NodeTurn) × Makes (taken (left (nodes_at config i) s) (name_at config p) x s) t × (turn ≡ place_turn config t)
+      go : (b : Bool) → placed config (cond b (Err NodeLost) (taken (live_nodes (nodes_at config i) s) (name_at config p) x s)) ≡ Some turn
+          → (t : NodeTurn) × Makes (taken (live_nodes (nodes_at config i) s) (name_at config p) x s) t × (turn ≡ place_turn config t)
       go true e = absurd (cc)
-      go false e = placed_so (taken (left (nodes_at config i) s) (name_at config p) x s) turn e
+      go false e = placed_so (taken (live_nodes (nodes_at config i) s) (name_at config p) x s) turn e
 
   pub did_so : (action : Action) (turn : Turn State Message Report) → node_step config i s (Own action) ≡ Some turn
-      → (t : NodeTurn) × Makes (acted (nodes_at config i) (left (nodes_at config i) s) (ports_at config i) action s) t × (turn ≡ place_turn config t)
-  did_so action turn is = placed_so (acted (nodes_at config i) (left (nodes_at config i) s) (ports_at config i) action s) turn is
+      → (t : NodeTurn) × Makes (acted (nodes_at config i) (live_nodes (nodes_at config i) s) (ports_at config i) action s) t × (turn ≡ place_turn config t)
+  did_so action turn is = placed_so (acted (nodes_at config i) (live_nodes (nodes_at config i) s) (ports_at config i) action s) turn is
 
   pub step_makes : (input : Input Message Action) (turn : Turn State Message Report) → node_step config i s input ≡ Some turn
       → (t : NodeTurn) × (turn ≡ place_turn config t) × StepMakes config i s input t
@@ -115,7 +115,7 @@ module _ (config : Config) (i : ℕ) (s : State) where
       let t = took_so p x turn is in
       (t.0, t.2, packet_makes p x t.0 t.1)
   step_makes (Own action) turn is =
-      let m = left (nodes_at config i) s in
+      let m = live_nodes (nodes_at config i) s in
       let t = did_so action turn is in
       (t.0, t.2, Talking (acted_so m Any AnyUpdate (Talks m) (Talks m) (talks_singly m) (nodes_at config i) (λ pid u home full lives. ends_talk m pid u home) (ports_at config i) action s t.0 (λ port. tt) (λ port c u _ _. tt) t.1) tt)
 

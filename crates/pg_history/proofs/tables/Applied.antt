@@ -10,7 +10,7 @@ use Rattle.pg_message.specs.declared.message.Message.{Message}
 use Rattle.pg_message.specs.declared.message.Message.TheVariants.{Call, Reply, DelLock, Exchange, Down}
 use Rattle.pg_machine.specs.Machine.{Input, Turn, Taken, Own}
 use Rattle.pg_step.specs.Nodes.{Node, Nodes}
-use Rattle.pg_step.specs.State.{State, left}
+use Rattle.pg_step.specs.State.{State, live_nodes}
 use Rattle.pg_step.specs.Turns.{NodeTurn, Report, first_of, and_then}
 use Rattle.pg_step.specs.Peers.{is_bad_exchange, exchange}
 use Rattle.pg_step.specs.Step.{Action, taken}
@@ -92,12 +92,12 @@ pub data StepTables (config : Config) (s : State) (input : Input Message Action)
       → t ≡ exchange (name_at config p) groups s → StepTables config s input t
 
 module _ (config : Config) (i : ℕ) (s : State) where
-  packet_tables : (p : ℕ) (x : Message) (t : NodeTurn) → ((node : Node) (groups : GroupList) → x ≡ Exchange node groups → ⊥) → Makes (taken (left (nodes_at config i) s) (name_at config p) x s) t → Tables s t
+  packet_tables : (p : ℕ) (x : Message) (t : NodeTurn) → ((node : Node) (groups : GroupList) → x ≡ Exchange node groups → ⊥) → Makes (taken (live_nodes (nodes_at config i) s) (name_at config p) x s) t → Tables s t
   packet_tables p x t other is =
-      taken_so (left (nodes_at config i) s) Any AnyUpdate Elsewhere Tables (tables_singly (left (nodes_at config i) s)) (name_at config p) x s t
+      taken_so (live_nodes (nodes_at config i) s) Any AnyUpdate Elsewhere Tables (tables_singly (live_nodes (nodes_at config i) s)) (name_at config p) x s t
       (λ node groups same _. absurd (other node groups same)) (λ pid _. EndingOne pid refl refl refl refl) is
 
-  taken_tables : (p : ℕ) (x : Message) (t : NodeTurn) → Makes (taken (left (nodes_at config i) s) (name_at config p) x s) t → StepTables config s (Taken p x) t
+  taken_tables : (p : ℕ) (x : Message) (t : NodeTurn) → Makes (taken (live_nodes (nodes_at config i) s) (name_at config p) x s) t → StepTables config s (Taken p x) t
   taken_tables p (Call reference request) t is = Tabling (packet_tables p (Call reference request) t (λ node groups e. absurd (cc)) is)
   taken_tables p (Reply reference said) t is = Tabling (packet_tables p (Reply reference said) t (λ node groups e. absurd (cc)) is)
   taken_tables p (DelLock name reference) t is = Tabling (packet_tables p (DelLock name reference) t (λ node groups e. absurd (cc)) is)
@@ -115,6 +115,6 @@ module _ (config : Config) (i : ℕ) (s : State) where
       let t = took_so config i s p x turn is in
       (t.0, t.2, taken_tables p x t.0 t.1)
   step_tables (Own action) turn is =
-      let m = left (nodes_at config i) s in
+      let m = live_nodes (nodes_at config i) s in
       let t = did_so config i s action turn is in
       (t.0, t.2, Tabling (acted_so m Any AnyUpdate Elsewhere Tables (tables_singly m) (nodes_at config i) (λ pid u _ _ _. EndingOne pid refl refl refl refl) (ports_at config i) action s t.0 (λ port. tt) (λ port c u _ _. tt) t.1))

@@ -15,7 +15,7 @@ use Rattle.pg_machine.specs.Machine.{Input, Turn, Event, Taken, Own, node_of, st
 use Rattle.pg_machine.specs.Happened.{Happened}
 use Rattle.pg_machine.specs.Clocked.{plain}
 use Rattle.pg_step.specs.Nodes.{Nodes}
-use Rattle.pg_step.specs.State.{State, left}
+use Rattle.pg_step.specs.State.{State, live_nodes}
 use Rattle.pg_step.specs.Turns.{NodeTurn, Report}
 use Rattle.pg_step.specs.Peers.{ended_in}
 use Rattle.pg_step.specs.Step.{CLOCK_LIMIT, Action}
@@ -92,12 +92,12 @@ end_lives pid s living name = less_living (s.table name) s.ended pid (living nam
 
 step_lives : (config : Config) (i : ℕ) (s : State) (input : Input Message Action) (turn : Turn State Message Report) → node_step config i s input ≡ Some turn → Lives s → Lives turn.state
 step_lives config i s (Taken p x) turn is living =
-    let m = left (nodes_at config i) s in
+    let m = live_nodes (nodes_at config i) s in
     let t = took_so config i s p x turn is in
     subst (λ u. Lives u.state) (sym t.2)
     (taken_so m Any AnyUpdate KeepsLiving KeepsLiving (lives_singly m) (name_at config p) x s t.0 (λ node groups _ _. merged_living s.table s.ended groups) (λ pid _. end_lives pid s) t.1 living)
 step_lives config i s (Own action) turn is living =
-    let m = left (nodes_at config i) s in
+    let m = live_nodes (nodes_at config i) s in
     let t = did_so config i s action turn is in
     subst (λ u. Lives u.state) (sym t.2) (acted_so m Any AnyUpdate KeepsLiving KeepsLiving (lives_singly m) (nodes_at config i) (λ pid u _ _ _. end_lives pid u) (ports_at config i) action s t.0 (λ port. tt) (λ port c u _ _. tt) t.1 living)
 

@@ -15,7 +15,7 @@ use Rattle.pg_step.specs.Commands.{has_foreign_pid, has_large_name, passes_limit
 use Rattle.pg_step.specs.Faults.{first_that_holds}
 use Rattle.pg_step.specs.Losses.{forgets}
 use Rattle.pg_step.specs.Nodes.{Node, Nodes}
-use Rattle.pg_step.specs.State.{State, Status, left}
+use Rattle.pg_step.specs.State.{State, Status, live_nodes}
 use Rattle.pg_step.specs.State.Status.{Unasked}
 use Rattle.pg_step.specs.Step.{taken}
 use Rattle.pg_step.specs.Turns.{NodeTurn, becomes}
@@ -39,7 +39,7 @@ copied_see_loss peer s = becomes (record s {
 
 -- a packet is taken
 abbrev pub copied_takes : Nodes → Node → Message → State → Result NodeTurn Refusal
-copied_takes m p x s = cond (s.lost p) (Err NodeLost) (taken (left m s) p x s)
+copied_takes m p x s = cond (s.lost p) (Err NodeLost) (taken (live_nodes m s) p x s)
 
 -- a node takes a step
 abbrev pub copied_goes : {S P C O : Type 0} → Machine S P C O → LosingWorld S P O → Event C → Option (LosingWorld S P O)

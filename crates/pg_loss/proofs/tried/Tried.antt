@@ -13,7 +13,7 @@ use Rattle.pg_message.specs.declared.message.Message.{Message}
 use Rattle.pg_machine.specs.Losing.{LosingWorld}
 use Rattle.pg_machine.specs.Machine.{Event, Machine, happens, node_of}
 use Rattle.pg_step.specs.Nodes.{Node, Nodes}
-use Rattle.pg_step.specs.State.{State, Status, formed, left}
+use Rattle.pg_step.specs.State.{State, Status, formed, live_nodes}
 use Rattle.pg_step.specs.State.Status.{Unasked}
 use Rattle.pg_step.specs.Step.{taken}
 use Rattle.pg_step.specs.Turns.{NodeTurn}
@@ -54,7 +54,7 @@ loss_ends peer s old q pid lost own = go (split same_atom atoms q peer) lost
 
 -- nothing is taken from a node whose loss was seen
 pub lost_unheard : (m : Nodes) (p : Node) (x : Message) (s : State) (t : NodeTurn) → s.lost p ≡ true → copied_takes m p x s ≡ Ok t → ⊥
-lost_unheard m p x s t seen is = absurd (cc (sym is ∙ ap (λ b. cond b (Err NodeLost) (taken (left m s) p x s)) seen))
+lost_unheard m p x s t seen is = absurd (cc (sym is ∙ ap (λ b. cond b (Err NodeLost) (taken (live_nodes m s) p x s)) seen))
 
 -- no lost node takes a step
 pub lost_stops : {S P C O : Type 0} (m : Machine S P C O) (w v : LosingWorld S P O) (e : Event C) → w.gone (node_of e) ≡ true → copied_goes m w e ≡ Some v → ⊥

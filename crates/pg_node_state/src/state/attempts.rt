@@ -32,7 +32,7 @@ impl<T: GroupTable + Drop> NodeState<T> {
     ghost use Rattle.pg_step.specs.Step.{at_clock};
     ghost use Rattle.pg_node_state.specs.Issued.{ports_of};
     ghost use Rattle.pg_node_state.specs.Sendable.{AreSendable};
-    ghost use Rattle.pg_node_state.specs.States.{names_of, left_of, kept_by, state_of, answers_of, Happens};
+    ghost use Rattle.pg_node_state.specs.States.{names_of, live_of, kept_by, state_of, answers_of, Happens};
 
     /// Begins an attempt of a command that waits: the greatest live node is asked for the lock, alone, and what
     /// follows is done at once where it is the own one.
@@ -43,7 +43,7 @@ impl<T: GroupTable + Drop> NodeState<T> {
         requires few { (name : Term) (pid : Pid) → count_in (T.contents self.old.table name) pid + 1 ≤ 2 ^ 32 + clock }
         requires waits { standing_of ((kept_by self.old).stages op) ≡ standings.Waiting }
         ensures happens { (update : Update) → (kept_by self.old).stages op ≡ Waiting update → IfOk result (λ done. Happens (names_of self.old)
-            (at_clock clock (attempt (left_of self.old) op update (kept_by self.old)))
+            (at_clock clock (attempt (live_of self.old) op update (kept_by self.old)))
             done (state_of self.new) (answers_of self.old) (answers_of self.new)) }
         ensures err { OnErr result (state_of self.new ≡ state_of self.old) }
         ensures err_answers { OnErr result (answers_of self.new ≡ answers_of self.old) }
@@ -74,10 +74,10 @@ impl<T: GroupTable + Drop> NodeState<T> {
         requires waits { standing_of ((kept_by self.old).stages op) ≡ standings.Waiting }
         requires place { first < length (names_of self.old) }
         requires apart { 0 < first }
-        requires peer { is_peer (left_of self.old) (name_at (names_of self.old) first) ≡ true }
-        requires greatest { name_at (names_of self.old) first ≡ greatest (left_of self.old) }
+        requires peer { is_peer (live_of self.old) (name_at (names_of self.old) first) ≡ true }
+        requires greatest { name_at (names_of self.old) first ≡ greatest (live_of self.old) }
         ensures happens { (update : Update) → (kept_by self.old).stages op ≡ Waiting update → IfOk result (λ done. Happens (names_of self.old)
-            (at_clock clock (attempt (left_of self.old) op update (kept_by self.old)))
+            (at_clock clock (attempt (live_of self.old) op update (kept_by self.old)))
             done (state_of self.new) (answers_of self.old) (answers_of self.new)) }
         ensures err { OnErr result (state_of self.new ≡ state_of self.old) }
         ensures err_answers { OnErr result (answers_of self.new ≡ answers_of self.old) }
@@ -99,10 +99,10 @@ impl<T: GroupTable + Drop> NodeState<T> {
         requires made { (kept_by self.old).references + 2 ≤ 2 * clock }
         requires few { (name : Term) (pid : Pid) → count_in (T.contents self.old.table name) pid + 1 ≤ 2 ^ 32 + clock }
         requires waits { standing_of ((kept_by self.old).stages op) ≡ standings.Waiting }
-        requires own { name_at (names_of self.old) 0 ≡ greatest (left_of self.old) }
-        requires denies { (update : Update) → (kept_by self.old).stages op ≡ Waiting update → would_grant (left_of self.old) (kept_by self.old) (name_of update) ≡ false }
+        requires own { name_at (names_of self.old) 0 ≡ greatest (live_of self.old) }
+        requires denies { (update : Update) → (kept_by self.old).stages op ≡ Waiting update → would_grant (live_of self.old) (kept_by self.old) (name_of update) ≡ false }
         ensures happens { (update : Update) → (kept_by self.old).stages op ≡ Waiting update → Happens (names_of self.old)
-            (at_clock clock (attempt (left_of self.old) op update (kept_by self.old)))
+            (at_clock clock (attempt (live_of self.old) op update (kept_by self.old)))
             result (state_of self.new) (answers_of self.old) (answers_of self.new) }
         ensures names { names_of self.new ≡ names_of self.old }
         ensures ports { ports_of self.new ≡ ports_of self.old }
@@ -122,11 +122,11 @@ impl<T: GroupTable + Drop> NodeState<T> {
         requires made { (kept_by self.old).references + 2 ≤ 2 * clock }
         requires few { (name : Term) (pid : Pid) → count_in (T.contents self.old.table name) pid + 1 ≤ 2 ^ 32 + clock }
         requires waits { standing_of ((kept_by self.old).stages op) ≡ standings.Waiting }
-        requires own { name_at (names_of self.old) 0 ≡ greatest (left_of self.old) }
-        requires grants { (update : Update) → (kept_by self.old).stages op ≡ Waiting update → would_grant (left_of self.old) (kept_by self.old) (name_of update) ≡ true }
-        requires some { (q : Node) × (is_peer (left_of self.old) q ≡ true) }
+        requires own { name_at (names_of self.old) 0 ≡ greatest (live_of self.old) }
+        requires grants { (update : Update) → (kept_by self.old).stages op ≡ Waiting update → would_grant (live_of self.old) (kept_by self.old) (name_of update) ≡ true }
+        requires some { (q : Node) × (is_peer (live_of self.old) q ≡ true) }
         ensures happens { (update : Update) → (kept_by self.old).stages op ≡ Waiting update → IfOk result (λ done. Happens (names_of self.old)
-            (at_clock clock (attempt (left_of self.old) op update (kept_by self.old)))
+            (at_clock clock (attempt (live_of self.old) op update (kept_by self.old)))
             done (state_of self.new) (answers_of self.old) (answers_of self.new)) }
         ensures err { OnErr result (state_of self.new ≡ state_of self.old) }
         ensures err_answers { OnErr result (answers_of self.new ≡ answers_of self.old) }
@@ -160,11 +160,11 @@ impl<T: GroupTable + Drop> NodeState<T> {
         requires made { (kept_by self.old).references + 2 ≤ 2 * clock }
         requires few { (name : Term) (pid : Pid) → count_in (T.contents self.old.table name) pid + 1 ≤ 2 ^ 32 + clock }
         requires waits { standing_of ((kept_by self.old).stages op) ≡ standings.Waiting }
-        requires own { name_at (names_of self.old) 0 ≡ greatest (left_of self.old) }
-        requires grants { (update : Update) → (kept_by self.old).stages op ≡ Waiting update → would_grant (left_of self.old) (kept_by self.old) (name_of update) ≡ true }
-        requires alone { (q : Node) → is_peer (left_of self.old) q ≡ false }
+        requires own { name_at (names_of self.old) 0 ≡ greatest (live_of self.old) }
+        requires grants { (update : Update) → (kept_by self.old).stages op ≡ Waiting update → would_grant (live_of self.old) (kept_by self.old) (name_of update) ≡ true }
+        requires alone { (q : Node) → is_peer (live_of self.old) q ≡ false }
         ensures happens { (update : Update) → (kept_by self.old).stages op ≡ Waiting update → IfOk result (λ done. Happens (names_of self.old)
-            (at_clock clock (attempt (left_of self.old) op update (kept_by self.old)))
+            (at_clock clock (attempt (live_of self.old) op update (kept_by self.old)))
             done (state_of self.new) (answers_of self.old) (answers_of self.new)) }
         ensures err { OnErr result (state_of self.new ≡ state_of self.old) }
         ensures err_answers { OnErr result (answers_of self.new ≡ answers_of self.old) }
@@ -192,7 +192,7 @@ impl<T: GroupTable + Drop> NodeState<T> {
     /// Whether the own node would grant the lock to a command that waits.
     fn would_grant_to(&self, op: OpId) -> bool
         requires { standing_of ((kept_by self.now).stages op) ≡ standings.Waiting }
-        ensures { (update : Update) → (kept_by self.now).stages op ≡ Waiting update → result ≡ would_grant (left_of self.now) (kept_by self.now) (name_of update) }
+        ensures { (update : Update) → (kept_by self.now).stages op ≡ Waiting update → result ≡ would_grant (live_of self.now) (kept_by self.now) (name_of update) }
     {
         let name = waiting_under(&self.opens, op).name();
         self.locks.grants(self.formation.formed(), name)

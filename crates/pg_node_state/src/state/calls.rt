@@ -6,7 +6,7 @@ ghost use Rattle.pg_group.specs.Value.{name_of};
 ghost use Rattle.pg_machine.specs.Clocked.{stamped};
 ghost use Rattle.pg_message.specs.declared.message.Message.TheVariants as messages;
 ghost use Rattle.pg_message.specs.declared.message.Request.TheVariants as requests;
-ghost use Rattle.pg_opens.specs.Opens.{names_of, left_of, uses_of, references_of};
+ghost use Rattle.pg_opens.specs.Opens.{names_of, live_of, uses_of, references_of};
 ghost use Rattle.pg_opens.specs.Readings.{is_locking, is_updating, update_of};
 ghost use Rattle.pg_step.specs.declared.command.OpId.{OpId};
 ghost use Rattle.pg_step.specs.Attempts.{asks, is_yes, own_reference};
@@ -20,7 +20,7 @@ ghost use Rattle.pg_message.specs.declared.packet.TheConstants.{MAX_STAMP};
 
 use crate::state::Done;
 use crate::state::orders::{Order, own_under};
-use crate::state::sends::{to_asked, to_granted, to_left};
+use crate::state::sends::{to_asked, to_granted, to_live};
 use pg_group::Update;
 use pg_message::Packet;
 use pg_opens::Opens;
@@ -40,8 +40,8 @@ pub(crate) fn freed(
     requires within { clock ≤ MAX_STAMP }
     requires named { (update : Update) → update_of (uses_of opens.now number) ≡ Some update → is_name (name_of update) ≡ true }
     ensures sends { (op : OpId) (update : Update) (first : Node) (st : Node → Status) → uses_of opens.now number ≡ Locking op update first st
-        → IfOk result (λ done. sends_in (names_of opens.now) done.sends.items ≡ (λ q. stamped clock (to_peers (left_of opens.now)
-        (λ q. is_yes (st q)) (messages.DelLock (name_of update) (own_reference (left_of opens.now) number)) q))) }
+        → IfOk result (λ done. sends_in (names_of opens.now) done.sends.items ≡ (λ q. stamped clock (to_peers (live_of opens.now)
+        (λ q. is_yes (st q)) (messages.DelLock (name_of update) (own_reference (live_of opens.now) number)) q))) }
     ensures began { IfOk result (λ done. done.began ≡ None) }
     ensures odd { IfOk result (λ done. done.odd ≡ None) }
     ensures fits { IfOk result (λ done. AreSendable (names_of opens.now) done.sends.items) }
@@ -65,8 +65,8 @@ pub(crate) fn asked(
     requires within { clock ≤ MAX_STAMP }
     requires named { (update : Update) → update_of (uses_of opens.now number) ≡ Some update → is_name (name_of update) ≡ true }
     ensures sends { (op : OpId) (update : Update) (first : Node) (st : Node → Status) → uses_of opens.now number ≡ Locking op update first st
-        → IfOk result (λ done. sends_in (names_of opens.now) done.sends.items ≡ (λ q. stamped clock (to_peers (left_of opens.now)
-        (asks (λ q. true) st) (messages.Call (own_reference (left_of opens.now) number) (requests.SetLock (name_of update))) q))) }
+        → IfOk result (λ done. sends_in (names_of opens.now) done.sends.items ≡ (λ q. stamped clock (to_peers (live_of opens.now)
+        (asks (λ q. true) st) (messages.Call (own_reference (live_of opens.now) number) (requests.SetLock (name_of update))) q))) }
     ensures began { IfOk result (λ done. done.began ≡ None) }
     ensures odd { IfOk result (λ done. done.odd ≡ None) }
     ensures fits { IfOk result (λ done. AreSendable (names_of opens.now) done.sends.items) }
@@ -92,15 +92,15 @@ pub(crate) fn begun(
     requires named { (update : Update) → update_of (uses_of opens.now number) ≡ Some update → is_name (name_of update) ≡ true }
     requires next { references_of opens.now + 1 < 2 ^ 32 }
     ensures sends { (other : OpId) (update : Update) (first : Node) (st : Node → Status) → uses_of opens.now number ≡ Locking other update first st
-        → IfOk result (λ done. sends_in (names_of opens.now) done.sends.items ≡ (λ q. stamped clock (to_peers (left_of opens.now)
-        (λ q. true) (messages.Call (own_reference (left_of opens.now) (references_of opens.now + 1)) (requests.Change update)) q))) }
+        → IfOk result (λ done. sends_in (names_of opens.now) done.sends.items ≡ (λ q. stamped clock (to_peers (live_of opens.now)
+        (λ q. true) (messages.Call (own_reference (live_of opens.now) (references_of opens.now + 1)) (requests.Change update)) q))) }
     ensures began { (update : Update) → update_of (uses_of opens.now number) ≡ Some update → IfOk result (λ done. done.began ≡ Some (op, update)) }
     ensures odd { IfOk result (λ done. done.odd ≡ None) }
     ensures fits { IfOk result (λ done. AreSendable (names_of opens.now) done.sends.items) }
 {
     let update = update_under(opens, number);
     let call = own_under(opens, opens.references() + 1);
-    let sends = to_left(alloc, clock, Order::Change(update, call), opens)?;
+    let sends = to_live(alloc, clock, Order::Change(update, call), opens)?;
     match update.copy(alloc) {
         Ok(update) => Ok(done_with(sends, Some((op, update)))),
         Err(fault) => {
@@ -124,15 +124,15 @@ pub(crate) fn ended(
     requires within { clock ≤ MAX_STAMP }
     requires named { (update : Update) → update_of (uses_of opens.now number) ≡ Some update → is_name (name_of update) ≡ true }
     ensures sends { (op : OpId) (update : Update) (holder : ℕ) (replied : Node → Bool) → uses_of opens.now number ≡ Updating op update holder replied
-        → IfOk result (λ done. sends_in (names_of opens.now) done.sends.items ≡ (λ q. stamped clock (to_peers (left_of opens.now)
-        (λ q. true) (messages.DelLock (name_of update) (own_reference (left_of opens.now) lock)) q))) }
+        → IfOk result (λ done. sends_in (names_of opens.now) done.sends.items ≡ (λ q. stamped clock (to_peers (live_of opens.now)
+        (λ q. true) (messages.DelLock (name_of update) (own_reference (live_of opens.now) lock)) q))) }
     ensures began { IfOk result (λ done. done.began ≡ None) }
     ensures odd { IfOk result (λ done. done.odd ≡ None) }
     ensures fits { IfOk result (λ done. AreSendable (names_of opens.now) done.sends.items) }
 {
     let update = update_under(opens, number);
     let order = Order::Free(update.name(), own_under(opens, lock));
-    let sends = to_left(alloc, clock, order, opens)?;
+    let sends = to_live(alloc, clock, order, opens)?;
     Ok(done_with(sends, None))
 }
 
@@ -165,11 +165,11 @@ ghost use Rattle.pg_step.specs.Nodes.{is_peer};
 
 /// Whether a peer counts. It takes no memory: O(nodes).
 pub(crate) fn has_peer(opens: &Opens) -> bool
-    ensures some { result ≡ true → (q : Node) × (is_peer (left_of opens.now) q ≡ true) }
-    ensures none { result ≡ false → (q : Node) → is_peer (left_of opens.now) q ≡ false }
+    ensures some { result ≡ true → (q : Node) × (is_peer (live_of opens.now) q ≡ true) }
+    ensures none { result ≡ false → (q : Node) → is_peer (live_of opens.now) q ≡ false }
 {
     for place in 1..opens.node_count() {
-        if opens.is_left(place) {
+        if opens.is_live(place) {
             return true;
         }
     }

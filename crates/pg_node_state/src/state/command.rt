@@ -18,7 +18,7 @@ impl<T: GroupTable + Drop> NodeState<T> {
     ghost use Rattle.pg_step.specs.Step.{Issue, step_act, at_clock};
     ghost use Rattle.pg_node_state.specs.Issued.{issued, ports_of};
     ghost use Rattle.pg_node_state.specs.Sendable.{AreSendable};
-    ghost use Rattle.pg_node_state.specs.States.{names_of, nodes_of, left_of, kept_by};
+    ghost use Rattle.pg_node_state.specs.States.{names_of, nodes_of, live_of, kept_by};
     ghost use Rattle.pg_node_state.specs.States.{state_of, answers_of, Happens, Comes};
 
     /// Takes a command that comes in at a port: it is the port's next, with the next number. `port`: its place among
@@ -60,7 +60,7 @@ impl<T: GroupTable + Drop> NodeState<T> {
         requires within { clock ≤ MAX_STAMP }
         requires place { port < ports_of self.old }
         ensures happens { IfOk result (λ done. Happens (names_of self.old)
-            (at_clock clock (commands.command (nodes_of self.old) (left_of self.old) port command.now (kept_by self.old)))
+            (at_clock clock (commands.command (nodes_of self.old) (live_of self.old) port command.now (kept_by self.old)))
             done (state_of self.new) (answers_of self.old) (answers_of self.new)) }
         ensures err { OnErr result (state_of self.new ≡ state_of self.old) }
         ensures err_answers { OnErr result (answers_of self.new ≡ answers_of self.old) }
@@ -81,7 +81,7 @@ impl<T: GroupTable + Drop> NodeState<T> {
         requires place { port < ports_of self.old }
         requires taken { fault_of (nodes_of self.old) (kept_by self.old) command.now ≡ None }
         ensures happens { IfOk result (λ done. Happens (names_of self.old)
-            (at_clock clock (issued port (λ op. carried_out (left_of self.old) op command.now) (kept_by self.old)))
+            (at_clock clock (issued port (λ op. carried_out (live_of self.old) op command.now) (kept_by self.old)))
             done (state_of self.new) (answers_of self.old) (answers_of self.new)) }
         ensures err { OnErr result (state_of self.new ≡ state_of self.old) }
         ensures err_answers { OnErr result (answers_of self.new ≡ answers_of self.old) }

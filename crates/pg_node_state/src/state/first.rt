@@ -6,7 +6,7 @@ ghost use Rattle.pg_group.specs.Value.{name_of};
 ghost use Rattle.pg_machine.specs.Clocked.{stamped};
 ghost use Rattle.pg_message.specs.declared.message.Message.TheVariants as messages;
 ghost use Rattle.pg_message.specs.declared.message.Request.TheVariants as requests;
-ghost use Rattle.pg_opens.specs.Opens.{names_of, left_of, references_of, stages_of, Shows};
+ghost use Rattle.pg_opens.specs.Opens.{names_of, live_of, references_of, stages_of, Shows};
 ghost use Rattle.pg_opens.specs.Places.{name_at};
 ghost use Rattle.pg_opens.specs.Readings.{standing_of};
 ghost use Rattle.pg_opens.specs.declared.command.Standing.TheVariants as standings;
@@ -24,7 +24,7 @@ ghost use Rattle.pg_node_state.specs.States.{sends_in};
 use crate::state::Done;
 use crate::state::calls::done_with;
 use crate::state::orders::{Order, own_under};
-use crate::state::sends::{to_left, to_place};
+use crate::state::sends::{to_live, to_place};
 use pg_group::Update;
 use pg_opens::{Asked, Opens};
 use pg_step::OpId;
@@ -48,7 +48,7 @@ pub(crate) fn first_asked(
     requires named { (update : Update) → stages_of opens.now op ≡ Waiting update → is_name (name_of update) ≡ true }
     ensures sends { (update : Update) → stages_of opens.now op ≡ Waiting update
         → IfOk result (λ done. sends_in (names_of opens.now) done.sends.items ≡ (λ q. stamped clock (to_one (name_at (names_of opens.now) first)
-        (messages.Call (own_reference (left_of opens.now) (references_of opens.now + 1)) (requests.SetLock (name_of update))) q))) }
+        (messages.Call (own_reference (live_of opens.now) (references_of opens.now + 1)) (requests.SetLock (name_of update))) q))) }
     ensures began { IfOk result (λ done. done.began ≡ None) }
     ensures odd { IfOk result (λ done. done.odd ≡ None) }
     ensures fits { IfOk result (λ done. AreSendable (names_of opens.now) done.sends.items) }
@@ -73,15 +73,15 @@ pub(crate) fn all_asked(
     requires within { clock ≤ MAX_STAMP }
     requires named { (update : Update) → stages_of opens.now op ≡ Waiting update → is_name (name_of update) ≡ true }
     ensures sends { (update : Update) → stages_of opens.now op ≡ Waiting update
-        → IfOk result (λ done. sends_in (names_of opens.now) done.sends.items ≡ (λ q. stamped clock (to_peers (left_of opens.now)
-        (λ q. true) (messages.Call (own_reference (left_of opens.now) (references_of opens.now + 1)) (requests.SetLock (name_of update))) q))) }
+        → IfOk result (λ done. sends_in (names_of opens.now) done.sends.items ≡ (λ q. stamped clock (to_peers (live_of opens.now)
+        (λ q. true) (messages.Call (own_reference (live_of opens.now) (references_of opens.now + 1)) (requests.SetLock (name_of update))) q))) }
     ensures began { IfOk result (λ done. done.began ≡ None) }
     ensures odd { IfOk result (λ done. done.odd ≡ None) }
     ensures fits { IfOk result (λ done. AreSendable (names_of opens.now) done.sends.items) }
 {
     let name = waiting_under(opens, op).name();
     let lock = own_under(opens, opens.references() + 1);
-    let sends = to_left(alloc, clock, Order::Lock(name, lock), opens)?;
+    let sends = to_live(alloc, clock, Order::Lock(name, lock), opens)?;
     Ok(done_with(sends, None))
 }
 
@@ -109,10 +109,10 @@ pub(crate) fn ask_first(opens: &mut Opens, op: OpId, first: usize, granted: bool
     requires waits { standing_of (stages_of opens.old op) ≡ standings.Waiting }
     requires next { references_of opens.old + 1 < 2 ^ 32 }
     requires place { first < length (names_of opens.old) }
-    requires greatest { name_at (names_of opens.old) first ≡ greatest (left_of opens.old) }
+    requires greatest { name_at (names_of opens.old) first ≡ greatest (live_of opens.old) }
     ensures turned { (update : Update) → stages_of opens.old op ≡ Waiting update
-        → (s : State) → Shows opens.old s → would_grant (left_of opens.old) s (name_of update) ≡ granted
-        → Shows opens.new (asked_first (left_of opens.old) op update s).state }
+        → (s : State) → Shows opens.old s → would_grant (live_of opens.old) s (name_of update) ≡ granted
+        → Shows opens.new (asked_first (live_of opens.old) op update s).state }
     ensures nodes { names_of opens.new ≡ names_of opens.old }
 {
     opens.start(op, first);
@@ -124,11 +124,11 @@ pub(crate) fn ask_first(opens: &mut Opens, op: OpId, first: usize, granted: bool
 pub(crate) fn end_alone(opens: &mut Opens, op: OpId)
     requires waits { standing_of (stages_of opens.old op) ≡ standings.Waiting }
     requires next { references_of opens.old + 2 < 2 ^ 32 }
-    requires own { name_at (names_of opens.old) 0 ≡ greatest (left_of opens.old) }
-    requires alone { (q : Node) → is_peer (left_of opens.old) q ≡ false }
+    requires own { name_at (names_of opens.old) 0 ≡ greatest (live_of opens.old) }
+    requires alone { (q : Node) → is_peer (live_of opens.old) q ≡ false }
     ensures turned { (update : Update) → stages_of opens.old op ≡ Waiting update
-        → (s : State) → Shows opens.old s → would_grant (left_of opens.old) s (name_of update) ≡ true
-        → Shows opens.new (attempt (left_of opens.old) op update s).state }
+        → (s : State) → Shows opens.old s → would_grant (live_of opens.old) s (name_of update) ≡ true
+        → Shows opens.new (attempt (live_of opens.old) op update s).state }
     ensures nodes { names_of opens.new ≡ names_of opens.old }
 {
     ask_first(opens, op, 0, true);

@@ -42,7 +42,7 @@ ghost use Rattle.pg_lock.specs.Locks.{Locks};
 ghost use Rattle.pg_step.specs.State.{new_state, formed};
 ghost use Rattle.pg_node_state.specs.Issued.{ports_of};
 ghost use Rattle.pg_node_state.specs.Opening.{Announces};
-ghost use Rattle.pg_node_state.specs.States.{names_of, nodes_of, left_of, kept_by, state_of, answers_of, sends_in};
+ghost use Rattle.pg_node_state.specs.States.{names_of, nodes_of, live_of, kept_by, state_of, answers_of, sends_in};
 ghost use Rattle.pg_node_state.specs.Waiting.{AreWaiting};
 
 impl<T: GroupTable + Drop> NodeState<T> {
@@ -135,7 +135,7 @@ impl<T: GroupTable + Drop> NodeState<T> {
     ///
     /// Cost: no memory.
     pub fn formed(&self) -> bool
-        ensures { result ≡ formed (left_of self.now) (kept_by self.now) }
+        ensures { result ≡ formed (live_of self.now) (kept_by self.now) }
     {
         self.formation.formed()
     }
@@ -205,7 +205,7 @@ impl<T: GroupTable + Drop> NodeState<T> {
     ///
     /// Cost: one search of all open commands for each of them.
     pub fn waiting(&self) -> Result<Vec<OpId>, AllocError>
-        ensures { IfOk result (λ ops. AreWaiting (left_of self.now) (kept_by self.now) ops.items) }
+        ensures { IfOk result (λ ops. AreWaiting (live_of self.now) (kept_by self.now) ops.items) }
     {
         self.opens.has_each_once();
         let mut ops = Vec::new(self.alloc);

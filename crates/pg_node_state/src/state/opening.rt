@@ -1,13 +1,13 @@
 //! What a node sends as it begins.
 
 ghost use Rattle.std.specs.Prelude.{IfOk};
-ghost use Rattle.pg_opens.specs.Opens.{names_of, left_of};
+ghost use Rattle.pg_opens.specs.Opens.{names_of, live_of};
 ghost use Rattle.pg_opens.specs.Places.{name_at};
 ghost use Rattle.pg_node_state.specs.Opening.{Announces, IsAnnouncement};
 ghost use Rattle.pg_node_state.specs.States.{sends_in};
 
 use crate::state::NodeState;
-use crate::state::sends::copies_to_left;
+use crate::state::sends::copies_to_live;
 use pg_exchange::snapshot;
 use pg_group::GroupTable;
 use pg_message::{Message, Packet};
@@ -22,10 +22,10 @@ pub(crate) fn opening<T: GroupTable>(
     opens: &Opens,
     table: &T,
 ) -> Result<Vec<(usize, Packet)>, AllocError>
-    ensures { IfOk result (λ sends. Announces (T.contents table.now) (left_of opens.now) (sends_in (names_of opens.now) sends.items)) }
+    ensures { IfOk result (λ sends. Announces (T.contents table.now) (live_of opens.now) (sends_in (names_of opens.now) sends.items)) }
 {
     let packet = announced(alloc, opens, table)?;
-    let sends = copies_to_left(alloc, &packet, opens);
+    let sends = copies_to_live(alloc, &packet, opens);
     drop(packet);
     sends
 }

@@ -1,5 +1,5 @@
 ghost use Rattle.std.specs.Prelude.{◌≡◌, IfOk};
-ghost use Rattle.pg_opens.specs.Opens.{left_of};
+ghost use Rattle.pg_opens.specs.Opens.{live_of};
 ghost use Rattle.pg_step.specs.Attempts.{own_reference};
 ghost use Rattle.pg_node_state.specs.Orders.{message_of, reference_in};
 
@@ -30,7 +30,7 @@ impl Numbered<'_> {
 
 /// The own reference of a number. It takes no memory.
 pub(crate) fn own_under(opens: &Opens, number: u32) -> Numbered<'_>
-    ensures { reference_in result ≡ own_reference (left_of opens.now) number }
+    ensures { reference_in result ≡ own_reference (live_of opens.now) number }
 {
     Numbered {
         node: opens.name(0),

@@ -22,7 +22,7 @@ impl<T: GroupTable + Drop> NodeState<T> {
     ghost use Rattle.pg_step.specs.Losses.{see_loss};
     ghost use Rattle.pg_step.specs.Step.{at_clock};
     ghost use Rattle.pg_node_state.specs.Issued.{ports_of};
-    ghost use Rattle.pg_node_state.specs.States.{names_of, left_of, kept_by, state_of, answers_of, Tells};
+    ghost use Rattle.pg_node_state.specs.States.{names_of, live_of, kept_by, state_of, answers_of, Tells};
     ghost use Rattle.pg_node_state.specs.Sendable.{AreSendable};
 
     /// Answers a request for a lock.
@@ -37,9 +37,9 @@ impl<T: GroupTable + Drop> NodeState<T> {
         requires within { clock ≤ MAX_STAMP }
         requires place { peer + 1 < length (names_of self.old) }
         ensures state { OnOk result (state_of self.new
-            ≡ (at_clock clock (lock_request (left_of self.old) (name_at (names_of self.old) (peer + 1)) reference.now name.now (kept_by self.old))).state) }
+            ≡ (at_clock clock (lock_request (live_of self.old) (name_at (names_of self.old) (peer + 1)) reference.now name.now (kept_by self.old))).state) }
         ensures told { IfOk result (Tells (names_of self.old)
-            (at_clock clock (lock_request (left_of self.old) (name_at (names_of self.old) (peer + 1)) reference.now name.now (kept_by self.old)))) }
+            (at_clock clock (lock_request (live_of self.old) (name_at (names_of self.old) (peer + 1)) reference.now name.now (kept_by self.old)))) }
         ensures err { OnErr result (state_of self.new ≡ state_of self.old) }
         ensures names { names_of self.new ≡ names_of self.old }
         ensures ports { ports_of self.new ≡ ports_of self.old }

@@ -13,7 +13,7 @@ ghost use Rattle.pg_node_state.specs.Ports.{counts_in, answers_in};
 
 use crate::state::orders::Order;
 use crate::state::port::{give, reserve_answer};
-use crate::state::sends::to_left;
+use crate::state::sends::to_live;
 use crate::state::{Done, NodeState, Port};
 use pg_ends::take_end;
 use pg_group::{Ended, GroupTable};
@@ -25,7 +25,7 @@ impl<T: GroupTable + Drop> NodeState<T> {
     ghost use Rattle.pg_step.specs.Commands.{make, end_process};
     ghost use Rattle.pg_step.specs.Step.{at_clock};
     ghost use Rattle.pg_node_state.specs.Issued.{issued, ports_of};
-    ghost use Rattle.pg_node_state.specs.States.{names_of, left_of, kept_by, state_of, answers_of, Happens};
+    ghost use Rattle.pg_node_state.specs.States.{names_of, live_of, kept_by, state_of, answers_of, Happens};
     ghost use Rattle.pg_node_state.specs.Sendable.{AreSendable};
 
     /// Makes a process, for the next command of a port.
@@ -34,7 +34,7 @@ impl<T: GroupTable + Drop> NodeState<T> {
         requires within { clock ≤ MAX_STAMP }
         requires place { port < ports_of self.old }
         requires limit { (kept_by self.old).processes < MAX_PROCESSES }
-        ensures happens { IfOk result (λ done. Happens (names_of self.old) (at_clock clock (issued port (make (left_of self.old)) (kept_by self.old)))
+        ensures happens { IfOk result (λ done. Happens (names_of self.old) (at_clock clock (issued port (make (live_of self.old)) (kept_by self.old)))
             done (state_of self.new) (answers_of self.old) (answers_of self.new)) }
         ensures err { OnErr result (state_of self.new ≡ state_of self.old) }
         ensures err_answers { OnErr result (answers_of self.new ≡ answers_of self.old) }
@@ -62,7 +62,7 @@ impl<T: GroupTable + Drop> NodeState<T> {
         requires later { self.old.clock < clock }
         requires within { clock ≤ MAX_STAMP }
         requires place { port < ports_of self.old }
-        ensures happens { IfOk result (λ done. Happens (names_of self.old) (at_clock clock (issued port (λ op. end_process (left_of self.old) op pid.now) (kept_by self.old)))
+        ensures happens { IfOk result (λ done. Happens (names_of self.old) (at_clock clock (issued port (λ op. end_process (live_of self.old) op pid.now) (kept_by self.old)))
             done (state_of self.new) (answers_of self.old) (answers_of self.new)) }
         ensures err { OnErr result (state_of self.new ≡ state_of self.old) }
         ensures err_answers { OnErr result (answers_of self.new ≡ answers_of self.old) }
@@ -70,7 +70,7 @@ impl<T: GroupTable + Drop> NodeState<T> {
         ensures ports { ports_of self.new ≡ ports_of self.old }
         ensures fits { IfOk result (λ done. AreSendable (names_of self.old) done.sends.items) }
     {
-        let sends = to_left(self.alloc, clock, Order::End(pid), &self.opens)?;
+        let sends = to_live(self.alloc, clock, Order::End(pid), &self.opens)?;
         end_at(&mut self.ports, &mut self.table, &mut self.ended, port, pid)?;
         self.clock = clock;
         Ok(Done {

@@ -25,7 +25,7 @@ impl<T: GroupTable + Drop> NodeState<T> {
     ghost use Rattle.pg_node_state.specs.declared.state.fault.NodeFault.TheVariants.{OutOfMemory};
     ghost use Rattle.pg_step.specs.Step.{at_clock};
     ghost use Rattle.pg_node_state.specs.Issued.{ports_of};
-    ghost use Rattle.pg_node_state.specs.States.{names_of, left_of, kept_by, state_of};
+    ghost use Rattle.pg_node_state.specs.States.{names_of, live_of, kept_by, state_of};
     ghost use Rattle.pg_node_state.specs.States.{answers_of, is_counted, Happens, ComesAt};
     ghost use Rattle.pg_node_state.specs.Sendable.{AreSendable};
 
@@ -42,9 +42,9 @@ impl<T: GroupTable + Drop> NodeState<T> {
         requires later { self.old.clock < clock }
         requires within { clock ≤ MAX_STAMP }
         requires place { peer + 1 < length (names_of self.old) }
-        ensures light { is_counted (what_of true (gathered (use_of (left_of self.old) reference.now (kept_by self.old)) (name_at (names_of self.old) (peer + 1)))) ≡ false
+        ensures light { is_counted (what_of true (gathered (use_of (live_of self.old) reference.now (kept_by self.old)) (name_at (names_of self.old) (peer + 1)))) ≡ false
             → result ≢ Err OutOfMemory }
-        ensures comes { ComesAt clock (names_of self.old) (reply_taken (left_of self.old) (name_at (names_of self.old) (peer + 1)) reference.now said (kept_by self.old))
+        ensures comes { ComesAt clock (names_of self.old) (reply_taken (live_of self.old) (name_at (names_of self.old) (peer + 1)) reference.now said (kept_by self.old))
             result (state_of self.new) (answers_of self.old) (answers_of self.new) }
         ensures err { OnErr result (state_of self.new ≡ state_of self.old) }
         ensures err_answers { OnErr result (answers_of self.new ≡ answers_of self.old) }
@@ -71,9 +71,9 @@ impl<T: GroupTable + Drop> NodeState<T> {
         requires later { self.old.clock < clock }
         requires within { clock ≤ MAX_STAMP }
         requires place { peer + 1 < length (names_of self.old) }
-        ensures light { is_counted (what_of true (gathered (use_of (left_of self.old) (numbered (left_of self.old).own number) (kept_by self.old)) (name_at (names_of self.old) (peer + 1)))) ≡ false
+        ensures light { is_counted (what_of true (gathered (use_of (live_of self.old) (numbered (live_of self.old).own number) (kept_by self.old)) (name_at (names_of self.old) (peer + 1)))) ≡ false
             → result ≢ Err OutOfMemory }
-        ensures comes { ComesAt clock (names_of self.old) (reply_taken (left_of self.old) (name_at (names_of self.old) (peer + 1)) (numbered (left_of self.old).own number) said (kept_by self.old))
+        ensures comes { ComesAt clock (names_of self.old) (reply_taken (live_of self.old) (name_at (names_of self.old) (peer + 1)) (numbered (live_of self.old).own number) said (kept_by self.old))
             result (state_of self.new) (answers_of self.old) (answers_of self.new) }
         ensures err { OnErr result (state_of self.new ≡ state_of self.old) }
         ensures err_answers { OnErr result (answers_of self.new ≡ answers_of self.old) }
@@ -106,7 +106,7 @@ impl<T: GroupTable + Drop> NodeState<T> {
         requires place { peer + 1 < length (names_of self.old) }
         requires new { what_of true (gathered ((kept_by self.old).uses number) (name_at (names_of self.old) (peer + 1))) ≡ Counted }
         ensures happens { IfOk result (λ done. Happens (names_of self.old) (at_clock clock
-            (counted ((kept_by self.old).uses number) (left_of self.old) (name_at (names_of self.old) (peer + 1)) number said (kept_by self.old)))
+            (counted ((kept_by self.old).uses number) (live_of self.old) (name_at (names_of self.old) (peer + 1)) number said (kept_by self.old)))
             done (state_of self.new) (answers_of self.old) (answers_of self.new)) }
         ensures err { OnErr result (state_of self.new ≡ state_of self.old) }
         ensures err_answers { OnErr result (answers_of self.new ≡ answers_of self.old) }
@@ -136,7 +136,7 @@ impl<T: GroupTable + Drop> NodeState<T> {
         requires locking { gathering_of ((kept_by self.old).uses number) ≡ gatherings.Lock op }
         requires new { what_of true (gathered ((kept_by self.old).uses number) (name_at (names_of self.old) (peer + 1))) ≡ Counted }
         ensures happens { IfOk result (λ done. Happens (names_of self.old) (at_clock clock
-            (counted ((kept_by self.old).uses number) (left_of self.old) (name_at (names_of self.old) (peer + 1)) number said (kept_by self.old)))
+            (counted ((kept_by self.old).uses number) (live_of self.old) (name_at (names_of self.old) (peer + 1)) number said (kept_by self.old)))
             done (state_of self.new) (answers_of self.old) (answers_of self.new)) }
         ensures err { OnErr result (state_of self.new ≡ state_of self.old) }
         ensures err_answers { OnErr result (answers_of self.new ≡ answers_of self.old) }
@@ -169,7 +169,7 @@ impl<T: GroupTable + Drop> NodeState<T> {
         requires updating { gathering_of ((kept_by self.old).uses number) ≡ gatherings.Update op lock }
         requires new { what_of true (gathered ((kept_by self.old).uses number) (name_at (names_of self.old) (peer + 1))) ≡ Counted }
         ensures happens { (said : Said) → IfOk result (λ done. Happens (names_of self.old) (at_clock clock
-            (counted ((kept_by self.old).uses number) (left_of self.old) (name_at (names_of self.old) (peer + 1)) number said (kept_by self.old)))
+            (counted ((kept_by self.old).uses number) (live_of self.old) (name_at (names_of self.old) (peer + 1)) number said (kept_by self.old)))
             done (state_of self.new) (answers_of self.old) (answers_of self.new)) }
         ensures err { OnErr result (state_of self.new ≡ state_of self.old) }
         ensures err_answers { OnErr result (answers_of self.new ≡ answers_of self.old) }

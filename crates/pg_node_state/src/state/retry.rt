@@ -15,7 +15,7 @@ impl<T: GroupTable + Drop> NodeState<T> {
     ghost use Rattle.pg_step.specs.Step.{Retry, at_clock, step_act};
     ghost use Rattle.pg_node_state.specs.Issued.{ports_of};
     ghost use Rattle.pg_node_state.specs.Sendable.{AreSendable};
-    ghost use Rattle.pg_node_state.specs.States.{names_of, nodes_of, left_of, kept_by};
+    ghost use Rattle.pg_node_state.specs.States.{names_of, nodes_of, live_of, kept_by};
     ghost use Rattle.pg_node_state.specs.States.{state_of, answers_of, Happens, Comes};
     ghost use Rattle.pg_node_state.specs.Waiting.{is_ready};
 
@@ -54,7 +54,7 @@ impl<T: GroupTable + Drop> NodeState<T> {
     ///
     /// Cost: no memory; O(open commands + peers).
     pub fn is_ready(&self, op: OpId) -> bool
-        ensures { result ≡ is_ready (left_of self.now) ((kept_by self.now).stages op) (kept_by self.now) }
+        ensures { result ≡ is_ready (live_of self.now) ((kept_by self.now).stages op) (kept_by self.now) }
     {
         match self.opens.standing(op) {
             Standing::Asking(number) | Standing::Changing(number) => self.opens.is_complete(number),
@@ -67,7 +67,7 @@ impl<T: GroupTable + Drop> NodeState<T> {
         requires later { self.old.clock < clock }
         requires within { clock ≤ MAX_STAMP }
         ensures happens { IfOk result (λ done. Happens (names_of self.old) (at_clock clock
-            (tried_again ((kept_by self.old).stages op) (left_of self.old) op (kept_by self.old)))
+            (tried_again ((kept_by self.old).stages op) (live_of self.old) op (kept_by self.old)))
             done (state_of self.new) (answers_of self.old) (answers_of self.new)) }
         ensures err { OnErr result (state_of self.new ≡ state_of self.old) }
         ensures err_answers { OnErr result (answers_of self.new ≡ answers_of self.old) }
@@ -88,7 +88,7 @@ impl<T: GroupTable + Drop> NodeState<T> {
         requires later { self.old.clock < clock }
         requires within { clock ≤ MAX_STAMP }
         ensures happens { IfOk result (λ done. Happens (names_of self.old) (at_clock clock
-            (go_on (left_of self.old) number ((kept_by self.old).uses number) (kept_by self.old)))
+            (go_on (live_of self.old) number ((kept_by self.old).uses number) (kept_by self.old)))
             done (state_of self.new) (answers_of self.old) (answers_of self.new)) }
         ensures err { OnErr result (state_of self.new ≡ state_of self.old) }
         ensures err_answers { OnErr result (answers_of self.new ≡ answers_of self.old) }
@@ -108,7 +108,7 @@ impl<T: GroupTable + Drop> NodeState<T> {
         requires later { self.old.clock < clock }
         requires within { clock ≤ MAX_STAMP }
         ensures happens { IfOk result (λ done. Happens (names_of self.old) (at_clock clock
-            (replies_in (left_of self.old) number ((kept_by self.old).uses number) (kept_by self.old)))
+            (replies_in (live_of self.old) number ((kept_by self.old).uses number) (kept_by self.old)))
             done (state_of self.new) (answers_of self.old) (answers_of self.new)) }
         ensures err { OnErr result (state_of self.new ≡ state_of self.old) }
         ensures err_answers { OnErr result (answers_of self.new ≡ answers_of self.old) }

@@ -10,7 +10,7 @@ ghost use Rattle.pg_step.specs.Nodes.{Node, is_peer, to_one, to_peers};
 ghost use Rattle.pg_step.specs.State.{Status};
 ghost use Rattle.pg_step.specs.State.Use.{Locking};
 ghost use Rattle.pg_step.specs.Attempts.{asks, is_yes};
-ghost use Rattle.pg_opens.specs.Opens.{names_of, left_of, uses_of};
+ghost use Rattle.pg_opens.specs.Opens.{names_of, live_of, uses_of};
 ghost use Rattle.pg_opens.specs.Places.{name_at};
 ghost use Rattle.pg_opens.specs.Readings.{is_locking};
 ghost use Rattle.pg_node_state.specs.Ports.{merged_in, marks_of};
@@ -29,7 +29,7 @@ use std::alloc::{AllocError, Global};
 /// An order to each live peer. Its cost grows with the peers and the names.
 ///
 /// Errors: `AllocError`.
-pub(crate) fn to_left(
+pub(crate) fn to_live(
     alloc: Global,
     clock: u32,
     order: Order<'_>,
@@ -38,25 +38,25 @@ pub(crate) fn to_left(
     requires within { clock ≤ MAX_STAMP }
     requires named { is_sayable (message_of order) ≡ true }
     ensures sends { IfOk result (λ sends. sends_in (names_of opens.now) sends.items
-        ≡ (λ q. stamped clock (to_peers (left_of opens.now) (λ q. true) (message_of order.entry) q))) }
+        ≡ (λ q. stamped clock (to_peers (live_of opens.now) (λ q. true) (message_of order.entry) q))) }
     ensures fits { IfOk result (λ sends. AreSendable (names_of opens.now) sends.items) }
 {
-    let goes = left_peers(opens);
+    let goes = live_peers(opens);
     to_marked(alloc, clock, order, goes, peer_count(opens))
 }
 
 /// A copy of a packet to each live peer. Its cost grows with the peers and the packet.
 ///
 /// Errors: `AllocError`.
-pub(crate) fn copies_to_left(
+pub(crate) fn copies_to_live(
     alloc: Global,
     packet: &Packet,
     opens: &Opens,
 ) -> Result<Vec<(usize, Packet)>, AllocError>
     ensures { IfOk result (λ sends. sends_in (names_of opens.now) sends.items
-        ≡ (λ q. stamped packet.now.stamp (to_peers (left_of opens.now) (λ q. true) packet.now.message q))) }
+        ≡ (λ q. stamped packet.now.stamp (to_peers (live_of opens.now) (λ q. true) packet.now.message q))) }
 {
-    let goes = left_peers(opens);
+    let goes = live_peers(opens);
     copies_to_marked(alloc, packet, goes, peer_count(opens))
 }
 
@@ -77,7 +77,7 @@ pub(crate) fn to_asked(
     ensures sends { (op : OpId) (update : Update) (first : Node) (st : Node → Status)
         → uses_of opens.now number ≡ Locking op update first st
         → IfOk result (λ sends. sends_in (names_of opens.now) sends.items
-        ≡ (λ q. stamped clock (to_peers (left_of opens.now) (asks (λ q. true) st) (message_of order.entry) q))) }
+        ≡ (λ q. stamped clock (to_peers (live_of opens.now) (asks (λ q. true) st) (message_of order.entry) q))) }
     ensures fits { IfOk result (λ sends. AreSendable (names_of opens.now) sends.items) }
 {
     let goes = asked_peers(opens, number);
@@ -100,7 +100,7 @@ pub(crate) fn to_granted(
     ensures sends { (op : OpId) (update : Update) (first : Node) (st : Node → Status)
         → uses_of opens.now number ≡ Locking op update first st
         → IfOk result (λ sends. sends_in (names_of opens.now) sends.items
-        ≡ (λ q. stamped clock (to_peers (left_of opens.now) (λ q. is_yes (st q)) (message_of order.entry) q))) }
+        ≡ (λ q. stamped clock (to_peers (live_of opens.now) (λ q. is_yes (st q)) (message_of order.entry) q))) }
     ensures fits { IfOk result (λ sends. AreSendable (names_of opens.now) sends.items) }
 {
     let goes = granted_peers(opens, number);
@@ -202,14 +202,14 @@ fn peer_count(opens: &Opens) -> usize
 }
 
 /// The peers that count, by their places among the peers. It takes no memory.
-fn left_peers(opens: &Opens) -> Places
+fn live_peers(opens: &Opens) -> Places
     ensures { (peers : ℕ) → peers + 1 ≡ length (names_of opens.now)
         → (q : Node) → merged_in (names_of opens.now) (marks_of result peers) q
-        ≡ (is_peer (left_of opens.now) q && true) }
+        ≡ (is_peer (live_of opens.now) q && true) }
 {
     let mut goes = Places::none();
     for place in 1..opens.node_count() {
-        goes = goes.with_or_without(place - 1, opens.is_left(place));
+        goes = goes.with_or_without(place - 1, opens.is_live(place));
     }
     goes
 }
@@ -221,7 +221,7 @@ fn asked_peers(opens: &Opens, number: u32) -> Places
         → uses_of opens.now number ≡ Locking op update first st
         → (peers : ℕ) → peers + 1 ≡ length (names_of opens.now)
         → (q : Node) → merged_in (names_of opens.now) (marks_of result peers) q
-        ≡ (is_peer (left_of opens.now) q && asks (λ q. true) st q) }
+        ≡ (is_peer (live_of opens.now) q && asks (λ q. true) st q) }
 {
     let mut goes = Places::none();
     for place in 1..opens.node_count() {
@@ -238,11 +238,11 @@ fn granted_peers(opens: &Opens, number: u32) -> Places
         → uses_of opens.now number ≡ Locking op update first st
         → (peers : ℕ) → peers + 1 ≡ length (names_of opens.now)
         → (q : Node) → merged_in (names_of opens.now) (marks_of result peers) q
-        ≡ (is_peer (left_of opens.now) q && is_yes (st q)) }
+        ≡ (is_peer (live_of opens.now) q && is_yes (st q)) }
 {
     let mut goes = Places::none();
     for place in 1..opens.node_count() {
-        let granted = opens.is_left(place) & opens.has_granted(number, place);
+        let granted = opens.is_live(place) & opens.has_granted(number, place);
         goes = goes.with_or_without(place - 1, granted);
     }
     goes

@@ -14,7 +14,7 @@ impl<T: GroupTable + Drop> NodeState<T> {
     ghost use Rattle.pg_step.specs.Step.{step_take};
     ghost use Rattle.pg_node_state.specs.Issued.{ports_of};
     ghost use Rattle.pg_node_state.specs.declared.state.fault.NodeFault.TheVariants.{OutOfMemory};
-    ghost use Rattle.pg_node_state.specs.States.{names_of, nodes_of, left_of, kept_by, state_of};
+    ghost use Rattle.pg_node_state.specs.States.{names_of, nodes_of, live_of, kept_by, state_of};
     ghost use Rattle.pg_node_state.specs.States.{answers_of, stamped_of, step_see_loss, takes_none, Comes};
     ghost use Rattle.pg_node_state.specs.Sendable.{AreSendable};
 
@@ -33,7 +33,7 @@ impl<T: GroupTable + Drop> NodeState<T> {
         ensures event { Comes (names_of self.old)
             (step_take (nodes_of self.old) (name_at (names_of self.old) (peer + 1)) (stamped_of packet.now) (state_of self.old))
             result (state_of self.new) (answers_of self.old) (answers_of self.new) }
-        ensures light { takes_none (left_of self.old) (name_at (names_of self.old) (peer + 1)) (kept_by self.old) packet.now.message ≡ true
+        ensures light { takes_none (live_of self.old) (name_at (names_of self.old) (peer + 1)) (kept_by self.old) packet.now.message ≡ true
             → result ≢ Err OutOfMemory }
         ensures err { OnErr result (state_of self.new ≡ state_of self.old) }
         ensures err_answers { OnErr result (answers_of self.new ≡ answers_of self.old) }

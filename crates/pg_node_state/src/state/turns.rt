@@ -31,7 +31,7 @@ impl<T: GroupTable + Drop> NodeState<T> {
     ghost use Rattle.pg_step.specs.Step.{at_clock};
     ghost use Rattle.pg_step.specs.Turns.{becomes};
     ghost use Rattle.pg_node_state.specs.Issued.{ports_of};
-    ghost use Rattle.pg_node_state.specs.States.{names_of, left_of, kept_by, state_of, answers_of, Happens};
+    ghost use Rattle.pg_node_state.specs.States.{names_of, live_of, kept_by, state_of, answers_of, Happens};
     ghost use Rattle.pg_node_state.specs.Sendable.{AreSendable};
 
     /// Gives an attempt up: frees the lock at each node that granted it. `number`: the one of its reference.
@@ -41,7 +41,7 @@ impl<T: GroupTable + Drop> NodeState<T> {
         requires locking { is_locking ((kept_by self.old).uses number) ≡ true }
         ensures happens { (op : OpId) (update : Update) (first : Node) (st : Node → Status) → (kept_by self.old).uses number ≡ Locking op update first st
             → IfOk result (λ done. Happens (names_of self.old) (at_clock clock
-            (give_up (left_of self.old) number op update st (kept_by self.old)))
+            (give_up (live_of self.old) number op update st (kept_by self.old)))
             done (state_of self.new) (answers_of self.old) (answers_of self.new)) }
         ensures err { OnErr result (state_of self.new ≡ state_of self.old) }
         ensures err_answers { OnErr result (answers_of self.new ≡ answers_of self.old) }
@@ -66,7 +66,7 @@ impl<T: GroupTable + Drop> NodeState<T> {
         requires locking { is_locking ((kept_by self.old).uses number) ≡ true }
         ensures happens { (op : OpId) (update : Update) (first : Node) (st : Node → Status) → (kept_by self.old).uses number ≡ Locking op update first st
             → IfOk result (λ done. Happens (names_of self.old) (at_clock clock
-            (ask (left_of self.old) (λ q. true) number op update first st (kept_by self.old)))
+            (ask (live_of self.old) (λ q. true) number op update first st (kept_by self.old)))
             done (state_of self.new) (answers_of self.old) (answers_of self.new)) }
         ensures err { OnErr result (state_of self.new ≡ state_of self.old) }
         ensures err_answers { OnErr result (answers_of self.new ≡ answers_of self.old) }
@@ -100,7 +100,7 @@ impl<T: GroupTable + Drop> NodeState<T> {
         requires locking { gathering_of ((kept_by self.old).uses number) ≡ gatherings.Lock op }
         ensures happens { (update : Update) (first : Node) (st : Node → Status) → (kept_by self.old).uses number ≡ Locking op update first st
             → IfOk result (λ done. Happens (names_of self.old) (at_clock clock
-            (begin (left_of self.old) number op update (ask (left_of self.old) (λ q. true) number op update first st (kept_by self.old)).state))
+            (begin (live_of self.old) number op update (ask (live_of self.old) (λ q. true) number op update first st (kept_by self.old)).state))
             done (state_of self.new) (answers_of self.old) (answers_of self.new)) }
         ensures err { OnErr result (state_of self.new ≡ state_of self.old) }
         ensures err_answers { OnErr result (answers_of self.new ≡ answers_of self.old) }
@@ -148,7 +148,7 @@ impl<T: GroupTable + Drop> NodeState<T> {
         requires updating { gathering_of ((kept_by self.old).uses number) ≡ gatherings.Update op lock }
         ensures happens { (update : Update) (replied : Node → Bool) → (kept_by self.old).uses number ≡ Updating op update lock replied
             → IfOk result (λ done. Happens (names_of self.old) (at_clock clock
-            (finish (left_of self.old) number op update lock (kept_by self.old)))
+            (finish (live_of self.old) number op update lock (kept_by self.old)))
             done (state_of self.new) (answers_of self.old) (answers_of self.new)) }
         ensures err { OnErr result (state_of self.new ≡ state_of self.old) }
         ensures err_answers { OnErr result (answers_of self.new ≡ answers_of self.old) }
@@ -172,10 +172,10 @@ impl<T: GroupTable + Drop> NodeState<T> {
         requires later { self.old.clock < clock }
         requires within { clock ≤ MAX_STAMP }
         requires locking { gathering_of ((kept_by self.old).uses number) ≡ gatherings.Lock op }
-        requires alone { (q : Node) → is_peer (left_of self.old) q ≡ false }
+        requires alone { (q : Node) → is_peer (live_of self.old) q ≡ false }
         ensures happens { (update : Update) (first : Node) (st : Node → Status) → (kept_by self.old).uses number ≡ Locking op update first st
             → IfOk result (λ done. Happens (names_of self.old) (at_clock clock
-            (turn_by outlooks.Begin (left_of self.old) number op update first st (kept_by self.old)))
+            (turn_by outlooks.Begin (live_of self.old) number op update first st (kept_by self.old)))
             done (state_of self.new) (answers_of self.old) (answers_of self.new)) }
         ensures err { OnErr result (state_of self.new ≡ state_of self.old) }
         ensures err_answers { OnErr result (answers_of self.new ≡ answers_of self.old) }
@@ -213,7 +213,7 @@ impl<T: GroupTable + Drop> NodeState<T> {
         requires within { clock ≤ MAX_STAMP }
         requires locking { gathering_of ((kept_by self.old).uses number) ≡ gatherings.Lock op }
         ensures happens { IfOk result (λ done. Happens (names_of self.old) (at_clock clock
-            (go_on (left_of self.old) number ((kept_by self.old).uses number) (kept_by self.old)))
+            (go_on (live_of self.old) number ((kept_by self.old).uses number) (kept_by self.old)))
             done (state_of self.new) (answers_of self.old) (answers_of self.new)) }
         ensures err { OnErr result (state_of self.new ≡ state_of self.old) }
         ensures err_answers { OnErr result (answers_of self.new ≡ answers_of self.old) }
@@ -255,7 +255,7 @@ impl<T: GroupTable + Drop> NodeState<T> {
     fn would_grant(&self, number: u32) -> bool
         requires { is_locking ((kept_by self.now).uses number) ≡ true }
         ensures { (op : OpId) (update : Update) (first : Node) (st : Node → Status) → (kept_by self.now).uses number ≡ Locking op update first st
-            → result ≡ would_grant (left_of self.now) (kept_by self.now) (name_of update) }
+            → result ≡ would_grant (live_of self.now) (kept_by self.now) (name_of update) }
     {
         let name = update_under(&self.opens, number).name();
         self.locks.grants(self.formation.formed(), name)

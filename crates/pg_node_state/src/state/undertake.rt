@@ -24,7 +24,7 @@ impl<T: GroupTable + Drop> NodeState<T> {
     ghost use Rattle.pg_step.specs.Turns.{and_then};
     ghost use Rattle.pg_node_state.specs.Issued.{issued, ports_of};
     ghost use Rattle.pg_node_state.specs.Sendable.{AreSendable};
-    ghost use Rattle.pg_node_state.specs.States.{names_of, left_of, kept_by, state_of, answers_of, Happens};
+    ghost use Rattle.pg_node_state.specs.States.{names_of, live_of, kept_by, state_of, answers_of, Happens};
 
     /// Carries out a change that has to take the lock, the next command of a port: it is refused as busy where as many
     /// commands are open as can be, else it is opened, and its first attempt begins.
@@ -40,7 +40,7 @@ impl<T: GroupTable + Drop> NodeState<T> {
         requires change { is_some (change_of command.now) ≡ true }
         requires named { (update : Update) → change_of command.now ≡ Some update → is_name (name_of update) ≡ true }
         ensures happens { (update : Update) → change_of command.now ≡ Some update → IfOk result (λ done. Happens (names_of self.old)
-            (at_clock clock (issued port (λ op. undertake (left_of self.old) op update) (kept_by self.old)))
+            (at_clock clock (issued port (λ op. undertake (live_of self.old) op update) (kept_by self.old)))
             done (state_of self.new) (answers_of self.old) (answers_of self.new)) }
         ensures err { OnErr result (state_of self.new ≡ state_of self.old) }
         ensures err_answers { OnErr result (answers_of self.new ≡ answers_of self.old) }
@@ -62,7 +62,7 @@ impl<T: GroupTable + Drop> NodeState<T> {
         requires change { is_some (change_of command.now) ≡ true }
         requires named { (update : Update) → change_of command.now ≡ Some update → is_name (name_of update) ≡ true }
         ensures happens { (update : Update) → change_of command.now ≡ Some update → IfOk result (λ done. Happens (names_of self.old)
-            (at_clock clock (issued port (λ op s. and_then (open_command op update s) (attempt (left_of self.old) op update)) (kept_by self.old)))
+            (at_clock clock (issued port (λ op s. and_then (open_command op update s) (attempt (live_of self.old) op update)) (kept_by self.old)))
             done (state_of self.new) (answers_of self.old) (answers_of self.new)) }
         ensures err { OnErr result (state_of self.new ≡ state_of self.old) }
         ensures err_answers { OnErr result (answers_of self.new ≡ answers_of self.old) }

@@ -30,7 +30,7 @@ pub enum Sight {
     IsComplete(u32, bool),
     /// Whether the last node would be asked, where the first is asked alone, or all.
     IsAsked(u32, Option<usize>, usize, bool),
-    /// Whether a node is lost, and whether it is a peer that is left.
+    /// Whether a node is lost, and whether it is a live peer.
     Lost(usize, bool, bool),
     Greatest(usize),
     /// Whether a node has this name.
@@ -55,8 +55,8 @@ pub fn see(rt: &impl Abort, alloc: Global, opens: &Opens, sight: Sight) -> bool 
         Sight::IsAsked(number, only, place, asked) => {
             is_asked(rt, opens, number, only, place) == asked
         }
-        Sight::Lost(place, is_lost, is_left) => is_lost_or_left(rt, opens, place)
-            == (is_lost, is_left),
+        Sight::Lost(place, is_lost, is_live) => is_lost_or_live(rt, opens, place)
+            == (is_lost, is_live),
         Sight::Greatest(place) => opens.greatest() == place,
         Sight::Named(place, name, named) => {
             let name = atom(rt, alloc, name);
@@ -109,9 +109,9 @@ fn is_asked(
     }
 }
 
-fn is_lost_or_left(rt: &impl Abort, opens: &Opens, place: usize) -> (bool, bool) {
+fn is_lost_or_live(rt: &impl Abort, opens: &Opens, place: usize) -> (bool, bool) {
     assert!(rt; place < opens.node_count());
-    (opens.is_lost(place), opens.is_left(place))
+    (opens.is_lost(place), opens.is_live(place))
 }
 
 fn is_named(rt: &impl Abort, opens: &Opens, place: usize, name: &Atom) -> bool {

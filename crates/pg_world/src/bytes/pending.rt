@@ -12,27 +12,27 @@ use std::alloc::AllocError;
 impl<T: GroupTable + Drop> ByteNodes<T> {
     ghost use Rattle.pg_world.specs.Crossings.{crossing_of};
     ghost use Rattle.pg_account.specs.Losses.{lost_in};
-    ghost use Rattle.pg_frame_world.specs.Pending.{lent_as, nodes_left, pending_of};
+    ghost use Rattle.pg_frame_world.specs.Pending.{lent_as, live_states, pending_of};
 
     /// The ends that are pending: each is that of a process whose home has it, and which some node has not. Of nodes
     /// that are lost nothing counts. They are listed home by home, and by number at each.
     ///
     /// Errors: `AllocError`.
     ///
-    /// Cost: a search at each node that is left for each process that has ended at its home, and the memory of the
+    /// Cost: a search at each live node for each process that has ended at its home, and the memory of the
     /// list.
     pub(crate) fn pending_ends(&self) -> Result<Vec<Pid>, AllocError>
         ensures list { IfOk result (λ pids. pids.items ≡ pending_of (crossing_of self.now).nodes (lost_in self.now.losses)) }
     {
-        let left = self.nodes_left()?;
+        let left = self.live_states()?;
         pending_among(*self.nodes.allocator(), left.as_slice())
     }
 
     /// The nodes that are not lost.
     ///
     /// Errors: `AllocError`.
-    fn nodes_left(&self) -> Result<Vec<&NodeState<T>>, AllocError>
-        ensures { IfOk result (λ left. lent_as left.items ≡ nodes_left (crossing_of self.now).nodes (lost_in self.now.losses)) }
+    fn live_states(&self) -> Result<Vec<&NodeState<T>>, AllocError>
+        ensures { IfOk result (λ left. lent_as left.items ≡ live_states (crossing_of self.now).nodes (lost_in self.now.losses)) }
     {
         let mut left = Vec::new(*self.nodes.allocator());
         for place in 0..self.nodes.len() {

@@ -1,5 +1,5 @@
 use Rattle.std.proofs.Common.{sym, ap, ◌∙◌}
-use Rattle.pg_node_state.specs.States.{kept_by, left_of}
+use Rattle.pg_node_state.specs.States.{kept_by, live_of}
 use Rattle.pg_step.specs.State.{formed}
 use Rattle.pg_cluster.proofs.Agreeing.{has_as_so}
 use Rattle.pg_cluster.proofs.judges.has_as.Goals as goal
@@ -9,5 +9,5 @@ returns c =
     has_as_so c.same_group.result c.args.one.now c.args.other.now c.args.name.now _ _
     (c.table.ensures ∙ ap (λ s. (kept_by s).table) c.state-2.ensures)
     (c.table-2.ensures ∙ ap (λ s. (kept_by s).table) c.state-3.ensures)
-    (sym (c.formed.ensures ∙ ap (λ s. formed (left_of s) (kept_by s)) c.state.ensures) ∙ c.if-not-formed.false)
+    (sym (c.formed.ensures ∙ ap (λ s. formed (live_of s) (kept_by s)) c.state.ensures) ∙ c.if-not-formed.false)
     c.same_group.ensures

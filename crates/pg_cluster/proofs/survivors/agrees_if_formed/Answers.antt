@@ -1,5 +1,5 @@
 use Rattle.std.proofs.Common.{sym, ap, ◌∙◌}
-use Rattle.pg_node_state.specs.States.{kept_by, left_of}
+use Rattle.pg_node_state.specs.States.{kept_by, live_of}
 use Rattle.pg_query.proofs.SameGroups.{answers_too}
 use Rattle.pg_step.specs.State.{formed}
 use Rattle.pg_cluster.specs.Survivors.{is_compared, survivors}
@@ -12,7 +12,7 @@ returns c =
     let left = survivors c.args.lost.now nodes in
     let compared = is_compared left c.args.lost.now c.args.logs.now in
     let x = c.args.node.now in
-    let is_formed = sym (c.formed.ensures ∙ ap (λ s. formed (left_of s) (kept_by s)) c.state.ensures) ∙ c.if-not-formed.false in
+    let is_formed = sym (c.formed.ensures ∙ ap (λ s. formed (live_of s) (kept_by s)) c.state.ensures) ∙ c.if-not-formed.false in
     let is = c.table.ensures ∙ ap (λ s. (kept_by s).table) c.state-2.ensures in
     answers_too c.agrees_on.result
     (λ all formed. agreed_forth compared left x _ c.in_ok-names.names.items c.as_slice.result.now is c.in_ok-names.ensures c.as_slice.ensures.value all)

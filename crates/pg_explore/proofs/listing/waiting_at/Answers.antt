@@ -5,7 +5,7 @@ use Rattle.std.specs.Prelude.{option_map, slice_get, is_some, Option, Some, None
 use Rattle.std.specs.Option.{option_copied, option_map_or}
 use Rattle.pg_opens.specs.Places.{whole_in}
 use Rattle.pg_step.specs.Attempts.{waits}
-use Rattle.pg_step.specs.State.{left}
+use Rattle.pg_step.specs.State.{live_nodes}
 use Rattle.pg_frame_world.specs.FrameWorlds.{traffic_of}
 use Rattle.pg_starts.specs.Seen.{Seen, seen_of}
 use Rattle.pg_explore.proofs.Opening.{among}
@@ -25,5 +25,5 @@ returns c =
     let nodes = (traffic_of moment.world).nodes in
     let at : slice_get nodes c.args.node ≡ Some (seen_of c.unwrap-state.result.now) = sym c.node.ensures ∙ (λ i. option_map seen_of (option_copied (c.unwrap-state.ensures i))) in
     IfOk-weaker c.waiting.result _ _ (λ ops h op.
-    let e = (λ i. option_map_or (λ (node : Seen). waits (left (whole_in node.names) node.state.state) (node.state.state.stages op) node.state.state) (at i) false) ∙ sym (h.each op) in
+    let e = (λ i. option_map_or (λ (node : Seen). waits (live_nodes (whole_in node.names) node.state.state) (node.state.state.stages op) node.state.state) (at i) false) ∙ sym (h.each op) in
     (λ t. e ∙ (among ops.items op).0 t, λ t. (among ops.items op).1 (sym e ∙ t))) c.waiting.ensures

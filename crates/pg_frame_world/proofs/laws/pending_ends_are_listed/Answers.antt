@@ -3,7 +3,7 @@ use Rattle.pg_term.specs.declared.pid.Pid.{Pid}
 use Rattle.pg_ends.specs.Numbers.{is_among}
 use Rattle.pg_machine.specs.Losing.{all_steps}
 use Rattle.pg_step.specs.LossLaws.{LosingFrameWorld}
-use Rattle.pg_history.specs.WithLosses.{NonePendingLeft}
+use Rattle.pg_history.specs.WithLosses.{NonePendingLive}
 use Rattle.pg_loss.specs.Reached.{LosingReaches}
 use Rattle.pg_frame_world.specs.Losing.{losing_of}
 use Rattle.pg_frame_world.specs.Pending.{IsPending}
@@ -25,8 +25,8 @@ returns-clause-none c = λ config nodes lost frames u events shows is reached.
     let reaches : LosingReaches config events (losing_of config frames lost) = subst (LosingReaches config events) is reached in
     let numbered : Numbered = λ (made : ℕ) (pid : Pid) (among : is_among made pid ≡ true). (c.numbered_from_one.ensures.first made pid among, c.numbered_from_one.ensures.last made pid among, c.numbered_from_one.ensures.only made pid among) in
     let made : EndedWereMade config frames = λ (i : ℕ) (pid : Pid). c.ended_processes_were_made_past_losses.ensures config (losing_of config frames lost) events i pid shows.apart reaches in (
-      λ none. subst (NonePendingLeft config) (sym is) (none_listed config frames nodes lost shows numbered made none),
-      λ none. empty_list config frames nodes lost shows (subst (NonePendingLeft config) is none),
+      λ none. subst (NonePendingLive config) (sym is) (none_listed config frames nodes lost shows numbered made none),
+      λ none. empty_list config frames nodes lost shows (subst (NonePendingLive config) is none),
     )
 
 pub returns-clause-unlost : goal.returns-clause-unlost

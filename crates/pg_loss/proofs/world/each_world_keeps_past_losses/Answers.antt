@@ -20,7 +20,7 @@ returns c = λ config w events apart l. record {
     granted = c.unanswered_changes_are_last.ensures.granted config w events name before after e apart l is none left;
   };
   left = record {
-    agree = λ i j name at_losses none. c.nodes_left_agree.ensures config w events i j name apart l at_losses none;
+    agree = λ i j name at_losses none. c.live_nodes_agree.ensures config w events i j name apart l at_losses none;
     home = λ i pid there ended. c.ends_at_home_past_losses.ensures config w events i pid l there ended;
     made = λ i pid. c.ended_processes_were_made_past_losses.ensures config w events i pid apart l;
     ended = λ i name. c.ended_are_in_no_group_past_losses.ensures config w events i name l;

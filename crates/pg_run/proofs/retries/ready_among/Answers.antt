@@ -1,7 +1,7 @@
 use Rattle.std.proofs.Common.{rules, ◌≡◌, ◌∷◌, ◌++◌, [], ap, ap₂, get_or, map, sym, take, take_all, ◌∙◌}
 use Rattle.std.proofs.lemmas.List.{map-append, take_more}
 use Rattle.pg_node.specs.Nodes.{held_by}
-use Rattle.pg_node_state.specs.States.{kept_by, left_of}
+use Rattle.pg_node_state.specs.States.{kept_by, live_of}
 use Rattle.pg_node_state.specs.Waiting.{is_ready}
 use Rattle.pg_run.specs.Follows.{node_of}
 use Rattle.pg_run.specs.Tries.{is_ready_at}
@@ -16,7 +16,7 @@ loop-place-preserved g c =
     let op : OpId = get_or ops place none in
     let ready = is_ready_at (node_of c.args.linked.now) in
     let here : c.is_ready.result ≡ ready op =
-    c.is_ready.ensures ∙ ap (λ s. is_ready (left_of s) ((kept_by s).stages op) (kept_by s)) (c.state.ensures ∙ ap held_by c.node.ensures) in
+    c.is_ready.ensures ∙ ap (λ s. is_ready (live_of s) ((kept_by s).stages op) (kept_by s)) (c.state.ensures ∙ ap held_by c.node.ensures) in
     let next = ap (map ready) (take_more ops place none c.loop-place-test.true) ∙ map-append ready (take place ops) (op ∷ []) in (
       c.push_reserved.ensures.items ∙ (ap₂ (λ xs x. xs ++ x ∷ []) c.loop-place.invariant.0 here ∙ sym next),
       search rules,

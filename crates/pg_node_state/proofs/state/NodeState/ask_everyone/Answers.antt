@@ -4,7 +4,7 @@ use Rattle.pg_group.specs.Value.{name_of}
 use Rattle.pg_lock.specs.Locks.{locks_of, grants, after_ask}
 use Rattle.pg_ends.specs.Processes.{node_of}
 use Rattle.pg_term.specs.Same.{same_atom}
-use Rattle.pg_opens.specs.Opens.{Shows, names_of as opens_names, left_of as left_in, uses_of}
+use Rattle.pg_opens.specs.Opens.{Shows, names_of as opens_names, live_of as live_in, uses_of}
 use Rattle.pg_opens.specs.Readings.{is_locking}
 use Rattle.pg_step.specs.Attempts.{attempt, ask, own_reference, with_asked}
 use Rattle.pg_step.specs.Nodes.{Node, Nodes, is_peer, greatest}
@@ -12,14 +12,14 @@ use Rattle.pg_step.specs.Peers.{would_grant}
 use Rattle.pg_step.specs.State.{State, Status, Use, formed}
 use Rattle.pg_step.specs.State.Use.{Locking}
 use Rattle.pg_node_state.specs.Ports.{merged_in}
-use Rattle.pg_node_state.specs.States.{names_of, left_of, kept_by}
+use Rattle.pg_node_state.specs.States.{names_of, live_of, kept_by}
 use Rattle.pg_node_state.proofs.Attempted.{statuses, attempt_asks, rest_turn, rest_sends, rest_locks}
 use Rattle.pg_node_state.proofs.First.{WaitsWith, waits_with, same_update, first_state}
 use Rattle.pg_node_state.proofs.First.{first_given, asked_under, grants_no_more}
 use Rattle.pg_node_state.proofs.Given.{given_use, of_lock, waiting_came}
 use Rattle.pg_node_state.proofs.Kept.{shows, assembled, happens_as}
 use Rattle.pg_node_state.proofs.Steady.{peers_stay, own_stays, merged_stay}
-use Rattle.pg_node_state.proofs.Steady.{lost_stay, made_stay, given_stay, left_stays}
+use Rattle.pg_node_state.proofs.Steady.{lost_stay, made_stay, given_stay, live_stays}
 use Rattle.pg_node_state.proofs.Turned.{own_apart}
 use Rattle.pg_node_state.proofs.Undone.{granted_free}
 use Rattle.pg_node_state.proofs.state.NodeState.ask_everyone.Goals as goal
@@ -31,7 +31,7 @@ ask_own-requires g c =
     let name = c.name-name.ensures ∙ ap name_of (same_update c.waiting_under.result.now waiting.update (sym c.waiting_under.ensures ∙ waiting.is)) in
     record {
       free = λ asks. ap (λ n. grants true (locks_of old.locks) n) name
-          ∙ granted_free true (formed (left_of old) (kept_by old)) (would_grant (left_of old) (kept_by old) (name_of waiting.update)) (locks_of old.locks) (name_of waiting.update) refl (c.requires.grants waiting.update waiting.is);
+          ∙ granted_free true (formed (live_of old) (kept_by old)) (would_grant (live_of old) (kept_by old) (name_of waiting.update)) (locks_of old.locks) (name_of waiting.update) refl (c.requires.grants waiting.update waiting.is);
     }
 
 pub ask-requires : goal.ask-requires
@@ -39,19 +39,19 @@ ask-requires g c =
     let old = c.args.self.now in
     let waiting : WaitsWith ((kept_by old).stages c.args.op) = waits_with ((kept_by old).stages c.args.op) c.requires.waits in
     let lock : ℕ = (kept_by old).references + 1 in
-    let s : State = first_state (left_of old) c.args.op waiting.update (kept_by old) in
+    let s : State = first_state (live_of old) c.args.op waiting.update (kept_by old) in
     let granting = c.requires.grants waiting.update waiting.is in
     let asked : Shows c.ask_first.new.opens s = c.ask_first.ensures.turned waiting.update waiting.is (kept_by old) (shows old) granting in
     record {
       locking = ap (λ n. is_locking (uses_of c.ask_first.new.opens n)) (ap (λ n. n + 1) c.references-number.ensures)
-          ∙ (ap (λ (f : ℕ → Use). is_locking (f lock)) (sym asked.uses) ∙ ap is_locking (asked_under (left_of old) c.args.op waiting.update (kept_by old) true granting));
+          ∙ (ap (λ (f : ℕ → Use). is_locking (f lock)) (sym asked.uses) ∙ ap is_locking (asked_under (live_of old) c.args.op waiting.update (kept_by old) true granting));
       who = refl;
     }
 
 pub invariant_of-self-in-Ok : goal.invariant_of-self-in-Ok
 invariant_of-self-in-Ok g c =
     let old = c.args.self.now in
-    let m : Nodes = left_of old in
+    let m : Nodes = live_of old in
     let op = c.args.op in
     let waiting : WaitsWith ((kept_by old).stages op) = waits_with ((kept_by old).stages op) c.requires.waits in
     let update = waiting.update in
@@ -63,12 +63,12 @@ invariant_of-self-in-Ok g c =
     let used : uses_of c.ask_first.new.opens lock ≡ Locking op update (greatest m) st = ap (λ (f : ℕ → Use). f lock) (sym asked.uses) ∙ asked_under m op update (kept_by old) true granting in
     let own : greatest m ≡ m.own = sym c.requires.own in
     let no_more : would_grant m s1 (name_of update) ≡ false = grants_no_more m op update (kept_by old) own (own_apart old.opens) granting in
-    let same : left_in c.ask_first.new.opens ≡ m = left_stays old.opens c.ask_first.new.opens s1 asked c.ask_first.ensures.nodes refl in
+    let same : live_in c.ask_first.new.opens ≡ m = live_stays old.opens c.ask_first.new.opens s1 asked c.ask_first.ensures.nodes refl in
     let s : State = (ask m (λ q. true) lock op update (greatest m) st s1).state in
     let new = c.ask.new.self in
     let number : c.references-number.result + 1 ≡ lock = ap (λ n. n + 1) c.references-number.ensures in
     let turned : Shows new s = subst (λ (n : Nodes). Shows new (ask n (λ q. true) lock op update (greatest m) st s1).state) same
-    (subst (λ (n : ℕ). uses_of c.ask_first.new.opens n ≡ Locking op update (greatest m) st → Shows new (ask (left_in c.ask_first.new.opens) (λ q. true) n op update (greatest m) st s1).state) number
+    (subst (λ (n : ℕ). uses_of c.ask_first.new.opens n ≡ Locking op update (greatest m) st → Shows new (ask (live_in c.ask_first.new.opens) (λ q. true) n op update (greatest m) st s1).state) number
     (λ e. c.ask.ensures.turned op update (greatest m) st e s1 asked (ap (λ (n : Nodes). would_grant n s1 (name_of update)) same ∙ no_more)) used) in
     let nodes = c.ask.ensures.nodes ∙ c.ask_first.ensures.nodes in
     let came = waiting_came op update old.given waiting.is in
@@ -87,7 +87,7 @@ invariant_of-self-in-Ok g c =
 pub returns-in-Ok-clause-happens : goal.returns-in-Ok-clause-happens
 returns-in-Ok-clause-happens g c = λ update is.
     let old = c.args.self.now in
-    let m : Nodes = left_of old in
+    let m : Nodes = live_of old in
     let op = c.args.op in
     let lock : ℕ = (kept_by old).references + 1 in
     let st : Node → Status = statuses m op update (kept_by old) true in
@@ -98,12 +98,12 @@ returns-in-Ok-clause-happens g c = λ update is.
     let own : greatest m ≡ m.own = sym c.requires.own in
     let apart : (q : Node) → is_peer m q ≡ true → same_atom m.own q ≡ false = own_apart old.opens in
     let no_more : would_grant m s1 (name_of update) ≡ false = grants_no_more m op update (kept_by old) own apart granting in
-    let same : left_in c.ask_first.new.opens ≡ m = left_stays old.opens c.ask_first.new.opens s1 asked c.ask_first.ensures.nodes refl in
+    let same : live_in c.ask_first.new.opens ≡ m = live_stays old.opens c.ask_first.new.opens s1 asked c.ask_first.ensures.nodes refl in
     let s : State = (ask m (λ q. true) lock op update (greatest m) st s1).state in
     let new = c.ask.new.self in
     let number : c.references-number.result + 1 ≡ lock = ap (λ n. n + 1) c.references-number.ensures in
     let turned : Shows new s = subst (λ (n : Nodes). Shows new (ask n (λ q. true) lock op update (greatest m) st s1).state) same
-    (subst (λ (n : ℕ). uses_of c.ask_first.new.opens n ≡ Locking op update (greatest m) st → Shows new (ask (left_in c.ask_first.new.opens) (λ q. true) n op update (greatest m) st s1).state) number
+    (subst (λ (n : ℕ). uses_of c.ask_first.new.opens n ≡ Locking op update (greatest m) st → Shows new (ask (live_in c.ask_first.new.opens) (λ q. true) n op update (greatest m) st s1).state) number
     (λ e. c.ask.ensures.turned op update (greatest m) st e s1 asked (ap (λ (n : Nodes). would_grant n s1 (name_of update)) same ∙ no_more)) used) in
     let nodes = c.ask.ensures.nodes ∙ c.ask_first.ensures.nodes in
     let name = c.name-name.ensures ∙ ap name_of (same_update c.waiting_under.result.now update (sym c.waiting_under.ensures ∙ is)) in

@@ -13,7 +13,7 @@ use Rattle.pg_step.specs.Nodes.{Node, Nodes, is_node, is_peer, greatest, to_one}
 use Rattle.pg_step.specs.State.{State}
 use Rattle.pg_node_state.specs.Issued.{asked_first}
 use Rattle.pg_node_state.specs.Ports.{merged_in}
-use Rattle.pg_node_state.specs.States.{names_of, left_of, kept_by}
+use Rattle.pg_node_state.specs.States.{names_of, live_of, kept_by}
 use Rattle.pg_node_state.proofs.Attempted.{attempt_waits, locks_stay, sent_to_it}
 use Rattle.pg_node_state.proofs.First.{WaitsWith, waits_with, peer_is_node, first_state, first_given}
 use Rattle.pg_node_state.proofs.Given.{waiting_came}
@@ -26,7 +26,7 @@ pub invariant_of-self : goal.invariant_of-self
 invariant_of-self g c =
     let old = c.args.self.now in
     let waiting : WaitsWith ((kept_by old).stages c.args.op) = waits_with ((kept_by old).stages c.args.op) c.requires.waits in
-    let s : State = first_state (left_of old) c.args.op waiting.update (kept_by old) in
+    let s : State = first_state (live_of old) c.args.op waiting.update (kept_by old) in
     let new = c.ask_first.new.opens in
     let turned : Shows new s = c.ask_first.ensures.turned waiting.update waiting.is (kept_by old) (shows old) (sym (c.would_grant_to-granted.ensures waiting.update waiting.is)) in
     let nodes = c.ask_first.ensures.nodes in
@@ -37,14 +37,14 @@ invariant_of-self g c =
       within = c.requires.within;
       made = made_stay old.opens new s turned nodes c.args.clock (omega (arith, c.requires.made));
       counted = λ port. omega (arith, old.counted port, c.requires.later);
-      given = given_stay old.opens new s turned nodes (first_given (left_of old) c.args.op waiting.update (kept_by old) (waiting_came c.args.op waiting.update old.given waiting.is) old.given);
+      given = given_stay old.opens new s turned nodes (first_given (live_of old) c.args.op waiting.update (kept_by old) (waiting_came c.args.op waiting.update old.given waiting.is) old.given);
       few = λ name pid. omega (arith, c.requires.few name pid);
     }
 
 pub returns-clause-happens : goal.returns-clause-happens
 returns-clause-happens g c = λ update is.
     let old = c.args.self.now in
-    let m : Nodes = left_of old in
+    let m : Nodes = live_of old in
     let op = c.args.op in
     let s : State = first_state m op update (kept_by old) in
     let new = c.ask_first.new.opens in

@@ -6,7 +6,7 @@ use Rattle.pg_opens.specs.Opens.{Shows, names_of as opens_names}
 use Rattle.pg_opens.specs.Readings.{update_of}
 use Rattle.pg_step.specs.State.{State}
 use Rattle.pg_node_state.specs.Ports.{merged_in, counts_in}
-use Rattle.pg_node_state.specs.States.{left_of, kept_by}
+use Rattle.pg_node_state.specs.States.{live_of, kept_by}
 use Rattle.pg_node_state.proofs.Kept.{shows, assembled}
 use Rattle.pg_node_state.proofs.Steady.{peers_stay, own_stays, merged_stay, lost_stay, made_stay, given_stay}
 use Rattle.pg_node_state.proofs.Turned.{LockParts, parts_by, update_is}
@@ -20,7 +20,7 @@ pub invariant_of-self-in-Ok : goal.invariant_of-self-in-Ok
 invariant_of-self-in-Ok g c =
     let old = c.args.self.now in
     let parts : LockParts ((kept_by old).uses c.args.number) = parts_by ((kept_by old).uses c.args.number) c.requires.locking in
-    let s : State = (ask (left_of old) (λ q. true) c.args.number parts.op parts.update parts.first parts.st (kept_by old)).state in
+    let s : State = (ask (live_of old) (λ q. true) c.args.number parts.op parts.update parts.first parts.st (kept_by old)).state in
     let new = c.ask.new.self in
     let turned : Shows new s = c.ask.ensures.turned parts.op parts.update parts.first parts.st parts.is (kept_by old) (shows old) (sym (c.would_grant-granted.ensures parts.op parts.update parts.first parts.st parts.is)) in
     let nodes = c.ask.ensures.nodes in
@@ -32,8 +32,8 @@ invariant_of-self-in-Ok g c =
       within = c.requires.within;
       made = made_stay old.opens new s turned nodes c.args.clock (omega (arith, old.made, c.requires.later));
       counted = λ port. omega (arith, old.counted port, c.requires.later);
-      given = given_stay old.opens new s turned nodes (given_use c.args.number (Locking parts.op parts.update parts.first (with_asked (left_of old) (λ q. true) parts.st (would_grant (left_of old) (kept_by old) (name_of parts.update))))
-          (of_lock parts.op parts.update parts.first (with_asked (left_of old) (λ q. true) parts.st (would_grant (left_of old) (kept_by old) (name_of parts.update))) came) old.given);
+      given = given_stay old.opens new s turned nodes (given_use c.args.number (Locking parts.op parts.update parts.first (with_asked (live_of old) (λ q. true) parts.st (would_grant (live_of old) (kept_by old) (name_of parts.update))))
+          (of_lock parts.op parts.update parts.first (with_asked (live_of old) (λ q. true) parts.st (would_grant (live_of old) (kept_by old) (name_of parts.update))) came) old.given);
       few = λ name pid. omega (arith, old.few name pid, c.requires.later);
     }
 
@@ -41,7 +41,7 @@ pub returns-in-Ok-clause-happens : goal.returns-in-Ok-clause-happens
 returns-in-Ok-clause-happens g c = λ op update first st is.
     let old = c.args.self.now in
     let new = c.ask.new.self in
-    let t : State = (ask (left_of old) (λ q. true) c.args.number op update first st (kept_by old)).state in
+    let t : State = (ask (live_of old) (λ q. true) c.args.number op update first st (kept_by old)).state in
     let would = c.would_grant-granted.ensures op update first st is in
     let turned : Shows new t = c.ask.ensures.turned op update first st is (kept_by old) (shows old) (sym would) in
     let name = c.name-name.ensures ∙ ap name_of (update_is c.update_under.result.now update (sym c.update_under.ensures ∙ ap update_of is)) in

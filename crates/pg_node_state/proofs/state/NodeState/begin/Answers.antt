@@ -8,7 +8,7 @@ use Rattle.pg_opens.specs.Opens.{Shows, names_of as opens_names}
 use Rattle.pg_opens.specs.Readings.{update_of}
 use Rattle.pg_step.specs.State.{State}
 use Rattle.pg_node_state.specs.Ports.{merged_in, counts_in}
-use Rattle.pg_node_state.specs.States.{left_of, kept_by}
+use Rattle.pg_node_state.specs.States.{live_of, kept_by}
 use Rattle.pg_node_state.proofs.Kept.{shows, assembled}
 use Rattle.pg_node_state.proofs.Steady.{peers_stay, own_stays, merged_stay, lost_stay, made_stay, given_stay}
 use Rattle.pg_node_state.proofs.Turned.{Locks as LockOf, locks_by, update_is}
@@ -27,18 +27,18 @@ use Rattle.pg_opens.specs.Opens.{uses_of}
 use Rattle.pg_node_state.proofs.Counts.{few_changed}
 use Rattle.pg_node_state.proofs.Given.{given_use, of_any, given_stage, of_lock, of_none}
 use Rattle.pg_node_state.proofs.Given.{of_update, locking_came, gathered_named}
-use Rattle.pg_node_state.proofs.Steady.{left_stays}
+use Rattle.pg_node_state.proofs.Steady.{live_stays}
 use Rattle.pg_node_state.proofs.state.NodeState.begin.Goals as goal
 
 pub begin-requires : goal.begin-requires
 begin-requires g c =
     let old = c.args.self.now in
     let parts : LockOf ((kept_by old).uses c.args.number) c.args.op = locks_by ((kept_by old).uses c.args.number) c.args.op c.requires.locking in
-    let s : State = (ask (left_of old) (λ q. true) c.args.number c.args.op parts.update parts.first parts.st (kept_by old)).state in
+    let s : State = (ask (live_of old) (λ q. true) c.args.number c.args.op parts.update parts.first parts.st (kept_by old)).state in
     let asked : Shows c.ask.new.self s = c.ask.ensures.turned c.args.op parts.update parts.first parts.st parts.is (kept_by old) (shows old) (sym (c.would_grant-granted.ensures c.args.op parts.update parts.first parts.st parts.is)) in
-    let later : uses_of c.ask.new.self c.args.number ≡ Locking c.args.op parts.update parts.first (with_asked (left_of old) (λ q. true) parts.st (would_grant (left_of old) (kept_by old) (name_of parts.update))) =
+    let later : uses_of c.ask.new.self c.args.number ≡ Locking c.args.op parts.update parts.first (with_asked (live_of old) (λ q. true) parts.st (would_grant (live_of old) (kept_by old) (name_of parts.update))) =
     ap (λ (f : ℕ → Use). f c.args.number) (sym asked.uses)
-    ∙ upd_at nat_eq (kept_by old).uses c.args.number (Locking c.args.op parts.update parts.first (with_asked (left_of old) (λ q. true) parts.st (would_grant (left_of old) (kept_by old) (name_of parts.update)))) (eq-eqb c.args.number c.args.number refl) in
+    ∙ upd_at nat_eq (kept_by old).uses c.args.number (Locking c.args.op parts.update parts.first (with_asked (live_of old) (λ q. true) parts.st (would_grant (live_of old) (kept_by old) (name_of parts.update)))) (eq-eqb c.args.number c.args.number refl) in
     record {
       locking = ap is_locking later;
       next = omega (arith, sym asked.references, old.made, c.requires.later, c.requires.within);
@@ -48,14 +48,14 @@ pub invariant_of-self-in-Ok : goal.invariant_of-self-in-Ok
 invariant_of-self-in-Ok g c =
     let old = c.args.self.now in
     let parts : LockOf ((kept_by old).uses c.args.number) c.args.op = locks_by ((kept_by old).uses c.args.number) c.args.op c.requires.locking in
-    let st : Node → Status = with_asked (left_of old) (λ q. true) parts.st (would_grant (left_of old) (kept_by old) (name_of parts.update)) in
-    let s : State = (ask (left_of old) (λ q. true) c.args.number c.args.op parts.update parts.first parts.st (kept_by old)).state in
-    let t : State = (begin (left_of old) c.args.number c.args.op parts.update s).state in
+    let st : Node → Status = with_asked (live_of old) (λ q. true) parts.st (would_grant (live_of old) (kept_by old) (name_of parts.update)) in
+    let s : State = (ask (live_of old) (λ q. true) c.args.number c.args.op parts.update parts.first parts.st (kept_by old)).state in
+    let t : State = (begin (live_of old) c.args.number c.args.op parts.update s).state in
     let asked : Shows c.ask.new.self s = c.ask.ensures.turned c.args.op parts.update parts.first parts.st parts.is (kept_by old) (shows old) (sym (c.would_grant-granted.ensures c.args.op parts.update parts.first parts.st parts.is)) in
     let later : uses_of c.ask.new.self c.args.number ≡ Locking c.args.op parts.update parts.first st =
     ap (λ (f : ℕ → Use). f c.args.number) (sym asked.uses) ∙ upd_at nat_eq (kept_by old).uses c.args.number (Locking c.args.op parts.update parts.first st) (eq-eqb c.args.number c.args.number refl) in
     let new = c.begin.new.self in
-    let turned : Shows new t = subst (λ (m : Nodes). Shows new (begin m c.args.number c.args.op parts.update s).state) (left_stays old.opens c.ask.new.self s asked c.ask.ensures.nodes refl)
+    let turned : Shows new t = subst (λ (m : Nodes). Shows new (begin m c.args.number c.args.op parts.update s).state) (live_stays old.opens c.ask.new.self s asked c.ask.ensures.nodes refl)
     (c.begin.ensures.turned c.args.op parts.update parts.first st later s asked) in
     let nodes = c.begin.ensures.nodes ∙ c.ask.ensures.nodes in
     let came = locking_came c.args.number c.args.op parts.update parts.first parts.st old.given parts.is in
@@ -68,7 +68,7 @@ invariant_of-self-in-Ok g c =
       made = made_stay old.opens new t turned nodes c.args.clock (omega (arith, old.made, c.requires.later));
       counted = λ port. omega (arith, old.counted port, c.requires.later);
       given = given_stay old.opens new t turned nodes
-          (given_use ((kept_by old).references + 1) (Updating c.args.op parts.update c.args.number (same_atom (left_of old).own)) (of_update c.args.op parts.update c.args.number (same_atom (left_of old).own) came)
+          (given_use ((kept_by old).references + 1) (Updating c.args.op parts.update c.args.number (same_atom (live_of old).own)) (of_update c.args.op parts.update c.args.number (same_atom (live_of old).own) came)
           (given_use c.args.number (Owning (name_of parts.update) ((kept_by old).references + 1)) of_none
           (given_use c.args.number (Locking c.args.op parts.update parts.first st) (of_lock c.args.op parts.update parts.first st came)
           (given_stage c.args.op (Changing ((kept_by old).references + 1)) (of_any came) old.given))));
@@ -81,14 +81,14 @@ returns-in-Ok-clause-happens g c = λ update first st is.
     let old = c.args.self.now in
     let op = c.args.op in
     let would = c.would_grant-granted.ensures op update first st is in
-    let st' : Node → Status = with_asked (left_of old) (λ q. true) st (would_grant (left_of old) (kept_by old) (name_of update)) in
-    let s : State = (ask (left_of old) (λ q. true) c.args.number op update first st (kept_by old)).state in
-    let t : State = (begin (left_of old) c.args.number op update s).state in
+    let st' : Node → Status = with_asked (live_of old) (λ q. true) st (would_grant (live_of old) (kept_by old) (name_of update)) in
+    let s : State = (ask (live_of old) (λ q. true) c.args.number op update first st (kept_by old)).state in
+    let t : State = (begin (live_of old) c.args.number op update s).state in
     let asked : Shows c.ask.new.self s = c.ask.ensures.turned op update first st is (kept_by old) (shows old) (sym would) in
     let later : uses_of c.ask.new.self c.args.number ≡ Locking op update first st' =
     ap (λ (f : ℕ → Use). f c.args.number) (sym asked.uses) ∙ upd_at nat_eq (kept_by old).uses c.args.number (Locking op update first st') (eq-eqb c.args.number c.args.number refl) in
     let new = c.begin.new.self in
-    let turned : Shows new t = subst (λ (m : Nodes). Shows new (begin m c.args.number op update s).state) (left_stays old.opens c.ask.new.self s asked c.ask.ensures.nodes refl)
+    let turned : Shows new t = subst (λ (m : Nodes). Shows new (begin m c.args.number op update s).state) (live_stays old.opens c.ask.new.self s asked c.ask.ensures.nodes refl)
     (c.begin.ensures.turned op update first st' later s asked) in
     let changes : c.update_under-update.result.now ≡ update = update_is c.update_under-update.result.now update (sym c.update_under-update.ensures ∙ ap update_of is) in
     let lock = c.own_under-lock.ensures in

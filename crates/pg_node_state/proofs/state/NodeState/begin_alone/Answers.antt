@@ -5,11 +5,11 @@ use Rattle.pg_group.specs.Value.{name_of}
 use Rattle.pg_group.specs.Ended.{ended_of}
 use Rattle.pg_lock.specs.Locks.{Locks, locks_of, given_up, is_holder}
 use Rattle.pg_ends.specs.Processes.{node_of}
-use Rattle.pg_opens.specs.Opens.{Shows, names_of as opens_names, left_of as left_in}
+use Rattle.pg_opens.specs.Opens.{Shows, names_of as opens_names, live_of as live_in}
 use Rattle.pg_opens.specs.Readings.{update_of}
 use Rattle.pg_step.specs.State.{State}
 use Rattle.pg_node_state.specs.Ports.{merged_in, counts_in}
-use Rattle.pg_node_state.specs.States.{names_of, left_of, kept_by}
+use Rattle.pg_node_state.specs.States.{names_of, live_of, kept_by}
 use Rattle.pg_node_state.proofs.Kept.{shows, assembled}
 use Rattle.pg_node_state.proofs.Steady.{peers_stay, own_stays, merged_stay, lost_stay, made_stay, given_stay}
 use Rattle.pg_node_state.proofs.Turned.{Locks as LockOf, locks_by, update_is}
@@ -44,7 +44,7 @@ use Rattle.pg_opens.specs.Opens.{uses_of}
 use Rattle.pg_node_state.proofs.Counts.{few_changed}
 use Rattle.pg_node_state.proofs.Given.{given_use, of_any, given_stage, of_lock, of_none}
 use Rattle.pg_node_state.proofs.Given.{of_update, given_ports, locking_came, gathered_named}
-use Rattle.pg_node_state.proofs.Steady.{left_stays}
+use Rattle.pg_node_state.proofs.Steady.{live_stays}
 use Rattle.pg_node_state.proofs.Alone.{to_none, begins_alone, sends_nothing, at_time}
 use Rattle.pg_node_state.proofs.state.NodeState.begin_alone.Goals as goal
 
@@ -56,8 +56,8 @@ begin-requires g c =
     let parts : LockOf ((kept_by old).uses number) op = locks_by ((kept_by old).uses number) op c.requires.locking in
     let update : Change = parts.update in
     let is : (kept_by old).uses number ≡ Locking op update parts.first parts.st = parts.is in
-    let st : Node → Status = with_asked (left_of old) (λ q. true) parts.st (would_grant (left_of old) (kept_by old) (name_of update)) in
-    let s1 : State = (ask (left_of old) (λ q. true) number op update parts.first parts.st (kept_by old)).state in
+    let st : Node → Status = with_asked (live_of old) (λ q. true) parts.st (would_grant (live_of old) (kept_by old) (name_of update)) in
+    let s1 : State = (ask (live_of old) (λ q. true) number op update parts.first parts.st (kept_by old)).state in
     let asked : Shows c.ask.new.self s1 = c.ask.ensures.turned op update parts.first parts.st is (kept_by old) (shows old) (sym (c.would_grant-granted.ensures op update parts.first parts.st is)) in
     let locking : uses_of c.ask.new.self number ≡ Locking op update parts.first st =
     ap (λ (f : ℕ → Use). f number) (sym asked.uses) ∙ upd_at nat_eq (kept_by old).uses number (Locking op update parts.first st) (eq-eqb number number refl) in
@@ -74,19 +74,19 @@ finish-requires g c =
     let parts : LockOf ((kept_by old).uses number) op = locks_by ((kept_by old).uses number) op c.requires.locking in
     let update : Change = parts.update in
     let is : (kept_by old).uses number ≡ Locking op update parts.first parts.st = parts.is in
-    let st : Node → Status = with_asked (left_of old) (λ q. true) parts.st (would_grant (left_of old) (kept_by old) (name_of update)) in
-    let s1 : State = (ask (left_of old) (λ q. true) number op update parts.first parts.st (kept_by old)).state in
+    let st : Node → Status = with_asked (live_of old) (λ q. true) parts.st (would_grant (live_of old) (kept_by old) (name_of update)) in
+    let s1 : State = (ask (live_of old) (λ q. true) number op update parts.first parts.st (kept_by old)).state in
     let asked : Shows c.ask.new.self s1 = c.ask.ensures.turned op update parts.first parts.st is (kept_by old) (shows old) (sym (c.would_grant-granted.ensures op update parts.first parts.st is)) in
     let locking : uses_of c.ask.new.self number ≡ Locking op update parts.first st =
     ap (λ (f : ℕ → Use). f number) (sym asked.uses) ∙ upd_at nat_eq (kept_by old).uses number (Locking op update parts.first st) (eq-eqb number number refl) in
-    let s2 : State = (begin (left_of old) number op update s1).state in
-    let begun : Shows c.begin.new.self s2 = subst (λ (m : Nodes). Shows c.begin.new.self (begin m number op update s1).state) (left_stays old.opens c.ask.new.self s1 asked c.ask.ensures.nodes refl)
+    let s2 : State = (begin (live_of old) number op update s1).state in
+    let begun : Shows c.begin.new.self s2 = subst (λ (m : Nodes). Shows c.begin.new.self (begin m number op update s1).state) (live_stays old.opens c.ask.new.self s1 asked c.ask.ensures.nodes refl)
     (c.begin.ensures.turned op update parts.first st locking s1 asked) in
     let changing : ℕ = (kept_by old).references + 1 in
     let made : c.references-changing.result + 1 ≡ changing = ap (λ n. n + 1) c.references-changing.ensures in
-    let updating : uses_of c.begin.new.self changing ≡ Updating op update number (same_atom (left_of old).own) =
+    let updating : uses_of c.begin.new.self changing ≡ Updating op update number (same_atom (live_of old).own) =
     ap (λ (f : ℕ → Use). f changing) (sym begun.uses)
-    ∙ upd_at nat_eq (upd nat_eq s1.uses number (Owning (name_of update) changing)) changing (Updating op update number (same_atom (left_of old).own)) (eq-eqb changing changing refl) in
+    ∙ upd_at nat_eq (upd nat_eq s1.uses number (Owning (name_of update) changing)) changing (Updating op update number (same_atom (live_of old).own)) (eq-eqb changing changing refl) in
     record { updating = ap (λ (n : ℕ). is_updating (uses_of c.begin.new.self n)) made ∙ ap is_updating updating }
 
 pub reserve_answer-requires : goal.reserve_answer-requires
@@ -162,25 +162,25 @@ invariant_of-self-in-Ok g c =
     let parts : LockOf ((kept_by old).uses number) op = locks_by ((kept_by old).uses number) op c.requires.locking in
     let update : Change = parts.update in
     let is : (kept_by old).uses number ≡ Locking op update parts.first parts.st = parts.is in
-    let st : Node → Status = with_asked (left_of old) (λ q. true) parts.st (would_grant (left_of old) (kept_by old) (name_of update)) in
-    let s1 : State = (ask (left_of old) (λ q. true) number op update parts.first parts.st (kept_by old)).state in
+    let st : Node → Status = with_asked (live_of old) (λ q. true) parts.st (would_grant (live_of old) (kept_by old) (name_of update)) in
+    let s1 : State = (ask (live_of old) (λ q. true) number op update parts.first parts.st (kept_by old)).state in
     let asked : Shows c.ask.new.self s1 = c.ask.ensures.turned op update parts.first parts.st is (kept_by old) (shows old) (sym (c.would_grant-granted.ensures op update parts.first parts.st is)) in
     let locking : uses_of c.ask.new.self number ≡ Locking op update parts.first st =
     ap (λ (f : ℕ → Use). f number) (sym asked.uses) ∙ upd_at nat_eq (kept_by old).uses number (Locking op update parts.first st) (eq-eqb number number refl) in
-    let s2 : State = (begin (left_of old) number op update s1).state in
-    let begun : Shows c.begin.new.self s2 = subst (λ (m : Nodes). Shows c.begin.new.self (begin m number op update s1).state) (left_stays old.opens c.ask.new.self s1 asked c.ask.ensures.nodes refl)
+    let s2 : State = (begin (live_of old) number op update s1).state in
+    let begun : Shows c.begin.new.self s2 = subst (λ (m : Nodes). Shows c.begin.new.self (begin m number op update s1).state) (live_stays old.opens c.ask.new.self s1 asked c.ask.ensures.nodes refl)
     (c.begin.ensures.turned op update parts.first st locking s1 asked) in
     let changing : ℕ = (kept_by old).references + 1 in
     let made : c.references-changing.result + 1 ≡ changing = ap (λ n. n + 1) c.references-changing.ensures in
-    let updating : uses_of c.begin.new.self changing ≡ Updating op update number (same_atom (left_of old).own) =
+    let updating : uses_of c.begin.new.self changing ≡ Updating op update number (same_atom (live_of old).own) =
     ap (λ (f : ℕ → Use). f changing) (sym begun.uses)
-    ∙ upd_at nat_eq (upd nat_eq s1.uses number (Owning (name_of update) changing)) changing (Updating op update number (same_atom (left_of old).own)) (eq-eqb changing changing refl) in
+    ∙ upd_at nat_eq (upd nat_eq s1.uses number (Owning (name_of update) changing)) changing (Updating op update number (same_atom (live_of old).own)) (eq-eqb changing changing refl) in
     let nodes1 = c.begin.ensures.nodes ∙ c.ask.ensures.nodes in
-    let s3 : State = (finish (left_of old) changing op update number s2).state in
+    let s3 : State = (finish (live_of old) changing op update number s2).state in
     let new = c.finish.new.self in
-    let turned : Shows new s3 = subst (λ (m : Nodes). Shows new (finish m changing op update number s2).state) (left_stays old.opens c.begin.new.self s2 begun nodes1 refl)
-    (subst (λ (n : ℕ). uses_of c.begin.new.self n ≡ Updating op update number (same_atom (left_of old).own) → Shows new (finish (left_in c.begin.new.self) n op update number s2).state) made
-    (λ e. c.finish.ensures.turned op update number (same_atom (left_of old).own) e s2 begun) updating) in
+    let turned : Shows new s3 = subst (λ (m : Nodes). Shows new (finish m changing op update number s2).state) (live_stays old.opens c.begin.new.self s2 begun nodes1 refl)
+    (subst (λ (n : ℕ). uses_of c.begin.new.self n ≡ Updating op update number (same_atom (live_of old).own) → Shows new (finish (live_in c.begin.new.self) n op update number s2).state) made
+    (λ e. c.finish.ensures.turned op update number (same_atom (live_of old).own) e s2 begun) updating) in
     let nodes = c.finish.ensures.nodes ∙ nodes1 in
     let came = locking_came number op update parts.first parts.st old.given is in
     let counts = c.keep_reserved.ensures.counts ∙ c.reserve_answer.ensures.counts in
@@ -195,7 +195,7 @@ invariant_of-self-in-Ok g c =
       given = given_ports (length old.ports.items) (length c.keep_reserved.new.ports.items) (counts_in old.ports.items) (counts_in c.keep_reserved.new.ports.items) len counts
           (given_stay old.opens new s3 turned nodes
           (given_use changing Spent of_none (given_use number Spent of_none
-          (given_use changing (Updating op update number (same_atom (left_of old).own)) (of_update op update number (same_atom (left_of old).own) came)
+          (given_use changing (Updating op update number (same_atom (live_of old).own)) (of_update op update number (same_atom (live_of old).own) came)
           (given_use number (Owning (name_of update) changing) of_none
           (given_use number (Locking op update parts.first st) (of_lock op update parts.first st came)
           (given_stage op Closed (of_any came) (given_stage op (Changing changing) (of_any came) old.given))))))));
@@ -208,27 +208,27 @@ returns-in-Ok-clause-happens g c = λ update first st0 is.
     let old = c.args.self.now in
     let number : ℕ = c.args.number in
     let op : OpId = c.args.op in
-    let st : Node → Status = with_asked (left_of old) (λ q. true) st0 (would_grant (left_of old) (kept_by old) (name_of update)) in
-    let s1 : State = (ask (left_of old) (λ q. true) number op update first st0 (kept_by old)).state in
+    let st : Node → Status = with_asked (live_of old) (λ q. true) st0 (would_grant (live_of old) (kept_by old) (name_of update)) in
+    let s1 : State = (ask (live_of old) (λ q. true) number op update first st0 (kept_by old)).state in
     let asked : Shows c.ask.new.self s1 = c.ask.ensures.turned op update first st0 is (kept_by old) (shows old) (sym (c.would_grant-granted.ensures op update first st0 is)) in
     let locking : uses_of c.ask.new.self number ≡ Locking op update first st =
     ap (λ (f : ℕ → Use). f number) (sym asked.uses) ∙ upd_at nat_eq (kept_by old).uses number (Locking op update first st) (eq-eqb number number refl) in
-    let s2 : State = (begin (left_of old) number op update s1).state in
-    let begun : Shows c.begin.new.self s2 = subst (λ (m : Nodes). Shows c.begin.new.self (begin m number op update s1).state) (left_stays old.opens c.ask.new.self s1 asked c.ask.ensures.nodes refl)
+    let s2 : State = (begin (live_of old) number op update s1).state in
+    let begun : Shows c.begin.new.self s2 = subst (λ (m : Nodes). Shows c.begin.new.self (begin m number op update s1).state) (live_stays old.opens c.ask.new.self s1 asked c.ask.ensures.nodes refl)
     (c.begin.ensures.turned op update first st locking s1 asked) in
     let changing : ℕ = (kept_by old).references + 1 in
     let made : c.references-changing.result + 1 ≡ changing = ap (λ n. n + 1) c.references-changing.ensures in
-    let updating : uses_of c.begin.new.self changing ≡ Updating op update number (same_atom (left_of old).own) =
+    let updating : uses_of c.begin.new.self changing ≡ Updating op update number (same_atom (live_of old).own) =
     ap (λ (f : ℕ → Use). f changing) (sym begun.uses)
-    ∙ upd_at nat_eq (upd nat_eq s1.uses number (Owning (name_of update) changing)) changing (Updating op update number (same_atom (left_of old).own)) (eq-eqb changing changing refl) in
+    ∙ upd_at nat_eq (upd nat_eq s1.uses number (Owning (name_of update) changing)) changing (Updating op update number (same_atom (live_of old).own)) (eq-eqb changing changing refl) in
     let nodes1 = c.begin.ensures.nodes ∙ c.ask.ensures.nodes in
-    let s3 : State = (finish (left_of old) changing op update number s2).state in
+    let s3 : State = (finish (live_of old) changing op update number s2).state in
     let new = c.finish.new.self in
-    let turned : Shows new s3 = subst (λ (m : Nodes). Shows new (finish m changing op update number s2).state) (left_stays old.opens c.begin.new.self s2 begun nodes1 refl)
-    (subst (λ (n : ℕ). uses_of c.begin.new.self n ≡ Updating op update number (same_atom (left_of old).own) → Shows new (finish (left_in c.begin.new.self) n op update number s2).state) made
-    (λ e. c.finish.ensures.turned op update number (same_atom (left_of old).own) e s2 begun) updating) in
+    let turned : Shows new s3 = subst (λ (m : Nodes). Shows new (finish m changing op update number s2).state) (live_stays old.opens c.begin.new.self s2 begun nodes1 refl)
+    (subst (λ (n : ℕ). uses_of c.begin.new.self n ≡ Updating op update number (same_atom (live_of old).own) → Shows new (finish (live_in c.begin.new.self) n op update number s2).state) made
+    (λ e. c.finish.ensures.turned op update number (same_atom (live_of old).own) e s2 begun) updating) in
     let nodes = c.finish.ensures.nodes ∙ nodes1 in
-    let m : Nodes = left_of old in
+    let m : Nodes = live_of old in
     let clock : ℕ = c.args.clock in
     let contents = g.T.GroupTable.contents in
     let whole = begins_alone m c.requires.alone number op update first st0 (kept_by old) in

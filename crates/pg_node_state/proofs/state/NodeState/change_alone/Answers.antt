@@ -16,7 +16,7 @@ use Rattle.pg_step.specs.Nodes.{Node, Nodes, is_peer, greatest}
 use Rattle.pg_step.specs.State.{State}
 use Rattle.pg_step.specs.Turns.{NodeTurn}
 use Rattle.pg_node_state.specs.Ports.{merged_in, counts_in}
-use Rattle.pg_node_state.specs.States.{names_of, left_of, kept_by, sends_in}
+use Rattle.pg_node_state.specs.States.{names_of, live_of, kept_by, sends_in}
 use Rattle.pg_node_state.proofs.Alone.{no_peers}
 use Rattle.pg_node_state.proofs.Attempted.{attempt_ends, lone_turn, lone_sends, lone_locks}
 use Rattle.pg_node_state.proofs.Counts.{few_changed}
@@ -87,7 +87,7 @@ invariant_of-self-in-Err-1 g c =
 pub invariant_of-self-in-Ok : goal.invariant_of-self-in-Ok
 invariant_of-self-in-Ok g c =
     let old = c.args.self.now in
-    let m : Nodes = left_of old in
+    let m : Nodes = live_of old in
     let op = c.args.op in
     let waiting : WaitsWith ((kept_by old).stages op) = waits_with ((kept_by old).stages op) c.requires.waits in
     let update = waiting.update in
@@ -117,7 +117,7 @@ invariant_of-self-in-Ok g c =
 pub returns-in-Ok-clause-happens : goal.returns-in-Ok-clause-happens
 returns-in-Ok-clause-happens g c = λ update is.
     let old = c.args.self.now in
-    let m : Nodes = left_of old in
+    let m : Nodes = live_of old in
     let op = c.args.op in
     let contents = g.T.GroupTable.contents in
     let grants = c.requires.grants update is in

@@ -6,7 +6,7 @@ use Rattle.pg_group.proofs.Changes.{upd_at}
 use Rattle.pg_ends.specs.Processes.{node_of}
 use Rattle.pg_machine.specs.Clocked.{Timed}
 use Rattle.pg_opens.specs.declared.opens.Opens.{Opens}
-use Rattle.pg_opens.specs.Opens.{Shows, names_of as opens_names, left_of as left_in, uses_of}
+use Rattle.pg_opens.specs.Opens.{Shows, names_of as opens_names, live_of as live_in, uses_of}
 use Rattle.pg_opens.specs.Places.{name_at}
 use Rattle.pg_opens.specs.Readings.{gathering_of, is_locking}
 use Rattle.pg_step.specs.declared.command.OpId.{OpId}
@@ -17,12 +17,12 @@ use Rattle.pg_step.specs.State.Use.{Locking}
 use Rattle.pg_step.specs.Attempts.{counted, count_answer, go_on, lock_status}
 use Rattle.pg_node_state.specs.Ports.{merged_in}
 use Rattle.pg_node_state.specs.Sendable.{AreSendable}
-use Rattle.pg_node_state.specs.States.{names_of, left_of, kept_by, state_of, answers_of}
+use Rattle.pg_node_state.specs.States.{names_of, live_of, kept_by, state_of, answers_of}
 use Rattle.pg_node_state.proofs.Given.{given_use, of_lock, locking_came}
 use Rattle.pg_node_state.proofs.Alone.{at_time}
 use Rattle.pg_node_state.proofs.Kept.{shows, assembled, assembled_state, happens_as}
 use Rattle.pg_node_state.proofs.Steady.{peers_stay, own_stays, merged_stay}
-use Rattle.pg_node_state.proofs.Steady.{lost_stay, made_stay, given_stay, left_stays}
+use Rattle.pg_node_state.proofs.Steady.{lost_stay, made_stay, given_stay, live_stays}
 use Rattle.pg_node_state.proofs.Turned.{Locks as LockOf, locks_by, counted_answer, answer_back}
 use Rattle.pg_node_state.proofs.state.NodeState.count_answer.Goals as goal
 
@@ -45,7 +45,7 @@ invariant_of-self g c =
     ap (λ (f : ℕ → Use). f number) (sym turned.uses) ∙ upd_at nat_eq (kept_by old).uses number (Locking op parts.update parts.first heard) (eq-eqb number number refl) in
     let kept1 = assembled_state s1 new ((kept_by old).table) ((kept_by old).ended) ((kept_by old).locks) (merged_in (opens_names new) old.formation) ((kept_by old).processes) ((kept_by old).counts)
     turned refl refl refl (merged_stay old.opens new s1 turned nodes old.formation) refl refl in
-    let left1 : left_in new ≡ left_of old = left_stays old.opens new s1 turned nodes refl in
+    let left1 : live_in new ≡ live_of old = live_stays old.opens new s1 turned nodes refl in
     record {
       peers = peers_stay old.opens new s1 turned nodes old.formation old.peers;
       own = own_stays old.opens new s1 turned nodes (node_of old.processes) old.own;
@@ -77,7 +77,7 @@ go_on-requires-clause-locking g c =
     ap (λ (f : ℕ → Use). f number) (sym turned.uses) ∙ upd_at nat_eq (kept_by old).uses number (Locking op parts.update parts.first heard) (eq-eqb number number refl) in
     let kept1 = assembled_state s1 new ((kept_by old).table) ((kept_by old).ended) ((kept_by old).locks) (merged_in (opens_names new) old.formation) ((kept_by old).processes) ((kept_by old).counts)
     turned refl refl refl (merged_stay old.opens new s1 turned nodes old.formation) refl refl in
-    let left1 : left_in new ≡ left_of old = left_stays old.opens new s1 turned nodes refl in
+    let left1 : live_in new ≡ live_of old = live_stays old.opens new s1 turned nodes refl in
     ap gathering_of is1
 
 pub take_back_answer-requires-clause-locking : goal.take_back_answer-requires-clause-locking
@@ -99,7 +99,7 @@ take_back_answer-requires-clause-locking g c =
     ap (λ (f : ℕ → Use). f number) (sym turned.uses) ∙ upd_at nat_eq (kept_by old).uses number (Locking op parts.update parts.first heard) (eq-eqb number number refl) in
     let kept1 = assembled_state s1 new ((kept_by old).table) ((kept_by old).ended) ((kept_by old).locks) (merged_in (opens_names new) old.formation) ((kept_by old).processes) ((kept_by old).counts)
     turned refl refl refl (merged_stay old.opens new s1 turned nodes old.formation) refl refl in
-    let left1 : left_in new ≡ left_of old = left_stays old.opens new s1 turned nodes refl in
+    let left1 : live_in new ≡ live_of old = live_stays old.opens new s1 turned nodes refl in
     ap is_locking (ap (λ (x : Timed State). x.state.uses number) c.in-Err.ensures.err ∙ is1)
 
 pub returns-in-Ok-clause-happens : goal.returns-in-Ok-clause-happens
@@ -121,9 +121,9 @@ returns-in-Ok-clause-happens g c =
     ap (λ (f : ℕ → Use). f number) (sym turned.uses) ∙ upd_at nat_eq (kept_by old).uses number (Locking op parts.update parts.first heard) (eq-eqb number number refl) in
     let kept1 = assembled_state s1 new ((kept_by old).table) ((kept_by old).ended) ((kept_by old).locks) (merged_in (opens_names new) old.formation) ((kept_by old).processes) ((kept_by old).counts)
     turned refl refl refl (merged_stay old.opens new s1 turned nodes old.formation) refl refl in
-    let left1 : left_in new ≡ left_of old = left_stays old.opens new s1 turned nodes refl in
-    happens_as (names_of old) (opens_names new) c.args.clock (counted used (left_of old) p number c.args.said (kept_by old)) _ c.in-Ok.done (state_of c.go_on.new.self) (answers_of old) (answers_of c.go_on.new.self) nodes
-    ((λ i. go_on (left1 i) number ((kept1 i).uses number) (kept1 i)) ∙ sym (counted_answer used op parts.update parts.first parts.st parts.is (left_of old) p number c.args.said (kept_by old))) c.in-Ok.ensures.happens
+    let left1 : live_in new ≡ live_of old = live_stays old.opens new s1 turned nodes refl in
+    happens_as (names_of old) (opens_names new) c.args.clock (counted used (live_of old) p number c.args.said (kept_by old)) _ c.in-Ok.done (state_of c.go_on.new.self) (answers_of old) (answers_of c.go_on.new.self) nodes
+    ((λ i. go_on (left1 i) number ((kept1 i).uses number) (kept1 i)) ∙ sym (counted_answer used op parts.update parts.first parts.st parts.is (live_of old) p number c.args.said (kept_by old))) c.in-Ok.ensures.happens
 
 pub invariant_of-self-in-Err : goal.invariant_of-self-in-Err
 invariant_of-self-in-Err g c =
@@ -144,7 +144,7 @@ invariant_of-self-in-Err g c =
     ap (λ (f : ℕ → Use). f number) (sym turned.uses) ∙ upd_at nat_eq (kept_by old).uses number (Locking op parts.update parts.first heard) (eq-eqb number number refl) in
     let kept1 = assembled_state s1 new ((kept_by old).table) ((kept_by old).ended) ((kept_by old).locks) (merged_in (opens_names new) old.formation) ((kept_by old).processes) ((kept_by old).counts)
     turned refl refl refl (merged_stay old.opens new s1 turned nodes old.formation) refl refl in
-    let left1 : left_in new ≡ left_of old = left_stays old.opens new s1 turned nodes refl in
+    let left1 : live_in new ≡ live_of old = live_stays old.opens new s1 turned nodes refl in
     let self2 = c.go_on.new.self in
     let same = c.in-Err.ensures.err in
     let uses2 = ap (λ (x : Timed State). x.state.uses number) same ∙ is1 in
@@ -185,7 +185,7 @@ returns-in-Err-clause-err g c =
     ap (λ (f : ℕ → Use). f number) (sym turned.uses) ∙ upd_at nat_eq (kept_by old).uses number (Locking op parts.update parts.first heard) (eq-eqb number number refl) in
     let kept1 = assembled_state s1 new ((kept_by old).table) ((kept_by old).ended) ((kept_by old).locks) (merged_in (opens_names new) old.formation) ((kept_by old).processes) ((kept_by old).counts)
     turned refl refl refl (merged_stay old.opens new s1 turned nodes old.formation) refl refl in
-    let left1 : left_in new ≡ left_of old = left_stays old.opens new s1 turned nodes refl in
+    let left1 : live_in new ≡ live_of old = live_stays old.opens new s1 turned nodes refl in
     let self2 = c.go_on.new.self in
     let same = c.in-Err.ensures.err in
     let uses2 = ap (λ (x : Timed State). x.state.uses number) same ∙ is1 in

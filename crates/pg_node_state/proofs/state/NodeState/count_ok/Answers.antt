@@ -6,7 +6,7 @@ use Rattle.pg_group.proofs.Changes.{upd_at}
 use Rattle.pg_ends.specs.Processes.{node_of}
 use Rattle.pg_machine.specs.Clocked.{Timed}
 use Rattle.pg_opens.specs.declared.opens.Opens.{Opens}
-use Rattle.pg_opens.specs.Opens.{Shows, names_of as opens_names, left_of as left_in, uses_of}
+use Rattle.pg_opens.specs.Opens.{Shows, names_of as opens_names, live_of as live_in, uses_of}
 use Rattle.pg_opens.specs.Places.{name_at}
 use Rattle.pg_opens.specs.Readings.{gathering_of, is_updating}
 use Rattle.pg_step.specs.declared.command.OpId.{OpId}
@@ -18,12 +18,12 @@ use Rattle.pg_step.specs.Attempts.{counted, count_ok, finish, is_complete}
 use Rattle.pg_opens.specs.TakenBack.{ok_taken_back}
 use Rattle.pg_node_state.specs.Ports.{merged_in}
 use Rattle.pg_node_state.specs.Sendable.{AreSendable}
-use Rattle.pg_node_state.specs.States.{names_of, left_of, kept_by, state_of, answers_of}
+use Rattle.pg_node_state.specs.States.{names_of, live_of, kept_by, state_of, answers_of}
 use Rattle.pg_node_state.proofs.Given.{given_use, of_update, updating_came}
 use Rattle.pg_node_state.proofs.Alone.{at_time}
 use Rattle.pg_node_state.proofs.Kept.{shows, assembled, assembled_state, happens_as}
 use Rattle.pg_node_state.proofs.Steady.{peers_stay, own_stays, merged_stay}
-use Rattle.pg_node_state.proofs.Steady.{lost_stay, made_stay, given_stay, left_stays}
+use Rattle.pg_node_state.proofs.Steady.{lost_stay, made_stay, given_stay, live_stays}
 use Rattle.pg_node_state.proofs.Turned.{Updates, updates_by, counted_ok, ok_back}
 use Rattle.pg_node_state.proofs.state.NodeState.count_ok.Goals as goal
 
@@ -45,7 +45,7 @@ invariant_of-self g c =
     ap (λ (f : ℕ → Use). f number) (sym turned.uses) ∙ upd_at nat_eq (kept_by old).uses number (Updating op parts.update lock heard) (eq-eqb number number refl) in
     let kept1 = assembled_state s1 new ((kept_by old).table) ((kept_by old).ended) ((kept_by old).locks) (merged_in (opens_names new) old.formation) ((kept_by old).processes) ((kept_by old).counts)
     turned refl refl refl (merged_stay old.opens new s1 turned nodes old.formation) refl refl in
-    let left1 : left_in new ≡ left_of old = left_stays old.opens new s1 turned nodes refl in
+    let left1 : live_in new ≡ live_of old = live_stays old.opens new s1 turned nodes refl in
     record {
       peers = peers_stay old.opens new s1 turned nodes old.formation old.peers;
       own = own_stays old.opens new s1 turned nodes (node_of old.processes) old.own;
@@ -76,7 +76,7 @@ finish-requires-clause-updating g c =
     ap (λ (f : ℕ → Use). f number) (sym turned.uses) ∙ upd_at nat_eq (kept_by old).uses number (Updating op parts.update lock heard) (eq-eqb number number refl) in
     let kept1 = assembled_state s1 new ((kept_by old).table) ((kept_by old).ended) ((kept_by old).locks) (merged_in (opens_names new) old.formation) ((kept_by old).processes) ((kept_by old).counts)
     turned refl refl refl (merged_stay old.opens new s1 turned nodes old.formation) refl refl in
-    let left1 : left_in new ≡ left_of old = left_stays old.opens new s1 turned nodes refl in
+    let left1 : live_in new ≡ live_of old = live_stays old.opens new s1 turned nodes refl in
     ap gathering_of is1
 
 pub take_back_ok-requires-clause-updating : goal.take_back_ok-requires-clause-updating
@@ -97,7 +97,7 @@ take_back_ok-requires-clause-updating g c =
     ap (λ (f : ℕ → Use). f number) (sym turned.uses) ∙ upd_at nat_eq (kept_by old).uses number (Updating op parts.update lock heard) (eq-eqb number number refl) in
     let kept1 = assembled_state s1 new ((kept_by old).table) ((kept_by old).ended) ((kept_by old).locks) (merged_in (opens_names new) old.formation) ((kept_by old).processes) ((kept_by old).counts)
     turned refl refl refl (merged_stay old.opens new s1 turned nodes old.formation) refl refl in
-    let left1 : left_in new ≡ left_of old = left_stays old.opens new s1 turned nodes refl in
+    let left1 : live_in new ≡ live_of old = live_stays old.opens new s1 turned nodes refl in
     ap is_updating (ap (λ (x : Timed State). x.state.uses number) c.in-Err.ensures.err ∙ is1)
 
 pub returns-then-not-is_complete-clause-happens : goal.returns-then-not-is_complete-clause-happens
@@ -118,11 +118,11 @@ returns-then-not-is_complete-clause-happens g c = λ said.
     ap (λ (f : ℕ → Use). f number) (sym turned.uses) ∙ upd_at nat_eq (kept_by old).uses number (Updating op parts.update lock heard) (eq-eqb number number refl) in
     let kept1 = assembled_state s1 new ((kept_by old).table) ((kept_by old).ended) ((kept_by old).locks) (merged_in (opens_names new) old.formation) ((kept_by old).processes) ((kept_by old).counts)
     turned refl refl refl (merged_stay old.opens new s1 turned nodes old.formation) refl refl in
-    let left1 : left_in new ≡ left_of old = left_stays old.opens new s1 turned nodes refl in
-    let all : every (left_of old) heard ≡ false = ap (λ (m : Nodes). every m heard) (sym left1) ∙ (ap (is_complete (left_in new)) (sym is1) ∙ (sym c.is_complete.ensures ∙ c.if-not-is_complete.true)) in
-    happens_as (names_of old) (opens_names new) c.args.clock (counted used (left_of old) p number said (kept_by old)) (becomes _) c.wait.result (state_of c.wait.new.self) (answers_of old) (answers_of c.wait.new.self) nodes
-    (ap becomes kept1 ∙ sym (counted_ok used op parts.update lock parts.replied parts.is (left_of old) p number said (kept_by old)
-    ∙ ap (λ b. cond b (finish (left_of old) number op parts.update lock s1) (becomes s1)) all)) c.wait.ensures.happens
+    let left1 : live_in new ≡ live_of old = live_stays old.opens new s1 turned nodes refl in
+    let all : every (live_of old) heard ≡ false = ap (λ (m : Nodes). every m heard) (sym left1) ∙ (ap (is_complete (live_in new)) (sym is1) ∙ (sym c.is_complete.ensures ∙ c.if-not-is_complete.true)) in
+    happens_as (names_of old) (opens_names new) c.args.clock (counted used (live_of old) p number said (kept_by old)) (becomes _) c.wait.result (state_of c.wait.new.self) (answers_of old) (answers_of c.wait.new.self) nodes
+    (ap becomes kept1 ∙ sym (counted_ok used op parts.update lock parts.replied parts.is (live_of old) p number said (kept_by old)
+    ∙ ap (λ b. cond b (finish (live_of old) number op parts.update lock s1) (becomes s1)) all)) c.wait.ensures.happens
 
 pub returns-in-Ok-clause-happens : goal.returns-in-Ok-clause-happens
 returns-in-Ok-clause-happens g c = λ said.
@@ -142,11 +142,11 @@ returns-in-Ok-clause-happens g c = λ said.
     ap (λ (f : ℕ → Use). f number) (sym turned.uses) ∙ upd_at nat_eq (kept_by old).uses number (Updating op parts.update lock heard) (eq-eqb number number refl) in
     let kept1 = assembled_state s1 new ((kept_by old).table) ((kept_by old).ended) ((kept_by old).locks) (merged_in (opens_names new) old.formation) ((kept_by old).processes) ((kept_by old).counts)
     turned refl refl refl (merged_stay old.opens new s1 turned nodes old.formation) refl refl in
-    let left1 : left_in new ≡ left_of old = left_stays old.opens new s1 turned nodes refl in
-    let all : every (left_of old) heard ≡ true = ap (λ (m : Nodes). every m heard) (sym left1) ∙ (ap (is_complete (left_in new)) (sym is1) ∙ (sym c.is_complete.ensures ∙ c.if-not-is_complete.false)) in
-    happens_as (names_of old) (opens_names new) c.args.clock (counted used (left_of old) p number said (kept_by old)) _ c.in-Ok.done (state_of c.finish.new.self) (answers_of old) (answers_of c.finish.new.self) nodes
-    ((λ i. finish (left1 i) number op parts.update lock (kept1 i)) ∙ sym (counted_ok used op parts.update lock parts.replied parts.is (left_of old) p number said (kept_by old)
-    ∙ ap (λ b. cond b (finish (left_of old) number op parts.update lock s1) (becomes s1)) all)) (c.in-Ok.ensures.happens parts.update heard is1)
+    let left1 : live_in new ≡ live_of old = live_stays old.opens new s1 turned nodes refl in
+    let all : every (live_of old) heard ≡ true = ap (λ (m : Nodes). every m heard) (sym left1) ∙ (ap (is_complete (live_in new)) (sym is1) ∙ (sym c.is_complete.ensures ∙ c.if-not-is_complete.false)) in
+    happens_as (names_of old) (opens_names new) c.args.clock (counted used (live_of old) p number said (kept_by old)) _ c.in-Ok.done (state_of c.finish.new.self) (answers_of old) (answers_of c.finish.new.self) nodes
+    ((λ i. finish (left1 i) number op parts.update lock (kept1 i)) ∙ sym (counted_ok used op parts.update lock parts.replied parts.is (live_of old) p number said (kept_by old)
+    ∙ ap (λ b. cond b (finish (live_of old) number op parts.update lock s1) (becomes s1)) all)) (c.in-Ok.ensures.happens parts.update heard is1)
 
 pub invariant_of-self-in-Err : goal.invariant_of-self-in-Err
 invariant_of-self-in-Err g c =
@@ -166,7 +166,7 @@ invariant_of-self-in-Err g c =
     ap (λ (f : ℕ → Use). f number) (sym turned.uses) ∙ upd_at nat_eq (kept_by old).uses number (Updating op parts.update lock heard) (eq-eqb number number refl) in
     let kept1 = assembled_state s1 new ((kept_by old).table) ((kept_by old).ended) ((kept_by old).locks) (merged_in (opens_names new) old.formation) ((kept_by old).processes) ((kept_by old).counts)
     turned refl refl refl (merged_stay old.opens new s1 turned nodes old.formation) refl refl in
-    let left1 : left_in new ≡ left_of old = left_stays old.opens new s1 turned nodes refl in
+    let left1 : live_in new ≡ live_of old = live_stays old.opens new s1 turned nodes refl in
     let self2 = c.finish.new.self in
     let same = c.in-Err.ensures.err in
     let uses2 = ap (λ (x : Timed State). x.state.uses number) same ∙ is1 in
@@ -206,7 +206,7 @@ returns-in-Err-clause-err g c =
     ap (λ (f : ℕ → Use). f number) (sym turned.uses) ∙ upd_at nat_eq (kept_by old).uses number (Updating op parts.update lock heard) (eq-eqb number number refl) in
     let kept1 = assembled_state s1 new ((kept_by old).table) ((kept_by old).ended) ((kept_by old).locks) (merged_in (opens_names new) old.formation) ((kept_by old).processes) ((kept_by old).counts)
     turned refl refl refl (merged_stay old.opens new s1 turned nodes old.formation) refl refl in
-    let left1 : left_in new ≡ left_of old = left_stays old.opens new s1 turned nodes refl in
+    let left1 : live_in new ≡ live_of old = live_stays old.opens new s1 turned nodes refl in
     let self2 = c.finish.new.self in
     let same = c.in-Err.ensures.err in
     let uses2 = ap (λ (x : Timed State). x.state.uses number) same ∙ is1 in

@@ -3,7 +3,7 @@ use Rattle.pg_machine.specs.Clocked.{stamped}
 use Rattle.pg_lock.specs.Locks.{locks_of}
 use Rattle.pg_ends.specs.Processes.{node_of}
 use Rattle.pg_term.specs.Same.{same_atom}
-use Rattle.pg_opens.specs.Opens.{Shows, names_of as opens_names, left_of as left_in, uses_of}
+use Rattle.pg_opens.specs.Opens.{Shows, names_of as opens_names, live_of as live_in, uses_of}
 use Rattle.pg_opens.specs.Readings.{is_locking}
 use Rattle.pg_step.specs.Attempts.{attempt, give_up}
 use Rattle.pg_step.specs.Nodes.{Node, Nodes, is_peer, greatest}
@@ -11,13 +11,13 @@ use Rattle.pg_step.specs.State.{State, Use}
 use Rattle.pg_step.specs.State.Use.{Locking, Spent}
 use Rattle.pg_step.specs.State.Stage.{Waiting}
 use Rattle.pg_node_state.specs.Ports.{merged_in}
-use Rattle.pg_node_state.specs.States.{names_of, left_of, kept_by, sends_in}
+use Rattle.pg_node_state.specs.States.{names_of, live_of, kept_by, sends_in}
 use Rattle.pg_node_state.proofs.Attempted.{statuses, attempt_denied, denied_turn, denied_sends, denied_locks}
 use Rattle.pg_node_state.proofs.First.{WaitsWith, waits_with, first_state, first_given, asked_under}
 use Rattle.pg_node_state.proofs.Given.{given_use, given_stage, of_none, waiting_came}
 use Rattle.pg_node_state.proofs.Kept.{shows, assembled, happens_as}
 use Rattle.pg_node_state.proofs.Steady.{peers_stay, own_stays, merged_stay}
-use Rattle.pg_node_state.proofs.Steady.{lost_stay, made_stay, given_stay, left_stays}
+use Rattle.pg_node_state.proofs.Steady.{lost_stay, made_stay, given_stay, live_stays}
 use Rattle.pg_node_state.proofs.Turned.{own_apart}
 use Rattle.pg_node_state.proofs.state.NodeState.deny_itself.Goals as goal
 
@@ -26,18 +26,18 @@ give_up-requires g c =
     let old = c.args.self.now in
     let waiting : WaitsWith ((kept_by old).stages c.args.op) = waits_with ((kept_by old).stages c.args.op) c.requires.waits in
     let lock : ℕ = (kept_by old).references + 1 in
-    let s : State = first_state (left_of old) c.args.op waiting.update (kept_by old) in
+    let s : State = first_state (live_of old) c.args.op waiting.update (kept_by old) in
     let denies = c.requires.denies waiting.update waiting.is in
     let asked : Shows c.ask_first.new.opens s = c.ask_first.ensures.turned waiting.update waiting.is (kept_by old) (shows old) denies in
     record {
       locking = ap (λ n. is_locking (uses_of c.ask_first.new.opens n)) (ap (λ n. n + 1) c.references-number.ensures)
-          ∙ (ap (λ (f : ℕ → Use). is_locking (f lock)) (sym asked.uses) ∙ ap is_locking (asked_under (left_of old) c.args.op waiting.update (kept_by old) false denies));
+          ∙ (ap (λ (f : ℕ → Use). is_locking (f lock)) (sym asked.uses) ∙ ap is_locking (asked_under (live_of old) c.args.op waiting.update (kept_by old) false denies));
     }
 
 pub invariant_of-self : goal.invariant_of-self
 invariant_of-self g c =
     let old = c.args.self.now in
-    let m : Nodes = left_of old in
+    let m : Nodes = live_of old in
     let op = c.args.op in
     let waiting : WaitsWith ((kept_by old).stages op) = waits_with ((kept_by old).stages op) c.requires.waits in
     let update = waiting.update in
@@ -49,8 +49,8 @@ invariant_of-self g c =
     let s : State = (give_up m lock op update (statuses m op update (kept_by old) false) s1).state in
     let new = c.give_up.new.self in
     let number : c.references-number.result + 1 ≡ lock = ap (λ n. n + 1) c.references-number.ensures in
-    let turned : Shows new s = subst (λ (n : Nodes). Shows new (give_up n lock op update (statuses m op update (kept_by old) false) s1).state) (left_stays old.opens c.ask_first.new.opens s1 asked c.ask_first.ensures.nodes refl)
-    (subst (λ (n : ℕ). uses_of c.ask_first.new.opens n ≡ Locking op update (greatest m) (statuses m op update (kept_by old) false) → Shows new (give_up (left_in c.ask_first.new.opens) n op update (statuses m op update (kept_by old) false) s1).state) number
+    let turned : Shows new s = subst (λ (n : Nodes). Shows new (give_up n lock op update (statuses m op update (kept_by old) false) s1).state) (live_stays old.opens c.ask_first.new.opens s1 asked c.ask_first.ensures.nodes refl)
+    (subst (λ (n : ℕ). uses_of c.ask_first.new.opens n ≡ Locking op update (greatest m) (statuses m op update (kept_by old) false) → Shows new (give_up (live_in c.ask_first.new.opens) n op update (statuses m op update (kept_by old) false) s1).state) number
     (λ e. c.give_up.ensures.turned op update (greatest m) (statuses m op update (kept_by old) false) e s1 asked) used) in
     let nodes = c.give_up.ensures.nodes ∙ c.ask_first.ensures.nodes in
     let came = waiting_came op update old.given waiting.is in
@@ -68,7 +68,7 @@ invariant_of-self g c =
 pub returns-clause-happens : goal.returns-clause-happens
 returns-clause-happens g c = λ update is.
     let old = c.args.self.now in
-    let m : Nodes = left_of old in
+    let m : Nodes = live_of old in
     let op = c.args.op in
     let lock : ℕ = (kept_by old).references + 1 in
     let s1 : State = first_state m op update (kept_by old) in
@@ -78,8 +78,8 @@ returns-clause-happens g c = λ update is.
     let s : State = (give_up m lock op update (statuses m op update (kept_by old) false) s1).state in
     let new = c.give_up.new.self in
     let number : c.references-number.result + 1 ≡ lock = ap (λ n. n + 1) c.references-number.ensures in
-    let turned : Shows new s = subst (λ (n : Nodes). Shows new (give_up n lock op update (statuses m op update (kept_by old) false) s1).state) (left_stays old.opens c.ask_first.new.opens s1 asked c.ask_first.ensures.nodes refl)
-    (subst (λ (n : ℕ). uses_of c.ask_first.new.opens n ≡ Locking op update (greatest m) (statuses m op update (kept_by old) false) → Shows new (give_up (left_in c.ask_first.new.opens) n op update (statuses m op update (kept_by old) false) s1).state) number
+    let turned : Shows new s = subst (λ (n : Nodes). Shows new (give_up n lock op update (statuses m op update (kept_by old) false) s1).state) (live_stays old.opens c.ask_first.new.opens s1 asked c.ask_first.ensures.nodes refl)
+    (subst (λ (n : ℕ). uses_of c.ask_first.new.opens n ≡ Locking op update (greatest m) (statuses m op update (kept_by old) false) → Shows new (give_up (live_in c.ask_first.new.opens) n op update (statuses m op update (kept_by old) false) s1).state) number
     (λ e. c.give_up.ensures.turned op update (greatest m) (statuses m op update (kept_by old) false) e s1 asked) used) in
     let nodes = c.give_up.ensures.nodes ∙ c.ask_first.ensures.nodes in
     let own : greatest m ≡ m.own = sym c.requires.own in

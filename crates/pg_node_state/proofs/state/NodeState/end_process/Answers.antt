@@ -7,7 +7,7 @@ use Rattle.pg_message.specs.declared.message.Message.{Message}
 use Rattle.pg_message.specs.declared.message.Message.TheVariants.{Down}
 use Rattle.pg_step.specs.declared.answer.Reply.TheVariants as reply
 use Rattle.pg_step.specs.Nodes.{to_peers}
-use Rattle.pg_node_state.specs.States.{left_of, kept_by}
+use Rattle.pg_node_state.specs.States.{live_of, kept_by}
 use Rattle.pg_node_state.proofs.Answered.{counts_within, given_later, given_still, counts_still}
 use Rattle.pg_node_state.proofs.Counts.{few_without}
 use Rattle.pg_node_state.proofs.state.NodeState.end_process.Goals as goal
@@ -54,7 +54,7 @@ returns-clause-happens g c =
     let done = c.in_ok-end_at.ensures in
     record {
       told = record {
-        sends = c.in_ok-sends.ensures.sends ∙ fun_ext (λ q. ap (λ (sent : List Message). stamped c.args.clock sent) (sym (append-nil (to_peers (left_of old) (λ q. true) (Down c.args.pid.now) q))));
+        sends = c.in_ok-sends.ensures.sends ∙ fun_ext (λ q. ap (λ (sent : List Message). stamped c.args.clock sent) (sym (append-nil (to_peers (live_of old) (λ q. true) (Down c.args.pid.now) q))));
         began = refl;
         odd = refl;
       };

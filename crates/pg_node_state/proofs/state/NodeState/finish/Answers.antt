@@ -7,7 +7,7 @@ use Rattle.pg_opens.specs.Opens.{Shows, names_of as opens_names}
 use Rattle.pg_opens.specs.Readings.{update_of}
 use Rattle.pg_step.specs.State.{State}
 use Rattle.pg_node_state.specs.Ports.{merged_in, counts_in}
-use Rattle.pg_node_state.specs.States.{left_of, kept_by}
+use Rattle.pg_node_state.specs.States.{live_of, kept_by}
 use Rattle.pg_node_state.proofs.Kept.{shows, assembled}
 use Rattle.pg_node_state.proofs.Steady.{peers_stay, own_stays, merged_stay, lost_stay, made_stay, given_stay}
 use Rattle.pg_node_state.proofs.Turned.{Updates, updates_by, update_is}
@@ -66,7 +66,7 @@ pub invariant_of-self-2 : goal.invariant_of-self-2
 invariant_of-self-2 g c =
     let old = c.args.self.now in
     let parts : Updates ((kept_by old).uses c.args.number) c.args.op c.args.lock = updates_by ((kept_by old).uses c.args.number) c.args.op c.args.lock c.requires.updating in
-    let s : State = (finish (left_of old) c.args.number c.args.op parts.update c.args.lock (kept_by old)).state in
+    let s : State = (finish (live_of old) c.args.number c.args.op parts.update c.args.lock (kept_by old)).state in
     let new = c.finish.new.self in
     let turned : Shows new s = c.finish.ensures.turned c.args.op parts.update c.args.lock parts.replied parts.is (kept_by old) (shows old) in
     let nodes = c.finish.ensures.nodes in
@@ -89,7 +89,7 @@ pub returns-clause-happens : goal.returns-clause-happens
 returns-clause-happens g c = λ update replied is.
     let old = c.args.self.now in
     let new = c.finish.new.self in
-    let t : State = (finish (left_of old) c.args.number c.args.op update c.args.lock (kept_by old)).state in
+    let t : State = (finish (live_of old) c.args.number c.args.op update c.args.lock (kept_by old)).state in
     let turned : Shows new t = c.finish.ensures.turned c.args.op update c.args.lock replied is (kept_by old) (shows old) in
     let name = c.name-name.ensures ∙ ap name_of (update_is c.update_under.result.now update (sym c.update_under.ensures ∙ ap update_of is)) in
     let lock = c.own_under-held.ensures in

@@ -5,7 +5,7 @@ use Rattle.pg_opens.specs.declared.outlook.Outlook.TheVariants as outlook
 use Rattle.pg_step.specs.State.{Use}
 use Rattle.pg_step.specs.Step.{at_clock}
 use Rattle.pg_step.specs.Turns.{NodeTurn}
-use Rattle.pg_node_state.specs.States.{names_of, left_of, kept_by, state_of, answers_of, Happens}
+use Rattle.pg_node_state.specs.States.{names_of, live_of, kept_by, state_of, answers_of, Happens}
 use Rattle.pg_node_state.proofs.Chains.{gives_up_then, begins_then}
 use Rattle.pg_node_state.proofs.Turned.{Locks as LockOf, locks_by, goes_on, own_apart}
 use Rattle.pg_node_state.proofs.state.NodeState.go_on.Goals as goal
@@ -13,7 +13,7 @@ use Rattle.pg_node_state.proofs.state.NodeState.go_on.Goals as goal
 pub returns-in-Wait-clause-happens : goal.returns-in-Wait-clause-happens
 returns-in-Wait-clause-happens g c =
     let old = c.args.self.now in
-    let m = left_of old in
+    let m = live_of old in
     let clock : ℕ = c.args.clock in
     let used : Use = (kept_by old).uses c.args.number in
     let parts : LockOf used c.args.op = locks_by used c.args.op c.requires.locking in
@@ -26,7 +26,7 @@ returns-in-Wait-clause-happens g c =
 pub returns-in-GiveUp-clause-happens : goal.returns-in-GiveUp-clause-happens
 returns-in-GiveUp-clause-happens g c =
     let old = c.args.self.now in
-    let m = left_of old in
+    let m = live_of old in
     let clock : ℕ = c.args.clock in
     let used : Use = (kept_by old).uses c.args.number in
     let parts : LockOf used c.args.op = locks_by used c.args.op c.requires.locking in
@@ -39,7 +39,7 @@ returns-in-GiveUp-clause-happens g c =
 pub returns-in-AskThenGiveUp-clause-happens : goal.returns-in-AskThenGiveUp-clause-happens
 returns-in-AskThenGiveUp-clause-happens g c =
     let old = c.args.self.now in
-    let m = left_of old in
+    let m = live_of old in
     let clock : ℕ = c.args.clock in
     let used : Use = (kept_by old).uses c.args.number in
     let parts : LockOf used c.args.op = locks_by used c.args.op c.requires.locking in
@@ -48,12 +48,12 @@ returns-in-AskThenGiveUp-clause-happens g c =
     let leads = goes_on m c.args.number c.args.op parts.update parts.first parts.st (kept_by old) granted used parts.is
     (c.steps_go_by_outlook.ensures m c.args.number c.args.op parts.update parts.first parts.st (kept_by old) granted would) c.outlook.result c.outlook.ensures in
     let looks = ap (outlook_of m granted) (sym parts.is) ∙ (sym c.outlook.ensures ∙ c.in-AskThenGiveUp.is) in
-    subst (λ (turn : NodeTurn). IfOk c.stop_asking-in-AskThenGiveUp.result (λ done. Happens (names_of old) (at_clock clock turn) done (state_of c.stop_asking-in-AskThenGiveUp.new.self) (answers_of old) (answers_of c.stop_asking-in-AskThenGiveUp.new.self))) (sym (leads outlook.AskThenGiveUp c.in-AskThenGiveUp.is ∙ gives_up_then (left_of old) (own_apart old.opens) c.args.number c.args.op parts.update parts.first parts.st (kept_by old) granted would looks)) (c.stop_asking-in-AskThenGiveUp.ensures.happens c.args.op parts.update parts.first parts.st parts.is)
+    subst (λ (turn : NodeTurn). IfOk c.stop_asking-in-AskThenGiveUp.result (λ done. Happens (names_of old) (at_clock clock turn) done (state_of c.stop_asking-in-AskThenGiveUp.new.self) (answers_of old) (answers_of c.stop_asking-in-AskThenGiveUp.new.self))) (sym (leads outlook.AskThenGiveUp c.in-AskThenGiveUp.is ∙ gives_up_then (live_of old) (own_apart old.opens) c.args.number c.args.op parts.update parts.first parts.st (kept_by old) granted would looks)) (c.stop_asking-in-AskThenGiveUp.ensures.happens c.args.op parts.update parts.first parts.st parts.is)
 
 pub returns-in-Ask-clause-happens : goal.returns-in-Ask-clause-happens
 returns-in-Ask-clause-happens g c =
     let old = c.args.self.now in
-    let m = left_of old in
+    let m = live_of old in
     let clock : ℕ = c.args.clock in
     let used : Use = (kept_by old).uses c.args.number in
     let parts : LockOf used c.args.op = locks_by used c.args.op c.requires.locking in
@@ -66,7 +66,7 @@ returns-in-Ask-clause-happens g c =
 pub returns-then-has_peer-clause-happens : goal.returns-then-has_peer-clause-happens
 returns-then-has_peer-clause-happens g c =
     let old = c.args.self.now in
-    let m = left_of old in
+    let m = live_of old in
     let clock : ℕ = c.args.clock in
     let used : Use = (kept_by old).uses c.args.number in
     let parts : LockOf used c.args.op = locks_by used c.args.op c.requires.locking in
@@ -76,12 +76,12 @@ returns-then-has_peer-clause-happens g c =
     (c.steps_go_by_outlook.ensures m c.args.number c.args.op parts.update parts.first parts.st (kept_by old) granted would) c.outlook.result c.outlook.ensures in
     let looks = ap (outlook_of m granted) (sym parts.is) ∙ (sym c.outlook.ensures ∙ c.in-Begin.is) in
     let peer = c.has_peer.ensures.some c.if-has_peer.true in
-    subst (λ (turn : NodeTurn). IfOk c.begin.result (λ done. Happens (names_of old) (at_clock clock turn) done (state_of c.begin.new.self) (answers_of old) (answers_of c.begin.new.self))) (sym (leads outlook.Begin c.in-Begin.is ∙ begins_then (left_of old) (own_apart old.opens) c.args.number c.args.op parts.update parts.first parts.st (kept_by old) granted would looks peer.0 peer.1)) (c.begin.ensures.happens parts.update parts.first parts.st parts.is)
+    subst (λ (turn : NodeTurn). IfOk c.begin.result (λ done. Happens (names_of old) (at_clock clock turn) done (state_of c.begin.new.self) (answers_of old) (answers_of c.begin.new.self))) (sym (leads outlook.Begin c.in-Begin.is ∙ begins_then (live_of old) (own_apart old.opens) c.args.number c.args.op parts.update parts.first parts.st (kept_by old) granted would looks peer.0 peer.1)) (c.begin.ensures.happens parts.update parts.first parts.st parts.is)
 
 pub returns-else-has_peer-clause-happens : goal.returns-else-has_peer-clause-happens
 returns-else-has_peer-clause-happens g c =
     let old = c.args.self.now in
-    let m = left_of old in
+    let m = live_of old in
     let clock : ℕ = c.args.clock in
     let used : Use = (kept_by old).uses c.args.number in
     let parts : LockOf used c.args.op = locks_by used c.args.op c.requires.locking in

@@ -6,7 +6,7 @@ use Rattle.pg_group.specs.Value.{count_in}
 use Rattle.pg_machine.specs.Clocked.{Timed}
 use Rattle.std.proofs.lemmas.Bool.{eq-eqb}
 use Rattle.pg_opens.specs.declared.opens.Opens.{Opens}
-use Rattle.pg_opens.specs.Opens.{Shows, names_of as opens_names, left_of as left_in}
+use Rattle.pg_opens.specs.Opens.{Shows, names_of as opens_names, live_of as live_in}
 use Rattle.pg_opens.specs.Opens.{lost_of, references_of, uses_of, opened_of, stages_of}
 use Rattle.pg_opens.specs.Readings.{standing_of}
 use Rattle.pg_opens.specs.TakenBack.{command_taken_back}
@@ -22,14 +22,14 @@ use Rattle.pg_step.specs.Step.{at_clock}
 use Rattle.pg_step.specs.Turns.{NodeTurn}
 use Rattle.pg_node_state.specs.Issued.{counted_at}
 use Rattle.pg_node_state.specs.Ports.{merged_in, counts_in, answers_in, CameIn}
-use Rattle.pg_node_state.specs.States.{names_of, left_of, kept_by, state_of, answers_of, Happens}
+use Rattle.pg_node_state.specs.States.{names_of, live_of, kept_by, state_of, answers_of, Happens}
 use Rattle.pg_node_state.proofs.Answered.{counts_within, given_later, next_came, next_closed}
 use Rattle.pg_node_state.proofs.Coming.{on_err}
 use Rattle.pg_node_state.proofs.Given.{given_stage, given_ports}
 use Rattle.pg_node_state.proofs.Kept.{shows, assembled, assembled_state, happens_as}
 use Rattle.pg_node_state.proofs.Opened.{counted_state, opened_state, shows_counted, shows_undone}
 use Rattle.pg_node_state.proofs.Steady.{peers_stay, own_stays, merged_stay}
-use Rattle.pg_node_state.proofs.Steady.{lost_stay, made_stay, given_stay, left_stays}
+use Rattle.pg_node_state.proofs.Steady.{lost_stay, made_stay, given_stay, live_stays}
 use Rattle.pg_node_state.proofs.Turned.{update_is}
 use Rattle.pg_node_state.proofs.state.NodeState.open.Goals as goal
 
@@ -123,11 +123,11 @@ returns-in-Ok-clause-happens g c = λ update0 asked.
     let turned : Shows new s = c.add.ensures.turned (counted_state port (kept_by old)) (shows_counted c.prepared.new.opens port (kept_by old) (c.prepared.ensures.same (kept_by old) (shows old))) in
     let whole = assembled_state s new (kept_by old).table (kept_by old).ended (kept_by old).locks (merged_in (opens_names new) old.formation) (kept_by old).processes (counts_in c.count.new.ports.items)
     turned refl refl refl (merged_stay old.opens new s turned nodes old.formation) refl c.count.ensures.counts in
-    let left = left_stays old.opens new s turned nodes refl in
+    let left = live_stays old.opens new s turned nodes refl in
     let waits = ap (λ (stages : OpId → Stage). stages op) (sym turned.stages) ∙ upd_at same_op (kept_by old).stages op (Waiting update) (op_same op) in
     let next : OpId = record { port = port; number = counts_in old.ports.items port + 1 } in
     let same : update ≡ update0 = update_is update update0 (sym c.in_ok-update.ensures.update ∙ asked) in
-    let turns : NodeTurn = attempt (left_of old) next update0 (opened_state port next update0 (kept_by old)) in
+    let turns : NodeTurn = attempt (live_of old) next update0 (opened_state port next update0 (kept_by old)) in
     let kept : State = record {
       table = (kept_by old).table;
       ended = (kept_by old).ended;
@@ -142,8 +142,8 @@ returns-in-Ok-clause-happens g c = λ update0 asked.
       counts = counts_in c.count.new.ports.items;
     } in
     subst (λ (before : ℕ → List Answer). Happens names (at_clock c.args.clock turns) c.in-Ok.done (state_of c.attempt.new.self) before (answers_of c.attempt.new.self)) c.count.ensures.answers
-    (happens_as names (opens_names new) c.args.clock turns (attempt (left_in new) op update kept) c.in-Ok.done (state_of c.attempt.new.self) (answers_in c.count.new.ports.items) (answers_of c.attempt.new.self) nodes
-    (ap (λ (t : State). attempt (left_in new) op update t) whole ∙ (λ i. attempt (left i) (c.next_op-op.ensures i) (same i) (opened_state port (c.next_op-op.ensures i) (same i) (kept_by old))))
+    (happens_as names (opens_names new) c.args.clock turns (attempt (live_in new) op update kept) c.in-Ok.done (state_of c.attempt.new.self) (answers_in c.count.new.ports.items) (answers_of c.attempt.new.self) nodes
+    (ap (λ (t : State). attempt (live_in new) op update t) whole ∙ (λ i. attempt (left i) (c.next_op-op.ensures i) (same i) (opened_state port (c.next_op-op.ensures i) (same i) (kept_by old))))
     (c.in-Ok.ensures.happens update waits))
 
 pub take_back-requires : goal.take_back-requires

@@ -9,7 +9,7 @@ use Rattle.pg_step.specs.State.{State}
 use Rattle.pg_step.specs.State.Use.{Spent}
 use Rattle.pg_step.specs.State.Stage.{Waiting}
 use Rattle.pg_node_state.specs.Ports.{merged_in, counts_in}
-use Rattle.pg_node_state.specs.States.{left_of, kept_by}
+use Rattle.pg_node_state.specs.States.{live_of, kept_by}
 use Rattle.pg_node_state.proofs.Given.{given_use, given_stage, of_none, locking_came, gathered_named}
 use Rattle.pg_node_state.proofs.Kept.{shows, assembled}
 use Rattle.pg_node_state.proofs.Steady.{peers_stay, own_stays, merged_stay, lost_stay, made_stay, given_stay}
@@ -20,7 +20,7 @@ pub invariant_of-self-2 : goal.invariant_of-self-2
 invariant_of-self-2 g c =
     let old = c.args.self.now in
     let parts : LockParts ((kept_by old).uses c.args.number) = parts_by ((kept_by old).uses c.args.number) c.requires.locking in
-    let s : State = (give_up (left_of old) c.args.number parts.op parts.update parts.st (kept_by old)).state in
+    let s : State = (give_up (live_of old) c.args.number parts.op parts.update parts.st (kept_by old)).state in
     let new = c.give_up.new.self in
     let turned : Shows new s = c.give_up.ensures.turned parts.op parts.update parts.first parts.st parts.is (kept_by old) (shows old) in
     let nodes = c.give_up.ensures.nodes in
@@ -40,7 +40,7 @@ pub returns-clause-happens : goal.returns-clause-happens
 returns-clause-happens g c = λ op update first st is.
     let old = c.args.self.now in
     let new = c.give_up.new.self in
-    let t : State = (give_up (left_of old) c.args.number op update st (kept_by old)).state in
+    let t : State = (give_up (live_of old) c.args.number op update st (kept_by old)).state in
     let turned : Shows new t = c.give_up.ensures.turned op update first st is (kept_by old) (shows old) in
     let name = c.name-name.ensures ∙ ap name_of (update_is c.update_under.result.now update (sym c.update_under.ensures ∙ ap update_of is)) in
     let lock = c.own_under-lock.ensures in

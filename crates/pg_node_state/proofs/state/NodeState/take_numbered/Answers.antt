@@ -10,7 +10,7 @@ use Rattle.pg_step.specs.Nodes.{Node, Nodes}
 use Rattle.pg_step.specs.State.{Use}
 use Rattle.pg_step.specs.Turns.{NodeTurn}
 use Rattle.pg_node_state.specs.declared.state.fault.NodeFault.TheVariants.{OutOfMemory}
-use Rattle.pg_node_state.specs.States.{names_of, left_of, kept_by, state_of, answers_of, is_counted, ComesAt}
+use Rattle.pg_node_state.specs.States.{names_of, live_of, kept_by, state_of, answers_of, is_counted, ComesAt}
 use Rattle.pg_opens.proofs.Named.{clash}
 use Rattle.pg_node_state.proofs.Replied.{read_numbered, leads, number_is, use_is}
 use Rattle.pg_node_state.proofs.state.NodeState.take_numbered.Goals as goal
@@ -18,7 +18,7 @@ use Rattle.pg_node_state.proofs.state.NodeState.take_numbered.Goals as goal
 pub returns-in-Stranger-clause-comes : goal.returns-in-Stranger-clause-comes
 returns-in-Stranger-clause-comes g c =
     let old = c.args.self.now in
-    let m : Nodes = left_of old in
+    let m : Nodes = live_of old in
     let p : Node = name_at (names_of old) (c.args.peer + 1) in
     let n : ℕ = c.args.number in
     let reference : RefParts = numbered m.own n in
@@ -30,7 +30,7 @@ returns-in-Stranger-clause-comes g c =
 pub returns-in-Double-clause-comes : goal.returns-in-Double-clause-comes
 returns-in-Double-clause-comes g c =
     let old = c.args.self.now in
-    let m : Nodes = left_of old in
+    let m : Nodes = live_of old in
     let p : Node = name_at (names_of old) (c.args.peer + 1) in
     let n : ℕ = c.args.number in
     let reference : RefParts = numbered m.own n in
@@ -42,7 +42,7 @@ returns-in-Double-clause-comes g c =
 pub returns-in-Ok-clause-comes : goal.returns-in-Ok-clause-comes
 returns-in-Ok-clause-comes g c =
     let old = c.args.self.now in
-    let m : Nodes = left_of old in
+    let m : Nodes = live_of old in
     let p : Node = name_at (names_of old) (c.args.peer + 1) in
     let n : ℕ = c.args.number in
     let reference : RefParts = numbered m.own n in
@@ -54,7 +54,7 @@ returns-in-Ok-clause-comes g c =
 pub returns-in-Err-clause-comes : goal.returns-in-Err-clause-comes
 returns-in-Err-clause-comes g c =
     let old = c.args.self.now in
-    let m : Nodes = left_of old in
+    let m : Nodes = live_of old in
     let p : Node = name_at (names_of old) (c.args.peer + 1) in
     let n : ℕ = c.args.number in
     let reference : RefParts = numbered m.own n in
@@ -66,7 +66,7 @@ returns-in-Err-clause-comes g c =
 pub returns-in-Err-clause-light : goal.returns-in-Err-clause-light
 returns-in-Err-clause-light g c = λ light is.
     let old = c.args.self.now in
-    let m : Nodes = left_of old in
+    let m : Nodes = live_of old in
     let p : Node = name_at (names_of old) (c.args.peer + 1) in
     let n : ℕ = c.args.number in
     let reference : RefParts = numbered m.own n in

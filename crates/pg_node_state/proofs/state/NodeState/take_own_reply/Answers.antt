@@ -7,7 +7,7 @@ use Rattle.pg_opens.specs.Opens.{lost_of}
 use Rattle.pg_step.specs.Nodes.{Node}
 use Rattle.pg_step.specs.Attempts.{reply_taken}
 use Rattle.pg_step.specs.Step.{CLOCK_LIMIT}
-use Rattle.pg_node_state.specs.States.{names_of, nodes_of, left_of, kept_by, state_of, answers_of}
+use Rattle.pg_node_state.specs.States.{names_of, nodes_of, live_of, kept_by, state_of, answers_of}
 use Rattle.pg_node_state.proofs.Coming.{comes_at}
 use Rattle.pg_node_state.proofs.state.NodeState.take_own_reply.Goals as goal
 
@@ -25,7 +25,7 @@ returns-clause-event g c =
     let here : lost_of old.opens p ≡ false = sym c.is_lost.ensures ∙ c.if-is_lost.false in
     let later : clock ≡ max old.clock c.args.stamp + 1 = omega (arith, c.max-latest.ensures) in
     let within : clock ≤ CLOCK_LIMIT = omega (arith, c.if-latest-ge-MAX_STAMP.false) in
-    comes_at (nodes_of old) p (record { stamp = c.args.stamp; packet = Reply reference c.args.said }) (state_of old) clock here later within names (reply_taken (left_of old) p reference c.args.said (kept_by old)) c.take_numbered.result (state_of c.take_numbered.new.self) (answers_of old) (answers_of c.take_numbered.new.self)
+    comes_at (nodes_of old) p (record { stamp = c.args.stamp; packet = Reply reference c.args.said }) (state_of old) clock here later within names (reply_taken (live_of old) p reference c.args.said (kept_by old)) c.take_numbered.result (state_of c.take_numbered.new.self) (answers_of old) (answers_of c.take_numbered.new.self)
     refl c.take_numbered.ensures.comes
 
 pub returns-clause-light : goal.returns-clause-light

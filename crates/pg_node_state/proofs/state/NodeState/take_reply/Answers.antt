@@ -9,14 +9,14 @@ use Rattle.pg_step.specs.Attempts.{gathered, use_of, reply_taken}
 use Rattle.pg_step.specs.Nodes.{Node, Nodes}
 use Rattle.pg_step.specs.Turns.{NodeTurn}
 use Rattle.pg_node_state.specs.declared.state.fault.NodeFault.TheVariants.{OutOfMemory}
-use Rattle.pg_node_state.specs.States.{names_of, left_of, kept_by, state_of, answers_of, is_counted, ComesAt}
+use Rattle.pg_node_state.specs.States.{names_of, live_of, kept_by, state_of, answers_of, is_counted, ComesAt}
 use Rattle.pg_node_state.proofs.Replied.{fresh_beyond, no_number, reference_is}
 use Rattle.pg_node_state.proofs.state.NodeState.take_reply.Goals as goal
 
 pub returns-in-None-clause-comes : goal.returns-in-None-clause-comes
 returns-in-None-clause-comes g c =
     let old = c.args.self.now in
-    let m : Nodes = left_of old in
+    let m : Nodes = live_of old in
     let p : Node = name_at (names_of old) (c.args.peer + 1) in
     let reference : RefParts = c.args.reference.now in
     let number : ℕ = number_in reference in
@@ -26,7 +26,7 @@ returns-in-None-clause-comes g c =
 pub returns-in-Some-clause-comes : goal.returns-in-Some-clause-comes
 returns-in-Some-clause-comes g c =
     let old = c.args.self.now in
-    let m : Nodes = left_of old in
+    let m : Nodes = live_of old in
     let p : Node = name_at (names_of old) (c.args.peer + 1) in
     let reference : RefParts = c.args.reference.now in
     let number : ℕ = number_in reference in
@@ -37,7 +37,7 @@ returns-in-Some-clause-comes g c =
 pub returns-in-Some-clause-light : goal.returns-in-Some-clause-light
 returns-in-Some-clause-light g c =
     let old = c.args.self.now in
-    let m : Nodes = left_of old in
+    let m : Nodes = live_of old in
     let p : Node = name_at (names_of old) (c.args.peer + 1) in
     let reference : RefParts = c.args.reference.now in
     let number : ℕ = number_in reference in

@@ -1,6 +1,6 @@
 use Rattle.std.proofs.Common.{◌++◌, ◌∷◌, [], List, sym, ap, subst, refl, ◌∙◌, arith, take_all}
 use Rattle.pg_step.specs.declared.command.OpId.{OpId}
-use Rattle.pg_node_state.specs.States.{left_of, kept_by}
+use Rattle.pg_node_state.specs.States.{live_of, kept_by}
 use Rattle.pg_node_state.specs.Waiting.{AreWaiting, waiting_of, ops_of}
 use Rattle.pg_node_state.proofs.Kept.{shows}
 use Rattle.pg_node_state.proofs.Waits.{one_waits, none_waits, all_waiting}
@@ -10,7 +10,7 @@ use Rattle.pg_node_state.proofs.state.NodeState.waiting.Goals.{then-waits+in_ok-
 pub loop-place-preserved : goal.loop-place-preserved
 loop-place-preserved g c =
     let node = c.args.self.now in
-    let m = left_of node in
+    let m = live_of node in
     let s = kept_by node in
     let ops = ops_of node in
     let place = c.loop-place.place in
@@ -25,7 +25,7 @@ loop-place-preserved g c =
 pub returns : goal.returns
 returns g c =
     let node = c.args.self.now in
-    let m = left_of node in
+    let m = live_of node in
     let s = kept_by node in
     let count = c.has_each_once.ensures.count in
     let e = c.open_count-place-end.ensures in let f = c.loop-place.auto.place-end in let h = c.loop-place-test.false in

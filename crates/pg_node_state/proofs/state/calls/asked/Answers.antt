@@ -3,7 +3,7 @@ use Rattle.pg_group.specs.Value.{name_of}
 use Rattle.pg_machine.specs.Clocked.{stamped}
 use Rattle.pg_message.specs.declared.message.Message.TheVariants as messages
 use Rattle.pg_message.specs.declared.message.Request.TheVariants as requests
-use Rattle.pg_opens.specs.Opens.{left_of, names_of}
+use Rattle.pg_opens.specs.Opens.{live_of, names_of}
 use Rattle.pg_opens.specs.Readings.{update_of}
 use Rattle.pg_step.specs.Attempts.{asks}
 use Rattle.pg_step.specs.Nodes.{to_peers}
@@ -18,4 +18,4 @@ returns-clause-sends c =
     let changed : c.update_under-update.result.now ≡ update = update_is c.update_under-update.result.now update (sym c.update_under-update.ensures ∙ ap update_of is) in
     let lock = c.own_under.ensures in
     ap (sends_in (names_of opens)) c.done_with.ensures.sends ∙ (c.in_ok-sends.ensures.sends op update first st is
-    ∙ (λ i q. stamped c.args.clock (to_peers (left_of opens) (asks (λ p. true) st) (messages.Call (lock i) (requests.SetLock ((c.name.ensures ∙ ap name_of changed) i))) q)))
+    ∙ (λ i q. stamped c.args.clock (to_peers (live_of opens) (asks (λ p. true) st) (messages.Call (lock i) (requests.SetLock ((c.name.ensures ∙ ap name_of changed) i))) q)))

@@ -2,7 +2,7 @@ use Rattle.std.proofs.Common.{◌≡◌, ◌∙◌, ◌+◌, true, sym, ap}
 use Rattle.pg_machine.specs.Clocked.{stamped}
 use Rattle.pg_message.specs.declared.message.Message.TheVariants as messages
 use Rattle.pg_message.specs.declared.message.Request.TheVariants as requests
-use Rattle.pg_opens.specs.Opens.{left_of, names_of}
+use Rattle.pg_opens.specs.Opens.{live_of, names_of}
 use Rattle.pg_opens.specs.Readings.{update_of}
 use Rattle.pg_step.specs.Attempts.{own_reference}
 use Rattle.pg_step.specs.Nodes.{to_peers}
@@ -15,6 +15,6 @@ returns-in-Ok-clause-sends c =
     let opens = c.args.opens.now in
     λ op update first st is.
     let changed : c.update_under-update.result.now ≡ update = update_is c.update_under-update.result.now update (sym c.update_under-update.ensures ∙ ap update_of is) in
-    let call = c.own_under-call.ensures ∙ ap (λ n. own_reference (left_of opens) (n + 1)) c.references.ensures in
+    let call = c.own_under-call.ensures ∙ ap (λ n. own_reference (live_of opens) (n + 1)) c.references.ensures in
     ap (sends_in (names_of opens)) c.done_with.ensures.sends ∙ (c.in_ok-sends.ensures.sends
-    ∙ (λ i q. stamped c.args.clock (to_peers (left_of opens) (λ p. true) (messages.Call (call i) (requests.Change (changed i))) q)))
+    ∙ (λ i q. stamped c.args.clock (to_peers (live_of opens) (λ p. true) (messages.Call (call i) (requests.Change (changed i))) q)))

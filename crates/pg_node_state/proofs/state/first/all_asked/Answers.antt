@@ -3,7 +3,7 @@ use Rattle.pg_group.specs.Value.{name_of}
 use Rattle.pg_machine.specs.Clocked.{stamped}
 use Rattle.pg_message.specs.declared.message.Message.TheVariants as messages
 use Rattle.pg_message.specs.declared.message.Request.TheVariants as requests
-use Rattle.pg_opens.specs.Opens.{names_of, left_of}
+use Rattle.pg_opens.specs.Opens.{names_of, live_of}
 use Rattle.pg_step.specs.Attempts.{own_reference}
 use Rattle.pg_step.specs.Nodes.{to_peers}
 use Rattle.pg_node_state.specs.States.{sends_in}
@@ -15,6 +15,6 @@ returns-clause-sends c =
     let opens = c.args.opens.now in
     λ update is.
     let name = c.name-name.ensures ∙ ap name_of (same_update c.waiting_under.result.now update (sym c.waiting_under.ensures ∙ is)) in
-    let lock = c.own_under-lock.ensures ∙ ap (λ n. own_reference (left_of opens) (n + 1)) c.references.ensures in
+    let lock = c.own_under-lock.ensures ∙ ap (λ n. own_reference (live_of opens) (n + 1)) c.references.ensures in
     ap (sends_in (names_of opens)) c.done_with.ensures.sends ∙ (c.in_ok-sends.ensures.sends
-    ∙ (λ i q. stamped c.args.clock (to_peers (left_of opens) (λ p. true) (messages.Call (lock i) (requests.SetLock (name i))) q)))
+    ∙ (λ i q. stamped c.args.clock (to_peers (live_of opens) (λ p. true) (messages.Call (lock i) (requests.SetLock (name i))) q)))

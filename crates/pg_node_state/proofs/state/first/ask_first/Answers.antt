@@ -4,7 +4,7 @@ use Rattle.pg_term.specs.Same.{same_atom}
 use Rattle.pg_group.specs.Value.{name_of}
 use Rattle.pg_group.proofs.Changes.{upd_at}
 use Rattle.std.proofs.lemmas.Bool.{eq-eqb}
-use Rattle.pg_opens.specs.Opens.{Shows, names_of, left_of, uses_of, stages_of, references_of}
+use Rattle.pg_opens.specs.Opens.{Shows, names_of, live_of, uses_of, stages_of, references_of}
 use Rattle.pg_opens.specs.Places.{name_at}
 use Rattle.pg_opens.specs.Marks.{whom}
 use Rattle.pg_opens.specs.declared.mark.Asked.TheVariants.{One}
@@ -17,7 +17,7 @@ use Rattle.pg_step.specs.State.Status.{Unasked}
 use Rattle.pg_step.specs.State.Use.{Locking}
 use Rattle.pg_node_state.proofs.First.{WaitsWith, waits_with}
 use Rattle.pg_node_state.proofs.Kept.{shown, shows_it}
-use Rattle.pg_node_state.proofs.Steady.{left_stays}
+use Rattle.pg_node_state.proofs.Steady.{live_stays}
 use Rattle.pg_node_state.proofs.state.first.ask_first.Goals as goal
 
 pub ask-requires : goal.ask-requires
@@ -40,7 +40,7 @@ pub returns-clause-turned : goal.returns-clause-turned
 returns-clause-turned c = λ update is s h would.
     let old = c.args.opens.now in
     let new = c.start.new.self in
-    let m : Nodes = left_of old in
+    let m : Nodes = live_of old in
     let first : Node = greatest m in
     let s1 : State = (new_attempt first c.args.op update s).state in
     let begun : Shows new s1 = subst (λ (q : Node). Shows new (new_attempt q c.args.op update s).state) c.requires.greatest (c.start.ensures.turned update is s h) in
@@ -48,10 +48,10 @@ returns-clause-turned c = λ update is s h would.
     let number : c.references-number.result ≡ lock = c.references-number.ensures ∙ sym begun.references in
     let used : uses_of new c.references-number.result ≡ Locking c.args.op update first (λ q. Unasked) =
     ap (λ n. uses_of new n) number ∙ (ap (λ (f : ℕ → Use). f lock) (sym begun.uses) ∙ upd_at nat_eq s.uses lock (Locking c.args.op update first (λ q. Unasked)) (eq-eqb lock lock refl)) in
-    let same : left_of new ≡ m = left_stays old new s1 begun c.start.ensures.nodes h.lost_peers in
+    let same : live_of new ≡ m = live_stays old new s1 begun c.start.ensures.nodes h.lost_peers in
     let who : whom (names_of new) (One c.args.first) ≡ same_atom first = (λ i. same_atom ((ap (λ (ns : List Node). name_at ns c.args.first) c.start.ensures.nodes ∙ c.requires.greatest) i)) in
-    let asked : Shows c.ask.new.self (ask (left_of new) (whom (names_of new) (One c.args.first)) c.references-number.result c.args.op update first (λ q. Unasked) s1).state =
+    let asked : Shows c.ask.new.self (ask (live_of new) (whom (names_of new) (One c.args.first)) c.references-number.result c.args.op update first (λ q. Unasked) s1).state =
     c.ask.ensures.turned c.args.op update first (λ q. Unasked) used s1 begun (ap (λ (n : Nodes). would_grant n s1 (name_of update)) same ∙ would) in
     subst (λ (n : Nodes). Shows c.ask.new.self (ask n (same_atom first) lock c.args.op update first (λ q. Unasked) s1).state) same
-    (subst (λ (w : Node → Bool). Shows c.ask.new.self (ask (left_of new) w lock c.args.op update first (λ q. Unasked) s1).state) who
-    (subst (λ (n : ℕ). Shows c.ask.new.self (ask (left_of new) (whom (names_of new) (One c.args.first)) n c.args.op update first (λ q. Unasked) s1).state) number asked))
+    (subst (λ (w : Node → Bool). Shows c.ask.new.self (ask (live_of new) w lock c.args.op update first (λ q. Unasked) s1).state) who
+    (subst (λ (n : ℕ). Shows c.ask.new.self (ask (live_of new) (whom (names_of new) (One c.args.first)) n c.args.op update first (λ q. Unasked) s1).state) number asked))

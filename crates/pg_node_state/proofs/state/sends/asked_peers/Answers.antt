@@ -1,7 +1,7 @@
 use Rattle.std.proofs.Common.{◌≤◌, ◌-◌, ◌&&◌, true, length, arith}
 use Rattle.pg_step.specs.Nodes.{is_peer}
 use Rattle.pg_step.specs.Attempts.{asks}
-use Rattle.pg_opens.specs.Opens.{names_of, left_of}
+use Rattle.pg_opens.specs.Opens.{names_of, live_of}
 use Rattle.pg_node_state.proofs.Sent.{marks_say, one_mark}
 use Rattle.pg_node_state.proofs.state.sends.asked_peers.Goals as goal
 
@@ -14,5 +14,5 @@ returns c =
 pub loop-place-preserved : goal.loop-place-preserved
 loop-place-preserved c = λ op update first st is.
     let opens = c.args.opens.now in
-    one_mark (λ q. is_peer (left_of opens) q && asks (λ q. true) st q) (names_of opens) c.loop-place.goes c.with_or_without-goes.result (c.loop-place.place - 1) c.loop-place.place c.is_asked_by-asks.result
+    one_mark (λ q. is_peer (live_of opens) q && asks (λ q. true) st q) (names_of opens) c.loop-place.goes c.with_or_without-goes.result (c.loop-place.place - 1) c.loop-place.place c.is_asked_by-asks.result
     (omega (arith, c.loop-place.auto.place)) (c.is_asked_by-asks.ensures.peer op update first st is (omega (arith, c.loop-place.auto.place))) c.with_or_without-goes.ensures (c.loop-place.invariant op update first st is)

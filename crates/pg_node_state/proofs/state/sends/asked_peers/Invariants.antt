@@ -5,10 +5,10 @@ use Rattle.pg_step.specs.Nodes.{Node, is_peer}
 use Rattle.pg_step.specs.State.{Status}
 use Rattle.pg_step.specs.State.Use.{Locking}
 use Rattle.pg_step.specs.Attempts.{asks}
-use Rattle.pg_opens.specs.Opens.{names_of, left_of, uses_of}
+use Rattle.pg_opens.specs.Opens.{names_of, live_of, uses_of}
 use Rattle.pg_node_state.proofs.Sent.{AreMarks}
 use Rattle.pg_node_state.proofs.state.sends.asked_peers.Given as goal
 
 abbrev pub invariant-loop-place : goal.invariant-loop-place
 invariant-loop-place l = (op : OpId) (update : Update) (first : Node) (st : Node → Status) → uses_of l.opens l.number ≡ Locking op update first st
-    → AreMarks (λ q. is_peer (left_of l.opens) q && asks (λ q. true) st q) (names_of l.opens) l.goes l.place
+    → AreMarks (λ q. is_peer (live_of l.opens) q && asks (λ q. true) st q) (names_of l.opens) l.goes l.place

@@ -1,12 +1,12 @@
 use Rattle.std.proofs.Common.{refl, sym, ap, false, ◌∙◌}
 use Rattle.pg_step.specs.Attempts.{is_complete}
-use Rattle.pg_opens.specs.Places.{left_in}
+use Rattle.pg_opens.specs.Places.{live_in}
 use Rattle.pg_opens.specs.Readings.{complete_in}
 use Rattle.pg_opens.proofs.Found.{nothing_of, stands, complete_here}
 use Rattle.pg_opens.proofs.opens.Opens.is_complete.Goals as goal
 
 pub returns-in-None : goal.returns-in-None
-returns-in-None c = sym (nothing_of (is_complete (left_in c.args.self.now.names.items c.args.self.now.lost.items)) false _ _ _ _ c.args.number c.deref.ensures.value c.in-None.ensures.none refl refl)
+returns-in-None c = sym (nothing_of (is_complete (live_in c.args.self.now.names.items c.args.self.now.lost.items)) false _ _ _ _ c.args.number c.deref.ensures.value c.in-None.ensures.none refl refl)
 
 pub returns-in-Some : goal.returns-in-Some
 returns-in-Some c = c.is_complete.ensures

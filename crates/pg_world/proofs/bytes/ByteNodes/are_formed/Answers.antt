@@ -3,7 +3,7 @@ use Rattle.std.specs.List.{list_all}
 use Rattle.pg_group.specs.declared.table.GroupTable.{Ghosts}
 use Rattle.pg_node.specs.declared.node.Node.{Node}
 use Rattle.pg_node_state.specs.declared.state.NodeState.{NodeState}
-use Rattle.pg_node_state.specs.States.{kept_by, left_of}
+use Rattle.pg_node_state.specs.States.{kept_by, live_of}
 use Rattle.pg_step.specs.State.{formed}
 use Rattle.pg_frame_world.specs.Losing.{is_formed}
 use Rattle.pg_world.specs.Crossings.{node_of}
@@ -23,7 +23,7 @@ returns-then-not-formed g c =
     let nodes = c.args.self.now.nodes.items in
     let all = c.deref-over-items.ensures.value in
     let k = c.loop-over.over-index in
-    let told = c.if-not-formed.ensures ∙ ap (λ (s : NodeState _ _). formed (left_of s) (kept_by s)) c.state.ensures in
+    let told = c.if-not-formed.ensures ∙ ap (λ (s : NodeState _ _). formed (live_of s) (kept_by s)) c.state.ensures in
     ap (λ b. b && list_all is_formed (map node_of (drop (k + 1) nodes))) told
     ∙ (sym (from_one nodes k c.over-item.result (subst (λ (ns : List (Node _ _)). k < length ns) all c.loop-over-test.true)
     (c.over-item.is ∙ ap (λ (ns : List (Node _ _)). get_or ns k c.over-item.result) all)) ∙ c.loop-over.invariant)
@@ -33,7 +33,7 @@ loop-over-preserved g c =
     let nodes = c.args.self.now.nodes.items in
     let all = c.deref-over-items.ensures.value in
     let k = c.loop-over.over-index in
-    let told = sym c.if-not-formed.false ∙ (c.formed.ensures ∙ ap (λ (s : NodeState _ _). formed (left_of s) (kept_by s)) c.state.ensures) in
+    let told = sym c.if-not-formed.false ∙ (c.formed.ensures ∙ ap (λ (s : NodeState _ _). formed (live_of s) (kept_by s)) c.state.ensures) in
     ap (λ b. b && list_all is_formed (map node_of (drop (k + 1) nodes))) told
     ∙ (sym (from_one nodes k c.over-item.result (subst (λ (ns : List (Node _ _)). k < length ns) all c.loop-over-test.true)
     (c.over-item.is ∙ ap (λ (ns : List (Node _ _)). get_or ns k c.over-item.result) all)) ∙ c.loop-over.invariant)

@@ -1,7 +1,7 @@
 use Rattle.std.proofs.Common.{◌≤◌, true, length, arith}
 use Rattle.pg_opens.specs.Opens.{names_of}
 use Rattle.pg_node_state.proofs.Sent.{marks_say}
-use Rattle.pg_node_state.proofs.state.sends.left_peers.Goals as goal
+use Rattle.pg_node_state.proofs.state.sends.live_peers.Goals as goal
 
 pub returns : goal.returns
 returns c =

@@ -2,11 +2,11 @@ use Rattle.std.proofs.Common.{[], ◌∷◌, ◌++◌, ◌<◌, ◌∙◌, ap, a
 use Rattle.std.proofs.lemmas.List.{length-map, map-append}
 use Rattle.pg_world.specs.Crossings.{node_of}
 use Rattle.pg_account.specs.Losses.{lost_in}
-use Rattle.pg_frame_world.specs.Pending.{left_from, lent_as}
+use Rattle.pg_frame_world.specs.Pending.{live_from, lent_as}
 use Rattle.pg_starts.specs.Seen.{seen_of}
 use Rattle.pg_frame_world.proofs.Listed.{next_left, next_lost}
-use Rattle.pg_world.proofs.bytes.ByteNodes.nodes_left.Goals as goal
-use Rattle.pg_world.proofs.bytes.ByteNodes.nodes_left.Goals.{then-not-has+in_ok-push, else-not-has}
+use Rattle.pg_world.proofs.bytes.ByteNodes.live_states.Goals as goal
+use Rattle.pg_world.proofs.bytes.ByteNodes.live_states.Goals.{then-not-has+in_ok-push, else-not-has}
 
 pub loop-place-init : goal.loop-place-init
 loop-place-init g c = ap lent_as c.new-left.ensures.items
@@ -36,4 +36,4 @@ returns g c =
     let end = c.len-place-end.ensures in
     let ok = c.args.self.now.nodes.ok in
     let many = length-map nodes node_of in
-    c.loop-place.invariant ∙ ap (λ all. left_from 0 all (lost_in c.args.self.now.losses)) (take_all c.loop-place.place (map node_of nodes) (omega (arith, e, f, end, ok, many)))
+    c.loop-place.invariant ∙ ap (λ all. live_from 0 all (lost_in c.args.self.now.losses)) (take_all c.loop-place.place (map node_of nodes) (omega (arith, e, f, end, ok, many)))
