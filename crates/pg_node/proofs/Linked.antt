@@ -8,6 +8,7 @@ use Rattle.std.proofs.Math.Path.{fun_ext}
 use Rattle.std.proofs.Math.Seq.{drop-cons}
 use Rattle.std.proofs.Math.Dec.{eqb-zero-suc, eqb-suc-zero, eqb-suc-suc}
 use Rattle.std.proofs.lemmas.Bool.{eqb-true, eq-eqb}
+use Rattle.std.proofs.lemmas.List.{length-set}
 use Rattle.pg_group.specs.Functions.{upd}
 use Rattle.pg_message.specs.declared.packet.Packet.{Packet}
 use Rattle.pg_writer.specs.declared.size.TheConstants.{MAX_SMALL_LEN}
@@ -81,6 +82,20 @@ room_more wires k new within room below place l = subst (λ n. 4 + MAX_SMALL_LEN
     go : (b : Bool) → (k ≡ place → b ≡ true) → 4 + MAX_SMALL_LEN ≤ cond b new.outbox.spare (room_in wires place)
     go true is = room
     go false is = below place (sooner (λ e. absurd (let f : false ≡ true = is e in cc)))
+
+-- the room stays where it does at a place that changes
+pub still_room : (wires : List Wire) (k : ℕ) (old new : Wire) → k < length wires → old ≡ get_or wires k old → old.outbox.spare ≤ new.outbox.spare → HaveRoom wires → HaveRoom (slice_set wires k new)
+still_room wires k old new within here more room place l = subst (λ n. 4 + MAX_SMALL_LEN ≤ n) (sym (part_set (λ wire. wire.outbox.spare) 0 wires k new within place)) (go (nat_eq k place))
+  where
+    its : 4 + MAX_SMALL_LEN ≤ old.outbox.spare
+    its = subst (λ n. 4 + MAX_SMALL_LEN ≤ n) (part_here (λ wire. wire.outbox.spare) 0 wires k old within here) (room k within)
+
+    same : length (slice_set wires k new) ≡ length wires
+    same = length-set wires k new
+
+    go : (b : Bool) → 4 + MAX_SMALL_LEN ≤ cond b new.outbox.spare (room_in wires place)
+    go true = omega (arith, its, more)
+    go false = room place (omega (arith, l, same))
 
 -- ---- packets that are sent
 

@@ -1,18 +1,13 @@
 -- The links of a node to its peers, by the places of the peers, and the frames that go out there.
-use Rattle.std.specs.Prelude.{◌≡◌, ◌≤◌, ◌+◌, ◌<◌, ℕ, zero, suc, nat_eq, cond}
-use Rattle.std.specs.Prelude.{Bool, false, List, [], ◌∷◌, ◌++◌, length, drop, Ok}
+use Rattle.std.specs.Prelude.{◌≡◌, ◌≤◌, ◌+◌, ◌<◌, ℕ, zero, suc, nat_eq}
+use Rattle.std.specs.Prelude.{Bool, false, List, [], ◌∷◌, ◌++◌, length, drop}
 use Rattle.std.specs.List.{AllByRecursion}
 use Rattle.pg_message.specs.declared.packet.Packet.{Packet}
-use Rattle.pg_message.specs.Reading.{packet_spelled}
 use Rattle.pg_group.specs.Functions.{upd}
 use Rattle.pg_writer.specs.declared.size.TheConstants.{MAX_SMALL_LEN}
-use Rattle.pg_message.specs.Writing.{term_of_packet, framed}
-use Rattle.pg_term_io.specs.Writing.{written}
-use Rattle.pg_step.specs.Nodes.{Node}
 use Rattle.pg_node.specs.declared.node.frame.Frame.{Frame}
 use Rattle.pg_node.specs.declared.node.wire.Wire.{Wire}
 use Rattle.pg_node_state.specs.Frames.{frame_of, IsSmallFrame}
-use Rattle.pg_node_state.specs.Sendable.{AreSendable}
 
 -- what stands in the link to a peer: the bytes that came in and were not taken, those that go out and were not put, and
 -- whether a fault was told of it

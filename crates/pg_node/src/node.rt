@@ -1,6 +1,7 @@
 //! One node over bytes: what came in from its peers, and what goes out to them.
 
-ghost use Rattle.std.specs.Prelude.{◌≡◌, ◌+◌, length};
+ghost use Rattle.std.specs.Prelude.{◌≡◌, ◌+◌, true, length};
+ghost use Rattle.pg_node.specs.Links.{HaveRoom};
 ghost use Rattle.pg_node_state.specs.States.{names_of as names_known};
 
 mod begun;
@@ -27,7 +28,10 @@ pub struct Node<T: GroupTable> {
     piece: Vec<u8>,
     // Where a frame is written that goes to several peers.
     frame: Frame,
+    // No event has taken of the room for a small frame since it was made in every outbox.
+    has_room: bool,
     alloc: Global,
     ghost linked: { length wires.items + 1 ≡ length (names_known state) },
     ghost passage: { length piece.items ≡ 65536 },
+    ghost room: { has_room ≡ true → HaveRoom wires.items },
 }

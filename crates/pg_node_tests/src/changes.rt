@@ -138,68 +138,20 @@ static CHANGES: &[Turn<'static>] = &[
 
 #[test]
 fn changes(rt: HostRuntime) {
-    check(
-        &rt,
-        rt.alloc(),
-        "a lone node answers at once, turn",
-        Kind::Lone,
-        LONE,
-    );
-    check(
-        &rt,
-        rt.alloc(),
-        "nodes are the same, turn",
-        Kind::Lone,
-        ALONE,
-    );
-    check(
-        &rt,
-        rt.alloc(),
-        "the same but for clocks, turn",
-        Kind::Formed(A),
-        ALIKE,
-    );
-    check(
-        &rt,
-        rt.alloc(),
-        "a denied lock asked again, turn",
-        Kind::Formed(A),
-        DENIED,
-    );
-    check(
-        &rt,
-        rt.alloc(),
-        "the process limit, turn",
-        Kind::Last,
-        LIMIT,
-    );
-    check(
-        &rt,
-        rt.alloc(),
-        "a pending end, turn",
-        Kind::Formed(B),
-        IS_LISTED,
-    );
-    check(
-        &rt,
-        rt.alloc(),
-        "refused commands, turn",
-        Kind::New(A),
-        COMMANDS,
-    );
-    check(
-        &rt,
-        rt.alloc(),
-        "a lost answer makes ready, turn",
-        Kind::Formed(A),
-        READY,
-    );
-    check(&rt, rt.alloc(), "a busy node, turn", Kind::Formed(A), BUSY);
-    check(
-        &rt,
-        rt.alloc(),
-        "refused changes, turn",
-        Kind::Formed(A),
-        CHANGES,
-    );
+    // What each list is about, the node that it is played at, and the list.
+    let lists: [(&str, Kind, &[Turn<'static>]); 10] = [
+        ("a lone node answers at once, turn", Kind::Lone, LONE),
+        ("nodes are the same, turn", Kind::Lone, ALONE),
+        ("the same but for clocks, turn", Kind::Formed(A), ALIKE),
+        ("a denied lock asked again, turn", Kind::Formed(A), DENIED),
+        ("the process limit, turn", Kind::Last, LIMIT),
+        ("a pending end, turn", Kind::Formed(B), IS_LISTED),
+        ("refused commands, turn", Kind::New(A), COMMANDS),
+        ("a lost answer makes ready, turn", Kind::Formed(A), READY),
+        ("a busy node, turn", Kind::Formed(A), BUSY),
+        ("refused changes, turn", Kind::Formed(A), CHANGES),
+    ];
+    for (of, kind, turns) in &lists {
+        check(&rt, rt.alloc(), of, *kind, turns);
+    }
 }

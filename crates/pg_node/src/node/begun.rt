@@ -87,6 +87,7 @@ impl<T: GroupTable + Drop> Node<T> {
             wires,
             piece,
             frame,
+            has_room: false,
             alloc,
         })
     }

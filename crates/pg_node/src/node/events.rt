@@ -159,13 +159,18 @@ impl<T: GroupTable + Drop> Node<T> {
         ensures names { names_of (held_by self.new) ≡ names_of (held_by self.old) }
         ensures ports { ports_of (held_by self.new) ≡ ports_of (held_by self.old) }
     {
-        match make_room(&mut self.wires) {
+        match make_room(&mut self.wires, &mut self.has_room) {
             Ok(()) => {}
             Err(AllocError) => return Err(NodeFault::OutOfMemory),
         }
         match self.state.take(peer, packet) {
             Ok(done) => {
-                send_all(&mut self.wires, &mut self.frame, done.sends.as_slice());
+                send_all(
+                    &mut self.wires,
+                    &mut self.has_room,
+                    &mut self.frame,
+                    done.sends.as_slice(),
+                );
                 let wire = &mut self.wires[peer];
                 wire.pass();
                 Ok(done)
@@ -198,13 +203,18 @@ impl<T: GroupTable + Drop> Node<T> {
         ensures names { names_of (held_by self.new) ≡ names_of (held_by self.old) }
         ensures ports { ports_of (held_by self.new) ≡ ports_of (held_by self.old) }
     {
-        match make_room(&mut self.wires) {
+        match make_room(&mut self.wires, &mut self.has_room) {
             Ok(()) => {}
             Err(AllocError) => return Err(NodeFault::OutOfMemory),
         }
         match self.state.command(port, command) {
             Ok(done) => {
-                send_all(&mut self.wires, &mut self.frame, done.sends.as_slice());
+                send_all(
+                    &mut self.wires,
+                    &mut self.has_room,
+                    &mut self.frame,
+                    done.sends.as_slice(),
+                );
                 Ok(done)
             }
             Err(fault) => Err(fault),
@@ -230,13 +240,18 @@ impl<T: GroupTable + Drop> Node<T> {
         ensures names { names_of (held_by self.new) ≡ names_of (held_by self.old) }
         ensures ports { ports_of (held_by self.new) ≡ ports_of (held_by self.old) }
     {
-        match make_room(&mut self.wires) {
+        match make_room(&mut self.wires, &mut self.has_room) {
             Ok(()) => {}
             Err(AllocError) => return Err(NodeFault::OutOfMemory),
         }
         match self.state.retry(op) {
             Ok(done) => {
-                send_all(&mut self.wires, &mut self.frame, done.sends.as_slice());
+                send_all(
+                    &mut self.wires,
+                    &mut self.has_room,
+                    &mut self.frame,
+                    done.sends.as_slice(),
+                );
                 Ok(done)
             }
             Err(fault) => Err(fault),

@@ -128,6 +128,7 @@ fn pull_some<I: Inlet>(
     ensures damaged { (link_of wire.old).damaged ≡ true → result ≡ Err faults.Damaged }
     ensures memory { (link_of wire.old).damaged ≡ false → IfErr result (λ fault. fault ≡ faults.OutOfMemory) }
     ensures err { OnErr result (link_of wire.new ≡ link_of wire.old) }
+    ensures room { wire.new.outbox.spare ≡ wire.old.outbox.spare }
     ensures err_inlet { OnErr result (inlet.new ≡ inlet.old) }
 {
     let some = max.min(piece.len());

@@ -49,7 +49,7 @@ impl<T: GroupTable + Drop> Node<T> {
         ensures names { names_of (held_by self.new) ≡ names_of (held_by self.old) }
         ensures ports { ports_of (held_by self.new) ≡ ports_of (held_by self.old) }
     {
-        match make_room(&mut self.wires) {
+        match make_room(&mut self.wires, &mut self.has_room) {
             Ok(()) => {}
             Err(AllocError) => return Err(NodeFault::OutOfMemory),
         }
@@ -58,7 +58,12 @@ impl<T: GroupTable + Drop> Node<T> {
             .take_own_reply(peer, reply.stamp, reply.number, reply.said)
         {
             Ok(done) => {
-                send_all(&mut self.wires, &mut self.frame, done.sends.as_slice());
+                send_all(
+                    &mut self.wires,
+                    &mut self.has_room,
+                    &mut self.frame,
+                    done.sends.as_slice(),
+                );
                 let wire = &mut self.wires[peer];
                 wire.pass();
                 Ok(done)

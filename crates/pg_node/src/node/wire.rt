@@ -88,6 +88,7 @@ impl Wire {
         ensures moved { L.accepts link.old (take result (link_of self.old).outbox) link.new }
         ensures many { L.moves link.old (min max (length (link_of self.old).outbox)) result }
         ensures rest { link_of self.new ≡ without_front (link_of self.old) result }
+        ensures room { self.new.outbox.spare ≡ self.old.outbox.spare }
     {
         let bytes = self.outbox.as_slice();
         let some = max.min(bytes.len());
@@ -115,6 +116,7 @@ impl Wire {
         ensures damaged { (link_of self.old).damaged ≡ true → result ≡ Err Damaged }
         ensures memory { (link_of self.old).damaged ≡ false → IfErr result (λ fault. fault ≡ OutOfMemory) }
         ensures err { OnErr result (link_of self.new ≡ link_of self.old) }
+        ensures room { self.new.outbox.spare ≡ self.old.outbox.spare }
         ensures err_inlet { OnErr result (inlet.new ≡ inlet.old) }
     {
         if self.damaged {
@@ -136,6 +138,7 @@ impl Wire {
         ensures few { IfOk result (λ some. IfSome some (λ packet. IsShort (2 ^ 32) packet.message)) }
         ensures same { OnOk result (link_of self.new ≡ link_of self.old) }
         ensures marked { IfErr result (λ fault. link_of self.new ≡ marked (link_of self.old) fault) }
+        ensures room { self.new.outbox.spare ≡ self.old.outbox.spare }
     {
         match self.front_packet(alloc) {
             Ok(packet) => Ok(packet),
@@ -180,7 +183,8 @@ impl Wire {
 
     /// Damages the link, where this fault of what came in does. It takes no memory.
     pub(crate) fn mark(&mut self, fault: NodeFault)
-        ensures { link_of self.new ≡ marked (link_of self.old) fault }
+        ensures marked { link_of self.new ≡ marked (link_of self.old) fault }
+        ensures room { self.new.outbox.spare ≡ self.old.outbox.spare }
     {
         if damages(fault) {
             self.damaged = true;
@@ -189,14 +193,16 @@ impl Wire {
 
     /// Takes out the next whole frame, where one is there. It takes no memory.
     pub(crate) fn pass(&mut self)
-        ensures { link_of self.new ≡ passed (link_of self.old) }
+        ensures passed { link_of self.new ≡ passed (link_of self.old) }
+        ensures room { self.new.outbox.spare ≡ self.old.outbox.spare }
     {
         let _ = self.deframer.next();
     }
 
     /// Nothing goes out any more.
     pub(crate) fn close(&mut self)
-        ensures { link_of self.new ≡ closed (link_of self.old) }
+        ensures closed { link_of self.new ≡ closed (link_of self.old) }
+        ensures room { self.old.outbox.spare ≤ self.new.outbox.spare }
     {
         self.outbox.clear();
     }

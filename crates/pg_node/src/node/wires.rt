@@ -1,6 +1,6 @@
 //! The links of a node to all its peers.
 
-ghost use Rattle.std.specs.Prelude.{◌≡◌, ℕ, length, OnOk};
+ghost use Rattle.std.specs.Prelude.{◌≡◌, ℕ, true, length, OnOk};
 ghost use Rattle.pg_node_state.specs.Frames.{frames_to, AreSmallFrames};
 ghost use Rattle.pg_node_state.specs.Sendable.{FitLinks};
 ghost use Rattle.pg_node.specs.Links.{links_in, with_more, HaveRoom, AreOneFrame};
@@ -10,37 +10,52 @@ use crate::node::wire::Wire;
 use pg_message::Packet;
 use std::alloc::AllocError;
 
-/// Makes room for one small frame in every outbox.
+/// Makes room for one small frame in every outbox, where it was not made, or taken since. `has_room`: whether it is there, which
+/// is known.
 ///
 /// Errors: `AllocError`, which changes nothing.
-pub(crate) fn make_room(wires: &mut Vec<Wire>) -> Result<(), AllocError>
+pub(crate) fn make_room(wires: &mut Vec<Wire>, has_room: &mut bool) -> Result<(), AllocError>
+    requires known { has_room.old ≡ true → HaveRoom wires.old.items }
     ensures same { links_in wires.new.items ≡ links_in wires.old.items }
     ensures len { length wires.new.items ≡ length wires.old.items }
     ensures room { OnOk result (HaveRoom wires.new.items) }
+    ensures known { has_room.new ≡ true → HaveRoom wires.new.items }
 {
+    if *has_room {
+        return Ok(());
+    }
     for place in 0..wires.len() {
         let wire = &mut wires[place];
         wire.reserve()?;
     }
+    *has_room = true;
     Ok(())
 }
 
 /// Appends packets as frames to the outboxes of the peers that they go to, where there is room for one in each. It takes no
-/// memory. `frame`: where the frame is written that goes to several.
-pub(crate) fn send_all(wires: &mut Vec<Wire>, frame: &mut Frame, sends: &[(usize, Packet)])
+/// memory. `has_room`: whether that is so behind it, as far as is known. `frame`: where the frame is written that goes to several.
+pub(crate) fn send_all(
+    wires: &mut Vec<Wire>,
+    has_room: &mut bool,
+    frame: &mut Frame,
+    sends: &[(usize, Packet)],
+)
     requires fit { FitLinks (length wires.old.items) sends.now }
     requires room { HaveRoom wires.old.items }
     ensures sent { (place : ℕ) → links_in wires.new.items place ≡ with_more (links_in wires.old.items place) (frames_to sends.now place) }
     ensures small { AreSmallFrames sends.now }
     ensures len { length wires.new.items ≡ length wires.old.items }
+    ensures known { has_room.new ≡ true → HaveRoom wires.new.items }
 {
     match sends {
         [] => {}
         [sent] => {
+            *has_room = false;
             let wire = &mut wires[sent.0];
             wire.send(&sent.1);
         }
         [first, ..] => {
+            *has_room = false;
             frame.set(&first.1);
             append_all(wires, frame.as_slice(), sends);
         }

@@ -1,4 +1,7 @@
-use Rattle.std.proofs.Common.{◌<◌, ◌∙◌, Err, length, refl, sym, arith, subst}
+use Rattle.std.specs.Prelude.{slice_set}
+use Rattle.std.proofs.lemmas.List.{length-set}
+use Rattle.pg_node_state.specs.States.{names_of}
+use Rattle.std.proofs.Common.{◌≡◌, ◌+◌, ◌<◌, ◌∙◌, Err, length, refl, sym, arith, subst}
 use Rattle.pg_step.specs.declared.refusal.Refusal.TheVariants.{NodeLost}
 use Rattle.pg_node_state.specs.declared.state.fault.NodeFault.{NodeFault}
 use Rattle.pg_node_state.specs.declared.state.fault.NodeFault.TheVariants.{Refused}
@@ -6,7 +9,7 @@ use Rattle.pg_node.specs.Bytes.{Tells, next_packet, marked}
 use Rattle.pg_node.specs.Links.{Link, link_of, idle_link, links_in}
 use Rattle.pg_node.specs.Nodes.{read_next}
 use Rattle.pg_node.proofs.Events.{unmarked}
-use Rattle.pg_node.proofs.Linked.{part_here, same_links, one_link, on_ok, as_err}
+use Rattle.pg_node.proofs.Linked.{part_here, same_links, one_link, on_ok, as_err, still_room}
 use Rattle.pg_node.proofs.node.Node.next.Goals as goal
 
 pub returns-then-is_lost-clause-told : goal.returns-then-is_lost-clause-told
@@ -34,3 +37,14 @@ returns-clause-marked g c =
     let wires = c.args.self.now.wires.items in
     let within : c.args.peer < length wires = omega (arith, c.args.self.now.linked, c.requires.place) in
     as_err c.next.result _ _ (λ (fault : NodeFault) is. one_link wires c.args.peer c.index_mut-wire.result.now c.next.new.self (λ l. marked l fault) within c.index_mut-wire.ensures.value is) c.next.ensures.marked
+
+pub invariant_of-self : goal.invariant_of-self
+invariant_of-self g c =
+    let wires = c.args.self.now.wires.items in
+    let within : c.args.peer < length wires = omega (arith, c.args.self.now.linked, c.requires.place) in
+    let linked : length (slice_set wires c.args.peer c.next.new.self) + 1 ≡ length (names_of c.args.self.now.state) = omega (arith, length-set wires c.args.peer c.next.new.self, c.args.self.now.linked) in
+    record {
+      linked = linked;
+      passage = c.args.self.now.passage;
+      room = λ is. still_room wires c.args.peer c.index_mut-wire.result.now c.next.new.self within c.index_mut-wire.ensures.value (omega (arith, c.next.ensures.room)) (c.args.self.now.room is);
+    }

@@ -1,4 +1,4 @@
-use Rattle.std.proofs.Common.{◌≡◌, ◌<◌, ◌∙◌, List, ℕ, Some, Ok, Option, length, sym, arith, subst}
+use Rattle.std.proofs.Common.{◌≡◌, ◌<◌, ◌∙◌, List, ℕ, Some, Ok, length, sym, arith, subst}
 use Rattle.std.specs.Prelude.{IfSome}
 use Rattle.pg_opens.specs.Places.{name_at}
 use Rattle.pg_reader.specs.Own.{own_reply}

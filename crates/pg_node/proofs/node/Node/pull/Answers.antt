@@ -1,6 +1,9 @@
-use Rattle.std.proofs.Common.{◌≡◌, ◌<◌, ◌∙◌, length, sym, ap, arith}
+use Rattle.std.specs.Prelude.{slice_set}
+use Rattle.std.proofs.lemmas.List.{length-set}
+use Rattle.std.proofs.Common.{◌≡◌, ◌+◌, ◌<◌, ◌∙◌, length, sym, ap, arith}
 use Rattle.pg_node.specs.Links.{Link, link_of, idle_link, links_in, with_fed}
-use Rattle.pg_node.proofs.Linked.{part_here, one_link, same_links, if_ok, on_err}
+use Rattle.pg_node.proofs.Linked.{part_here, one_link, same_links, if_ok, on_err, still_room}
+use Rattle.pg_node_state.specs.States.{names_of}
 use Rattle.pg_opens.proofs.Named.{clash}
 use Rattle.pg_node.proofs.node.Node.pull.Goals as goal
 
@@ -38,3 +41,15 @@ returns-clause-fed g c =
     let wires = c.args.self.now.wires.items in
     let within : c.args.peer < length wires = omega (arith, c.args.self.now.linked, c.requires.place) in
     if_ok c.pull_some.result _ _ _ (λ count fed more. (fed.0, fed.1, fed.2, one_link wires c.args.peer c.index_mut-wire.result.now c.pull_some.new.wire (λ link. with_fed link fed.0) within c.index_mut-wire.ensures.value fed.3)) c.pull_some.ensures.fed c.pull_some.ensures.within
+
+pub invariant_of-self-2 : goal.invariant_of-self-2
+invariant_of-self-2 g c =
+    let wires = c.args.self.now.wires.items in
+    let new = c.pull_some.new.wire in
+    let within : c.args.peer < length wires = omega (arith, c.args.self.now.linked, c.requires.place) in
+    let linked : length (slice_set wires c.args.peer new) + 1 ≡ length (names_of c.args.self.now.state) = omega (arith, length-set wires c.args.peer new, c.args.self.now.linked) in
+    record {
+      linked = linked;
+      passage = c.pull_some.ensures.len ∙ c.args.self.now.passage;
+      room = λ is. still_room wires c.args.peer c.index_mut-wire.result.now new within c.index_mut-wire.ensures.value (omega (arith, c.pull_some.ensures.room)) (c.args.self.now.room is);
+    }

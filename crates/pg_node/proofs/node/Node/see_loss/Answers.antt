@@ -1,4 +1,7 @@
-use Rattle.std.proofs.Common.{◌<◌, ◌+◌, ◌∙◌, cond, length, Result, Ok, Err, refl, sym, ap, arith, subst}
+use Rattle.std.specs.Prelude.{slice_set}
+use Rattle.std.proofs.lemmas.List.{length-set}
+use Rattle.pg_step.specs.Nodes.{Node}
+use Rattle.std.proofs.Common.{◌≡◌, List, ◌<◌, ◌+◌, ◌∙◌, cond, length, Result, Ok, Err, refl, sym, ap, arith, subst}
 use Rattle.pg_opens.specs.Places.{name_at}
 use Rattle.pg_step.specs.declared.refusal.Refusal.{Refusal}
 use Rattle.pg_step.specs.declared.refusal.Refusal.TheVariants.{NodeLost, NotDrained}
@@ -7,7 +10,7 @@ use Rattle.pg_node_state.specs.declared.state.fault.NodeFault.TheVariants.{Refus
 use Rattle.pg_node.specs.Bytes.{closed, is_drained}
 use Rattle.pg_node.specs.Links.{link_of, idle_link}
 use Rattle.pg_node_state.specs.States.{names_of, state_of, answers_of, step_see_loss, Comes}
-use Rattle.pg_node.proofs.Linked.{part_here, one_link}
+use Rattle.pg_node.proofs.Linked.{part_here, one_link, still_room}
 use Rattle.pg_node.proofs.node.Node.see_loss.Goals as goal
 
 pub returns-then-not-is_drained-clause-event : goal.returns-then-not-is_drained-clause-event
@@ -41,4 +44,15 @@ pub returns-in-Ok-clause-closed : goal.returns-in-Ok-clause-closed
 returns-in-Ok-clause-closed g c =
     let wires = c.args.self.now.wires.items in
     let within : c.args.peer < length wires = omega (arith, c.args.self.now.linked, c.requires.place) in
-    one_link wires c.args.peer c.index_mut-wire.result.now c.close.new.self closed within c.index_mut-wire.ensures.value c.close.ensures
+    one_link wires c.args.peer c.index_mut-wire.result.now c.close.new.self closed within c.index_mut-wire.ensures.value c.close.ensures.closed
+
+pub invariant_of-self : goal.invariant_of-self
+invariant_of-self g c =
+    let wires = c.args.self.now.wires.items in
+    let within : c.args.peer < length wires = omega (arith, c.args.self.now.linked, c.requires.place) in
+    let linked : length (slice_set wires c.args.peer c.close.new.self) + 1 ≡ length (names_of c.see_loss.new.self) = omega (arith, length-set wires c.args.peer c.close.new.self, c.args.self.now.linked, ap (λ (names : List Node). length names) c.see_loss.ensures.names) in
+    record {
+      linked = linked;
+      passage = c.args.self.now.passage;
+      room = λ is. still_room wires c.args.peer c.index_mut-wire.result.now c.close.new.self within c.index_mut-wire.ensures.value (c.close.ensures.room) (c.args.self.now.room is);
+    }

@@ -6,7 +6,7 @@ use Rattle.pg_step.specs.Step.{step_take}
 use Rattle.pg_node_state.specs.declared.state.done.Done.{Done}
 use Rattle.pg_node_state.specs.Frames.{AreSmallFrames}
 use Rattle.pg_node.specs.Bytes.{passed}
-use Rattle.pg_node.specs.Links.{Link, links_in, at_link}
+use Rattle.pg_node.specs.Links.{links_in, at_link}
 use Rattle.pg_node.specs.Nodes.{has_lost, taken_of, TakesNext, sent_out}
 use Rattle.pg_node_state.specs.Sendable.{AreSendable}
 use Rattle.pg_node_state.specs.States.{names_of, nodes_of, state_of, answers_of, stamped_of}
