@@ -15,7 +15,7 @@ use Rattle.pg_step.specs.declared.answer.Reply.{Reply}
 use Rattle.pg_step.specs.declared.command.OpId.{OpId}
 use Rattle.pg_step.specs.State.{Use, Stage}
 use Rattle.pg_step.specs.State.Stage.{Closed, Waiting, Asking, Changing}
-use Rattle.pg_opens.specs.Readings.{standing_of, is_closed}
+use Rattle.pg_opens.specs.Readings.{stage_seen, is_closed}
 use Rattle.pg_node_state.specs.declared.state.port.Port.{Port}
 use Rattle.pg_node_state.specs.Issued.{counted_at, HasRoomAt}
 use Rattle.pg_node_state.specs.Ports.{counts_in, answers_in, CameIn, AreGiven}
@@ -174,17 +174,17 @@ module _ (old new : List Port) (same : length new ≡ length old) (counts : coun
 
 -- the next command of a port is not open
 pub next_closed : {uses : ℕ → Use} {stages : OpId → Stage} (ports port : ℕ) (counts : ℕ → ℕ) → AreGiven (CameIn ports counts) uses stages → stages (record { port = port; number = counts port + 1 }) ≡ Closed
-next_closed {uses} {stages} ports port counts given = closed (stages op) (go (is_closed (standing_of (stages op))) refl)
+next_closed {uses} {stages} ports port counts given = closed (stages op) (go (is_closed (stage_seen (stages op))) refl)
   where
     op : OpId
     op = record { port = port; number = counts port + 1 }
 
-    closed : (stage : Stage) → is_closed (standing_of stage) ≡ true → stage ≡ Closed
+    closed : (stage : Stage) → is_closed (stage_seen stage) ≡ true → stage ≡ Closed
     closed Closed e = refl
     closed (Waiting update) e = absurd (cc)
     closed (Asking lock) e = absurd (cc)
     closed (Changing update) e = absurd (cc)
 
-    go : (b : Bool) → is_closed (standing_of (stages op)) ≡ b → is_closed (standing_of (stages op)) ≡ true
+    go : (b : Bool) → is_closed (stage_seen (stages op)) ≡ b → is_closed (stage_seen (stages op)) ≡ true
     go true e = e
     go false e = absurd (omega (arith, (given.by_stage op e).number))

@@ -32,9 +32,9 @@ use Rattle.pg_opens.specs.declared.outlook.Outlook.{Outlook}
 use Rattle.pg_opens.specs.declared.outlook.Outlook.TheVariants.{Ask, Begin}
 use Rattle.pg_opens.specs.Outlooks.{outlook_by, turn_by}
 use Rattle.pg_opens.proofs.Going.{goes_by_outlook}
+use Rattle.pg_opens.proofs.Rest.{passes, all_pass}
 use Rattle.pg_opens.proofs.Named.{atom_is, atom_other, atom_self, clash}
 use Rattle.pg_node_state.specs.Issued.{asked_first}
-use Rattle.pg_node_state.proofs.Chains.{passes, all_pass}
 
 upd_here : (f : ℕ → Use) (c : ℕ) (used : Use) → upd nat_eq f c used c ≡ used
 unfolding upd
@@ -249,7 +249,7 @@ module _ (m : Nodes) (op : OpId) (update : Update) (s : State) where
     goes_on : would ≡ true → (o : Outlook) → outlook_by true true (all_granted m later) (none_missing m later) ≡ o
         → go_on m lock (Locking op update (greatest m) (statuses would)) asked.state ≡ turn_by o m lock op update (greatest m) (statuses true) asked.state
     goes_on granting o outlook = ap (λ b. go_on m lock (Locking op update (greatest m) (statuses b)) asked.state) granting
-        ∙ (goes_by_outlook m lock op update (greatest m) (statuses true) asked.state (would_grant m asked.state (name_of update)) refl
+        ∙ (goes_by_outlook m lock op update (greatest m) (statuses true) asked.state (would_grant m asked.state (name_of update)) apart refl
         ∙ ap (λ (l : Outlook). turn_by l m lock op update (greatest m) (statuses true) asked.state)
         ((λ i. outlook_by (none_waits true i) (not (does_wait (after_round (cond (first_is true i) AskingRest AskingFirst) (undenied i)))) (all_granted m later) (none_missing m later)) ∙ outlook))
 

@@ -20,9 +20,9 @@ use Rattle.pg_step.specs.State.Stage.{Closed, Waiting, Asking, Changing}
 use Rattle.pg_step.specs.Peers.{would_grant}
 use Rattle.pg_step.specs.Attempts.{new_attempt, ask, begin, finish, with_asked, own_reference}
 use Rattle.pg_opens.specs.declared.opens.Opens.{Opens}
-use Rattle.pg_opens.specs.declared.command.Standing.TheVariants as standing
+use Rattle.pg_opens.specs.declared.command.Stage.TheVariants as seen
 use Rattle.pg_opens.specs.Opens.{Shows, Follows, names_of, live_of, uses_of}
-use Rattle.pg_opens.specs.Readings.{standing_of}
+use Rattle.pg_opens.specs.Readings.{stage_seen}
 use Rattle.pg_node_state.specs.Issued.{asked_first}
 use Rattle.pg_node_state.specs.Ports.{CameIn, AreGiven}
 use Rattle.pg_node_state.proofs.Attempted.{statuses, granted_locks, held_there, lone_turn}
@@ -36,7 +36,7 @@ pub record WaitsWith (stage : Stage) : Type 0 where
   pub update : Update
   pub is : stage ≡ Waiting update
 
-pub waits_with : (stage : Stage) → standing_of stage ≡ standing.Waiting → WaitsWith stage
+pub waits_with : (stage : Stage) → stage_seen stage ≡ seen.Waiting → WaitsWith stage
 waits_with Closed e = absurd (cc)
 waits_with (Waiting update) e = record { update = update; is = refl }
 waits_with (Asking lock) e = absurd (cc)

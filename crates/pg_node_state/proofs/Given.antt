@@ -15,7 +15,7 @@ use Rattle.pg_step.specs.Attempts.{same_op}
 use Rattle.pg_step.specs.Losses.{forgets}
 use Rattle.pg_opens.specs.declared.command.Gathering.{Gathering}
 use Rattle.pg_opens.specs.declared.command.Gathering.TheVariants.{Nothing, Lock, Update}
-use Rattle.pg_opens.specs.Readings.{update_of, standing_of, is_closed, waiting_of}
+use Rattle.pg_opens.specs.Readings.{update_of, stage_seen, is_closed, waiting_of}
 use Rattle.pg_node_state.specs.Ports.{is_named, CameIn, gathers_for, IsOf, AreGiven}
 
 pub same_is : (op other : OpId) → same_op op other ≡ true → op ≡ other
@@ -29,7 +29,7 @@ same_is op other e = go (nat_eq op.port other.port) (nat_eq op.number other.numb
 pub given_same : {came : OpId → Option Change → Type 0} {uses uses2 : ℕ → Use} {stages stages2 : OpId → Stage} → uses ≡ uses2 → stages ≡ stages2 → AreGiven came uses stages → AreGiven came uses2 stages2
 given_same {came} e f h = record {
   by_use = subst (λ (u : ℕ → Use). (c : ℕ) → IsOf came (gathers_for (u c))) e h.by_use;
-  by_stage = subst (λ (s : OpId → Stage). (op : OpId) → is_closed (standing_of (s op)) ≡ false → came op (waiting_of (s op))) f h.by_stage;
+  by_stage = subst (λ (s : OpId → Stage). (op : OpId) → is_closed (stage_seen (s op)) ≡ false → came op (waiting_of (s op))) f h.by_stage;
 }
 
 pub given_use : {came : OpId → Option Change → Type 0} {uses : ℕ → Use} {stages : OpId → Stage} (x : ℕ) (used : Use) → IsOf came (gathers_for used) → AreGiven came uses stages → AreGiven came (upd nat_eq uses x used) stages
@@ -50,7 +50,7 @@ given_stage {came} {uses} {stages} op stage of h = record {
   by_stage = λ other. go other (same_op op other) (same_is op other);
 }
   where
-    go : (other : OpId) (b : Bool) → (b ≡ true → op ≡ other) → is_closed (standing_of (cond b stage (stages other))) ≡ false → came other (waiting_of (cond b stage (stages other)))
+    go : (other : OpId) (b : Bool) → (b ≡ true → op ≡ other) → is_closed (stage_seen (cond b stage (stages other))) ≡ false → came other (waiting_of (cond b stage (stages other)))
     go other true same e = subst (λ (o : OpId). came o (waiting_of stage)) (same refl) of
     go other false same e = h.by_stage other e
 
@@ -92,7 +92,7 @@ updating_came c op update lock replied h e = (h.by_use c).is op update (ap gathe
 
 -- the command that waits came in, with its update
 pub waiting_came : {came : OpId → Option Change → Type 0} {uses : ℕ → Use} {stages : OpId → Stage} (op : OpId) (update : Change) → AreGiven came uses stages → stages op ≡ Waiting update → came op (Some update)
-waiting_came {came} op update h e = subst (λ (stage : Stage). came op (waiting_of stage)) e (h.by_stage op (ap (λ (stage : Stage). is_closed (standing_of stage)) e))
+waiting_came {came} op update h e = subst (λ (stage : Stage). came op (waiting_of stage)) e (h.by_stage op (ap (λ (stage : Stage). is_closed (stage_seen stage)) e))
 
 -- the update of a command that gathers has a name
 pub gathered_named : {uses : ℕ → Use} {stages : OpId → Stage} (n : ℕ) (counts : ℕ → ℕ) (c : ℕ) → AreGiven (CameIn n counts) uses stages → (update : Change) → update_of (uses c) ≡ Some update → is_name (name_of update) ≡ true

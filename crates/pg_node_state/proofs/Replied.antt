@@ -1,6 +1,6 @@
 -- What a reply leads to, by the reference that it is under.
-use Rattle.std.proofs.Common.{◌≡◌, ◌≤◌, ◌<◌, ◌^◌, ℕ, Bool, true, false, ◌&&◌, cond}
-use Rattle.std.proofs.Common.{nat_eq, nat_lt, Option, Some, None, Ok, refl, sym, ap, ◌∙◌, arith}
+use Rattle.std.proofs.Common.{◌≡◌, ◌≤◌, ◌<◌, ◌+◌, ◌^◌, ℕ, Bool, true, false, ◌&&◌, cond}
+use Rattle.std.proofs.Common.{nat_eq, nat_lt, List, Option, Some, None, Result, Ok, refl, sym, ap, ◌∙◌, subst, arith}
 use Rattle.std.specs.Cmp.Lexicographic.{pointwise, bytes_decides}
 use Rattle.std.proofs.lemmas.Bool.{eq-eqb, lt-ltb}
 use Rattle.std.proofs.lemmas.Bool.Decides.{nat_tests}
@@ -9,10 +9,12 @@ use Rattle.pg_term.specs.RefParts.{RefParts, ref_eq}
 use Rattle.pg_term.proofs.Same.{ref_is}
 use Rattle.pg_refs.specs.Numbered.{numbered, number_in}
 use Rattle.pg_message.specs.declared.message.Said.{Said}
+use Rattle.pg_machine.specs.Clocked.{Timed}
 use Rattle.pg_multicall.specs.Gathered.{what_of}
 use Rattle.pg_multicall.specs.declared.gather.Taken.{Taken}
 use Rattle.pg_opens.specs.declared.opens.Opens.{Opens}
 use Rattle.pg_opens.specs.Opens.{uses_of, references_of}
+use Rattle.pg_opens.specs.Places.{name_at}
 use Rattle.pg_opens.specs.Layers.{or_as, answers, seek}
 use Rattle.pg_opens.specs.Commands.{is_made, unused, use_at}
 use Rattle.pg_step.specs.Nodes.{Node, Nodes}
@@ -20,6 +22,12 @@ use Rattle.pg_step.specs.State.{State, Use}
 use Rattle.pg_step.specs.State.Use.{Fresh, Spent}
 use Rattle.pg_step.specs.Attempts.{use_of, gathered, is_kind, reply_by, reply_under, reply_taken, strange}
 use Rattle.pg_step.specs.declared.answer.Odd.TheVariants.{Stranger}
+use Rattle.pg_step.specs.declared.answer.Answer.{Answer}
+use Rattle.pg_step.specs.declared.refusal.Refusal.{Refusal}
+use Rattle.pg_step.specs.Turns.{NodeTurn}
+use Rattle.pg_node_state.specs.declared.state.done.Done.{Done}
+use Rattle.pg_node_state.specs.declared.state.fault.NodeFault.{NodeFault}
+use Rattle.pg_node_state.specs.States.{ComesAt}
 
 -- a number that was not made yet is fresh
 pub fresh_beyond : (opens : Opens) (x : ℕ) → references_of opens < x → uses_of opens x ≡ Fresh
@@ -32,6 +40,17 @@ fresh_beyond opens x beyond = go (seek (use_at opens.names.items) opens.commands
     go : (o : Option Use) → answers o ≡ false → or_as o (unused opens.references x) ≡ unused opens.references x
     go None e = refl
     go (Some u) e = absurd (cc)
+
+-- a reply to a node that is seen as the same
+pub comes_as : (clock peer number : ℕ) (said : Said) (names names1 : List Node) (m m1 : Nodes) (s s1 : State) (before before1 : ℕ → List Answer) (result : Result Done NodeFault) (after : Timed State) (answers : ℕ → List Answer)
+    → names1 ≡ names → m1 ≡ m → s1 ≡ s → before1 ≡ before
+    → ComesAt clock names1 (reply_taken m1 (name_at names1 (peer + 1)) (numbered m1.own number) said s1) result after before1 answers
+    → ComesAt clock names (reply_taken m (name_at names (peer + 1)) (numbered m.own number) said s) result after before answers
+comes_as clock peer number said names names1 m m1 s s1 before before1 result after answers same_names same_nodes same_state same_answers comes =
+    subst (λ (b : ℕ → List Answer). ComesAt clock names (reply_taken m (name_at names (peer + 1)) (numbered m.own number) said s) result after b answers) same_answers
+    (subst (λ (t : Result NodeTurn Refusal). ComesAt clock names t result after before1 answers)
+    (λ i. reply_taken (same_nodes i) (name_at (same_names i) (peer + 1)) (numbered (same_nodes i).own number) said (same_state i))
+    (subst (λ (ns : List Node). ComesAt clock ns (reply_taken m1 (name_at names1 (peer + 1)) (numbered m1.own number) said s1) result after before1 answers) same_names comes))
 
 module _ (m : Nodes) (p : Node) (reference : RefParts) (said : Said) (s : State) where
   abbrev number : ℕ

@@ -8,34 +8,34 @@ use Rattle.pg_step.specs.State.Stage.{Closed, Waiting, Asking, Changing}
 use Rattle.pg_step.specs.State.Use.{Fresh, Locking, Owning, Updating, Spent}
 use Rattle.pg_step.specs.Turns.{becomes}
 use Rattle.pg_step.specs.Attempts.{go_on, replies_in, finish, is_complete}
-use Rattle.pg_opens.specs.declared.command.Standing.{Standing}
-use Rattle.pg_opens.specs.declared.command.Standing.TheVariants as standing
-use Rattle.pg_opens.specs.Readings.{gathering_of, standing_of, is_lock, is_update}
+use Rattle.pg_opens.specs.declared.command.Stage.{Stage as SeenStage}
+use Rattle.pg_opens.specs.declared.command.Stage.TheVariants as seen
+use Rattle.pg_opens.specs.Readings.{gathering_of, stage_seen, is_lock, is_update}
 
-pub closed_is : (stage : Stage) → standing_of stage ≡ standing.Closed → stage ≡ Closed
+pub closed_is : (stage : Stage) → stage_seen stage ≡ seen.Closed → stage ≡ Closed
 closed_is Closed e = refl
 closed_is (Waiting update) e = absurd (cc)
 closed_is (Asking lock) e = absurd (cc)
 closed_is (Changing number) e = absurd (cc)
 
-pub asking_is : (stage : Stage) (number : ℕ) → standing_of stage ≡ standing.Asking number → stage ≡ Asking number
+pub asking_is : (stage : Stage) (number : ℕ) → stage_seen stage ≡ seen.Asking number → stage ≡ Asking number
 asking_is Closed number e = absurd (cc)
 asking_is (Waiting update) number e = absurd (cc)
 asking_is (Asking lock) number e = ap (λ s. asked s) e
   where
-    asked : Standing → Stage
-    asked (standing.Asking n) = Asking n
+    asked : SeenStage → Stage
+    asked (seen.Asking n) = Asking n
     asked other = Asking lock
 asking_is (Changing lock) number e = absurd (cc)
 
-pub changing_is : (stage : Stage) (number : ℕ) → standing_of stage ≡ standing.Changing number → stage ≡ Changing number
+pub changing_is : (stage : Stage) (number : ℕ) → stage_seen stage ≡ seen.Changing number → stage ≡ Changing number
 changing_is Closed number e = absurd (cc)
 changing_is (Waiting update) number e = absurd (cc)
 changing_is (Asking lock) number e = absurd (cc)
 changing_is (Changing update) number e = ap (λ s. changed s) e
   where
-    changed : Standing → Stage
-    changed (standing.Changing n) = Changing n
+    changed : SeenStage → Stage
+    changed (seen.Changing n) = Changing n
     changed other = Changing update
 
 -- nothing is asked under the reference

@@ -13,7 +13,7 @@ use Rattle.pg_step.specs.State.Stage.{Closed, Waiting, Asking, Changing}
 use Rattle.pg_step.specs.Attempts.{same_op, waits}
 use Rattle.pg_opens.specs.declared.opens.Opens.{Opens}
 use Rattle.pg_opens.specs.Opens.{AreListed, stages_of}
-use Rattle.pg_opens.specs.Readings.{standing_of, is_closed}
+use Rattle.pg_opens.specs.Readings.{stage_seen, is_closed}
 use Rattle.pg_node_state.proofs.Given.{same_is}
 use Rattle.pg_node_state.specs.Waiting.{AreWaiting, waiting_of}
 
@@ -50,7 +50,7 @@ and_true false = refl
 
 module _ (m : Nodes) (s : State) where
   -- a command that is not open does not wait
-  open_waits : (stage : Stage) → (waits m stage s && not (is_closed (standing_of stage))) ≡ waits m stage s
+  open_waits : (stage : Stage) → (waits m stage s && not (is_closed (stage_seen stage))) ≡ waits m stage s
   open_waits Closed = refl
   open_waits (Waiting update) = refl
   open_waits (Asking c) = and_true (waits m (Asking c) s)
@@ -71,7 +71,7 @@ module _ (m : Nodes) (s : State) where
   pub all_waiting : (opens : Opens) (ops : List OpId) → s.stages ≡ stages_of opens → AreListed opens ops → AreWaiting m s (waiting_of m s ops)
   all_waiting opens ops same listed = record {
     each = λ op. any-filter_same (λ other. same_op other op) (λ other. waits m (s.stages other) s) (waits m (s.stages op) s) (λ other t. ap (λ (o : OpId). waits m (s.stages o) s) (same_is other op t)) ops
-        ∙ ap (λ b. waits m (s.stages op) s && b) (listed.open_ones op ∙ ap (λ (stages : OpId → Stage). not (is_closed (standing_of (stages op)))) (sym same))
+        ∙ ap (λ b. waits m (s.stages op) s && b) (listed.open_ones op ∙ ap (λ (stages : OpId → Stage). not (is_closed (stage_seen (stages op)))) (sym same))
         ∙ open_waits (s.stages op);
     once = once_left (λ op. waits m (s.stages op) s) ops listed.once;
   }

@@ -11,7 +11,7 @@ use Rattle.pg_step.specs.declared.command.OpId.{OpId}
 use Rattle.pg_step.specs.Nodes.{Node}
 use Rattle.pg_step.specs.State.{Use, Stage}
 use Rattle.pg_step.specs.State.Use.{Locking, Updating}
-use Rattle.pg_opens.specs.Readings.{standing_of, is_closed, waiting_of}
+use Rattle.pg_opens.specs.Readings.{stage_seen, is_closed, waiting_of}
 use Rattle.pg_node_state.specs.declared.state.port.Port.{Port}
 
 -- the peers whose exchange was taken, by the marks of the peers
@@ -59,4 +59,4 @@ pub record IsOf (came : OpId → Option Update → Type 0) (what : Option (OpId 
 -- each open command came in, and so did the update of each that waits
 pub record AreGiven (came : OpId → Option Update → Type 0) (uses : ℕ → Use) (stages : OpId → Stage) : Type 0 where
   pub by_use : (c : ℕ) → IsOf came (gathers_for (uses c))
-  pub by_stage : (op : OpId) → is_closed (standing_of (stages op)) ≡ false → came op (waiting_of (stages op))
+  pub by_stage : (op : OpId) → is_closed (stage_seen (stages op)) ≡ false → came op (waiting_of (stages op))

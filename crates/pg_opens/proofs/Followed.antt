@@ -33,8 +33,8 @@ use Rattle.pg_opens.specs.Marks.{status_of, statuses, has_yes, replies}
 use Rattle.pg_opens.specs.Marks.{verdict_mark, whom, has_place, mark_at, first_mark}
 use Rattle.pg_opens.specs.Commands.{use_in, use_at, has_in, stage_in, stage_at}
 use Rattle.pg_opens.specs.Commands.{unused, uses_in, stages_in, AreKnown, Turns}
-use Rattle.pg_opens.specs.declared.command.Standing.TheVariants as standing
-use Rattle.pg_opens.specs.Readings.{standing_of, is_locking}
+use Rattle.pg_opens.specs.declared.command.Stage.TheVariants as seen
+use Rattle.pg_opens.specs.Readings.{stage_seen, is_locking}
 use Rattle.pg_opens.specs.Opens.{Says}
 use Rattle.pg_opens.specs.TakenBack.{command_taken_back}
 use Rattle.pg_opens.proofs.Layered.{set_length, others_length}
@@ -298,7 +298,7 @@ module _ (names : List Node) (lost : List Bool) (made : ℕ) (os : List OpenComm
 -- ---- what is known stays so
 
 module _ (names : List Node) (made : ℕ) (os : List OpenCommand) (k : ℕ) (o o' : OpenCommand) (known : AreKnown names made os) where
-  pub start_known : (op : OpId) (first : ℕ) → StandsFor os k o op → standing_of (stages_in os op) ≡ standing.Waiting → Turns o o' (phase.Asking (made + 1) first) → first < length names → AreKnown names (made + 1) (slice_set os k o')
+  pub start_known : (op : OpId) (first : ℕ) → StandsFor os k o op → stage_seen (stages_in os op) ≡ seen.Waiting → Turns o o' (phase.Asking (made + 1) first) → first < length names → AreKnown names (made + 1) (slice_set os k o')
   start_known op first at e t l = known_after names made os k o known at.here (made + 1) o' (fits_started names made os k o known at.here o' first (waiting_phase names made os k o known op at e) t l)
 
   pub same_known : (x : ℕ) → Stands os k o x → Turns o o' o.phase → AreKnown names made (slice_set os k o')
@@ -332,7 +332,7 @@ finish_follows names lost made os k o known m x op update lock replied at e s h 
 -- ---- a command is taken back
 
 pub take_back_follows : (names : List Node) (lost : List Bool) (made : ℕ) (os : List OpenCommand) (k : ℕ) (o : OpenCommand) → AreKnown names made os
-    → (op : OpId) → StandsFor os k o op → standing_of (stages_in os op) ≡ standing.Waiting
+    → (op : OpId) → StandsFor os k o op → stage_seen (stages_in os op) ≡ seen.Waiting
     → (s : State) → Says names lost made os s → Says names lost made (others os k) (command_taken_back op s).state
 take_back_follows names lost made os k o known op at waits s h =
     let is_op : op ≡ o.op = sym (op_is o.op op at.is) in

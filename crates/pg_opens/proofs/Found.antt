@@ -9,7 +9,6 @@ use Rattle.pg_term.specs.Same.{same_atom}
 use Rattle.pg_group.specs.declared.update.Update.{Update}
 use Rattle.pg_group.specs.Value.{name_of}
 use Rattle.pg_lock.specs.Attempts.{after_round, does_wait}
-use Rattle.pg_lock.specs.declared.attempt.Attempt.TheVariants.{AskingFirst, AskingRest}
 use Rattle.pg_multicall.specs.Gathered.{what_of}
 use Rattle.pg_multicall.specs.declared.gather.Taken.TheVariants.{Counted, Stranger, Double}
 use Rattle.pg_message.specs.declared.message.Said.TheVariants.{Applied}
@@ -33,13 +32,14 @@ use Rattle.pg_opens.specs.Places.{name_at, live_in, ArePlaces}
 use Rattle.pg_opens.specs.Marks.{status_of, statuses, has_yes, replies, all_marks}
 use Rattle.pg_opens.specs.Commands.{use_in, use_at, has_in, stage_in, stage_at, is_made}
 use Rattle.pg_opens.specs.Commands.{unused, uses_in, stages_in, first_in, AreKnown}
-use Rattle.pg_opens.specs.declared.command.Standing.TheVariants as standing
+use Rattle.pg_opens.specs.declared.command.Stage.TheVariants as seen
 use Rattle.pg_opens.specs.Readings.{is_closed, is_lock, is_update, is_updating, update_of, update_in}
 use Rattle.pg_opens.specs.Readings.{waiting_of, waiting_in, waits_by, gathering_of, gathering_in}
-use Rattle.pg_opens.specs.Readings.{standing_of, standing_in, lock_heard, heard_in, complete_in, is_locking}
+use Rattle.pg_opens.specs.Readings.{stage_seen, stage_seen_in, lock_heard, heard_in, complete_in, is_locking}
 use Rattle.pg_opens.specs.Outlooks.{outlook_of, outlook_by, outlook_in, round_in}
 use Rattle.pg_opens.proofs.Layered.{quiet_is, quiet_both}
 use Rattle.pg_opens.proofs.Named.{clash}
+use Rattle.pg_opens.proofs.Rest.{waits_not}
 use Rattle.pg_opens.proofs.Uses.{has_is, was, stage_was}
 use Rattle.pg_opens.proofs.Asking.{status_at, reply_at, same_at, every_nobody, every_all, every_reply}
 
@@ -121,14 +121,14 @@ gathers names op u (phase.Changing lock number) marks x r d h = two (nat_eq numb
 pub gathering_here : (names : List Node) (made : ℕ) (os : List OpenCommand) (k : ℕ) (o : OpenCommand) (x : ℕ) → AreKnown names made os → Stands os k o x → gathering_in o.op o.phase x ≡ gathering_of (uses_in names made os x)
 gathering_here names made os k o x known at = sym (ap gathering_of (was names made os k o known at.here x) ∙ gathers names o.op o.update o.phase o.marks x _ _ at.has)
 
-pub standing_here : (names : List Node) (made : ℕ) (os : List OpenCommand) (k : ℕ) (o : OpenCommand) (op : OpId) → AreKnown names made os → StandsFor os k o op → standing_in o.phase ≡ standing_of (stages_in os op)
-standing_here names made os k o op known at = sym (ap standing_of (stage_was names made os k o known at.here op) ∙ (one (same_op o.op op) (seek stage_at (others os k) op) at.is ∙ which o.phase))
+pub stage_seen_here : (names : List Node) (made : ℕ) (os : List OpenCommand) (k : ℕ) (o : OpenCommand) (op : OpId) → AreKnown names made os → StandsFor os k o op → stage_seen_in o.phase ≡ stage_seen (stages_in os op)
+stage_seen_here names made os k o op known at = sym (ap stage_seen (stage_was names made os k o known at.here op) ∙ (one (same_op o.op op) (seek stage_at (others os k) op) at.is ∙ which o.phase))
   where
-    one : (b : Bool) (r : Option Stage) → b ≡ true → standing_of (or_as (over (cond b (Some (stage_in o.update o.phase)) None) r) Closed) ≡ standing_of (stage_in o.update o.phase)
+    one : (b : Bool) (r : Option Stage) → b ≡ true → stage_seen (or_as (over (cond b (Some (stage_in o.update o.phase)) None) r) Closed) ≡ stage_seen (stage_in o.update o.phase)
     one true r e = refl
     one false r e = absurd (clash (sym e))
 
-    which : (ph : Phase) → standing_of (stage_in o.update ph) ≡ standing_in ph
+    which : (ph : Phase) → stage_seen (stage_in o.update ph) ≡ stage_seen_in ph
     which phase.Waiting = refl
     which (phase.Asking lock first) = refl
     which (phase.Changing lock number) = refl
@@ -181,12 +181,6 @@ module _ (names : List Node) (lost : List Bool) (made : ℕ) (os : List OpenComm
   pub complete_here : complete_in o.phase o.marks lost x ≡ is_complete (live_in names lost) (uses_in names made os x)
   complete_here = sym (ap (is_complete (live_in names lost)) (was names made os k o known at.here x) ∙ completes o.op o.update o.phase o.marks _ _ at.has (known.marked k o at.here))
 
-  waits_not : (b c : Bool) → not (does_wait (after_round (cond b AskingRest AskingFirst) c)) ≡ c
-  waits_not true true = refl
-  waits_not true false = refl
-  waits_not false true = refl
-  waits_not false false = refl
-
   abbrev goes_on : List Mark → ℕ → Bool → Bool
   goes_on marks first granted = not (does_wait (after_round (round_in marks first) (all_marks marks lost NotDenied Nobody granted)))
 
@@ -227,19 +221,19 @@ no_locking names made os s x same e h = clash (sym h ∙ nothing_of is_locking f
 pub no_updating : (names : List Node) (made : ℕ) (os s : List OpenCommand) (x : ℕ) → s ≡ os → list_any (λ o. has_in o.phase x) s ≡ false → is_updating (uses_in names made os x) ≡ true → ⊥
 no_updating names made os s x same e h = clash (sym h ∙ nothing_of is_updating false names made os s x same e refl refl)
 
-pub no_waiting : (os s : List OpenCommand) (op : OpId) → s ≡ os → list_any (λ o. same_op o.op op) s ≡ false → standing_of (stages_in os op) ≡ standing.Waiting → ⊥
-no_waiting os s op same e h = let c : standing_of Closed ≡ standing.Waiting = ap standing_of (sym (closed_of os s op same e)) ∙ h in cc
+pub no_waiting : (os s : List OpenCommand) (op : OpId) → s ≡ os → list_any (λ o. same_op o.op op) s ≡ false → stage_seen (stages_in os op) ≡ seen.Waiting → ⊥
+no_waiting os s op same e h = let c : stage_seen Closed ≡ seen.Waiting = ap stage_seen (sym (closed_of os s op same e)) ∙ h in cc
 
 -- ---- the phase of a command, by what is asked of it
 
 module _ (names : List Node) (made : ℕ) (os : List OpenCommand) (k : ℕ) (o : OpenCommand) (known : AreKnown names made os) where
-  pub waiting_phase : (op : OpId) → StandsFor os k o op → standing_of (stages_in os op) ≡ standing.Waiting → o.phase ≡ phase.Waiting
-  waiting_phase op at e = go o.phase refl (standing_here names made os k o op known at ∙ e)
+  pub waiting_phase : (op : OpId) → StandsFor os k o op → stage_seen (stages_in os op) ≡ seen.Waiting → o.phase ≡ phase.Waiting
+  waiting_phase op at e = go o.phase refl (stage_seen_here names made os k o op known at ∙ e)
     where
-      go : (ph : Phase) → o.phase ≡ ph → standing_in o.phase ≡ standing.Waiting → o.phase ≡ phase.Waiting
+      go : (ph : Phase) → o.phase ≡ ph → stage_seen_in o.phase ≡ seen.Waiting → o.phase ≡ phase.Waiting
       go phase.Waiting p h = p
-      go (phase.Asking lock first) p h = absurd (let c : standing.Asking lock ≡ standing.Waiting = ap standing_in (sym p) ∙ h in cc)
-      go (phase.Changing lock number) p h = absurd (let c : standing.Changing number ≡ standing.Waiting = ap standing_in (sym p) ∙ h in cc)
+      go (phase.Asking lock first) p h = absurd (let c : seen.Asking lock ≡ seen.Waiting = ap stage_seen_in (sym p) ∙ h in cc)
+      go (phase.Changing lock number) p h = absurd (let c : seen.Changing number ≡ seen.Waiting = ap stage_seen_in (sym p) ∙ h in cc)
 
   pub locking_phase : (x : ℕ) → Stands os k o x → is_locking (uses_in names made os x) ≡ true → (first : ℕ) × (o.phase ≡ phase.Asking x first)
   locking_phase x at i = go o.phase refl at.has (ap is_locking (sym (was names made os k o known at.here x)) ∙ i)
@@ -286,7 +280,7 @@ waiting_here names made os k o op known at = sym (ap waiting_of (stage_was names
     which (phase.Changing lock number) = refl
 
 -- whether a command waits, by how it stands
-pub waits_so : (m : Nodes) (stage : Stage) (uses : ℕ → Use) (s : State) → s.uses ≡ uses → waits_by (standing_of stage) (λ number. is_complete m (uses number)) ≡ waits m stage s
+pub waits_so : (m : Nodes) (stage : Stage) (uses : ℕ → Use) (s : State) → s.uses ≡ uses → waits_by (stage_seen stage) (λ number. is_complete m (uses number)) ≡ waits m stage s
 waits_so m Closed uses s e = refl
 waits_so m (Waiting update) uses s e = refl
 waits_so m (Asking lock) uses s e = λ i. is_complete m (sym e i lock)
@@ -308,11 +302,11 @@ update_gathered (Owning name number) = refl
 update_gathered (Updating op update lock replied) = refl
 update_gathered Spent = refl
 
-closed_stage : (stage : Stage) → is_closed (standing_of stage) ≡ true → stage ≡ Closed
+closed_stage : (stage : Stage) → is_closed (stage_seen stage) ≡ true → stage ≡ Closed
 closed_stage Closed e = refl
 closed_stage (Waiting update) e = absurd (clash (sym e))
 closed_stage (Asking lock) e = absurd (clash (sym e))
 closed_stage (Changing number) e = absurd (clash (sym e))
 
-pub closed_by : (b : Bool) (stage : Stage) → b ≡ is_closed (standing_of stage) → (b ≡ true → stage ≡ Closed) × (stage ≡ Closed → b ≡ true)
-closed_by b stage e = (λ h. closed_stage stage (sym e ∙ h), λ h. e ∙ ap (λ z. is_closed (standing_of z)) h)
+pub closed_by : (b : Bool) (stage : Stage) → b ≡ is_closed (stage_seen stage) → (b ≡ true → stage ≡ Closed) × (stage ≡ Closed → b ≡ true)
+closed_by b stage e = (λ h. closed_stage stage (sym e ∙ h), λ h. e ∙ ap (λ z. is_closed (stage_seen z)) h)

@@ -13,6 +13,7 @@ pub mod Listed
 pub mod Named
 pub mod Placed
 pub mod Requested
+pub mod Rest
 pub mod Sameness
 pub mod Twins
 pub mod Uses

@@ -12,7 +12,7 @@ use Rattle.pg_opens.specs.declared.command.Phase.TheVariants as phase
 use Rattle.pg_opens.specs.declared.command.OpenCommand.{OpenCommand}
 use Rattle.pg_opens.specs.Layers.{over, or_as, seek, answers}
 use Rattle.pg_opens.specs.Commands.{stage_in, stage_at, stages_in}
-use Rattle.pg_opens.specs.Readings.{standing_of, is_closed}
+use Rattle.pg_opens.specs.Readings.{stage_seen, is_closed}
 use Rattle.pg_opens.proofs.Layered.{Apart, quiet_left, quiet_right}
 use Rattle.pg_opens.proofs.Named.{clash, split}
 use Rattle.pg_opens.proofs.Followed.{op_is, op_same}
@@ -52,17 +52,17 @@ unfolding IsDistinct
 ops_once [] apart = tt
 ops_once (o ∷ os) apart = (no_other o.op os (apart.0 o.op (loud_op o)), ops_once os apart.1)
 
-pub ops_open : (os : List OpenCommand) (op : OpId) → list_any (λ other. same_op other op) (map (λ command. command.op) os) ≡ not (is_closed (standing_of (stages_in os op)))
+pub ops_open : (os : List OpenCommand) (op : OpId) → list_any (λ other. same_op other op) (map (λ command. command.op) os) ≡ not (is_closed (stage_seen (stages_in os op)))
 ops_open [] op = refl
 ops_open (o ∷ os) op = go (same_op o.op op) (ops_open os op)
   where
-    stands : (u : Update) (ph : Phase) → true ≡ not (is_closed (standing_of (stage_in u ph)))
+    stands : (u : Update) (ph : Phase) → true ≡ not (is_closed (stage_seen (stage_in u ph)))
     stands u phase.Waiting = refl
     stands u (phase.Asking lock first) = refl
     stands u (phase.Changing lock number) = refl
 
-    go : (b : Bool) → list_any (λ other. same_op other op) (map (λ command. command.op) os) ≡ not (is_closed (standing_of (stages_in os op)))
+    go : (b : Bool) → list_any (λ other. same_op other op) (map (λ command. command.op) os) ≡ not (is_closed (stage_seen (stages_in os op)))
         → (b || list_any (λ other. same_op other op) (map (λ command. command.op) os))
-        ≡ not (is_closed (standing_of (or_as (over (cond b (Some (stage_in o.update o.phase)) None) (seek stage_at os op)) Closed)))
+        ≡ not (is_closed (stage_seen (or_as (over (cond b (Some (stage_in o.update o.phase)) None) (seek stage_at os op)) Closed)))
     go true e = stands o.update o.phase
     go false e = e

@@ -10,7 +10,7 @@ use Rattle.pg_opens.specs.declared.command.OpenCommand.{OpenCommand}
 use Rattle.pg_opens.specs.declared.opens.Opens.{Opens}
 use Rattle.pg_opens.specs.Places.{lost_in, live_in, whole_in}
 use Rattle.pg_opens.specs.Commands.{uses_in, stages_in}
-use Rattle.pg_opens.specs.Readings.{standing_of, is_closed}
+use Rattle.pg_opens.specs.Readings.{stage_seen, is_closed}
 
 -- the nodes of the set by their places, the own one first
 abbrev pub names_of : Opens → List Node
@@ -60,7 +60,7 @@ ops_of opens = map (λ command. command.op) opens.commands.items
 pub record AreListed (opens : Opens) (ops : List OpId) : Type 0 where
   pub count : length ops ≡ opened_of opens
   pub once : IsDistinct same_op ops
-  pub open_ones : (op : OpId) → list_any (λ other. same_op other op) ops ≡ not (is_closed (standing_of (stages_of opens op)))
+  pub open_ones : (op : OpId) → list_any (λ other. same_op other op) ops ≡ not (is_closed (stage_seen (stages_of opens op)))
 
 -- a state of a node, as these lists say it
 pub record Says (names : List Node) (lost : List Bool) (made : ℕ) (commands : List OpenCommand) (s : State) : Type 0 where

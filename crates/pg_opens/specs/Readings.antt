@@ -14,8 +14,8 @@ use Rattle.pg_opens.specs.declared.command.Phase.{Phase}
 use Rattle.pg_opens.specs.declared.command.Phase.TheVariants as phase
 use Rattle.pg_opens.specs.declared.command.Gathering.{Gathering}
 use Rattle.pg_opens.specs.declared.command.Gathering.TheVariants as gathering
-use Rattle.pg_opens.specs.declared.command.Standing.{Standing}
-use Rattle.pg_opens.specs.declared.command.Standing.TheVariants as standing
+use Rattle.pg_opens.specs.declared.command.Stage.{Stage as SeenStage}
+use Rattle.pg_opens.specs.declared.command.Stage.TheVariants as seen
 use Rattle.pg_opens.specs.Marks.{status_of, has_yes, all_marks}
 use Rattle.pg_opens.specs.declared.mark.Asked.TheVariants.{Nobody}
 use Rattle.pg_opens.specs.declared.mark.Wanted.TheVariants.{Answered, Granted}
@@ -40,18 +40,18 @@ abbrev pub is_updating : Use → Bool
 is_updating (Updating op update lock replied) = true
 is_updating used = false
 
--- how a command in this stage stands
-abbrev pub standing_of : Stage → Standing
-standing_of Closed = standing.Closed
-standing_of (Waiting update) = standing.Waiting
-standing_of (Asking lock) = standing.Asking lock
-standing_of (Changing number) = standing.Changing number
+-- a stage as a caller sees it, without the update
+abbrev pub stage_seen : Stage → SeenStage
+stage_seen Closed = seen.Closed
+stage_seen (Waiting update) = seen.Waiting
+stage_seen (Asking lock) = seen.Asking lock
+stage_seen (Changing number) = seen.Changing number
 
-abbrev pub is_closed : Standing → Bool
-is_closed standing.Closed = true
-is_closed standing.Waiting = false
-is_closed (standing.Asking lock) = false
-is_closed (standing.Changing number) = false
+abbrev pub is_closed : SeenStage → Bool
+is_closed seen.Closed = true
+is_closed seen.Waiting = false
+is_closed (seen.Asking lock) = false
+is_closed (seen.Changing number) = false
 
 abbrev pub is_lock : Gathering → Bool
 is_lock (gathering.Lock op) = true
@@ -70,10 +70,10 @@ gathering_in op phase.Waiting x = gathering.Nothing
 gathering_in op (phase.Asking lock first) x = cond (nat_eq lock x) (gathering.Lock op) gathering.Nothing
 gathering_in op (phase.Changing lock number) x = cond (nat_eq number x) (gathering.Update op lock) gathering.Nothing
 
-abbrev pub standing_in : Phase → Standing
-standing_in phase.Waiting = standing.Waiting
-standing_in (phase.Asking lock first) = standing.Asking lock
-standing_in (phase.Changing lock number) = standing.Changing number
+abbrev pub stage_seen_in : Phase → SeenStage
+stage_seen_in phase.Waiting = seen.Waiting
+stage_seen_in (phase.Asking lock first) = seen.Asking lock
+stage_seen_in (phase.Changing lock number) = seen.Changing number
 
 -- in the second round the node that was asked first is not asked
 abbrev pub heard_by : Taken → Bool → Taken
@@ -115,8 +115,8 @@ waiting_in update (phase.Asking lock first) = None
 waiting_in update (phase.Changing lock number) = None
 
 -- whether a command that stands so waits for its retry, where all that is gathered under a reference has come
-abbrev pub waits_by : Standing → (ℕ → Bool) → Bool
-waits_by standing.Closed complete = false
-waits_by standing.Waiting complete = true
-waits_by (standing.Asking lock) complete = complete lock
-waits_by (standing.Changing number) complete = complete number
+abbrev pub waits_by : SeenStage → (ℕ → Bool) → Bool
+waits_by seen.Closed complete = false
+waits_by seen.Waiting complete = true
+waits_by (seen.Asking lock) complete = complete lock
+waits_by (seen.Changing number) complete = complete number

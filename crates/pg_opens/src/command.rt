@@ -13,7 +13,7 @@ use pg_multicall::Taken;
 use pg_step::OpId;
 use std::alloc::{AllocError, Global};
 
-/// How far an open command is, with the numbers of its references.
+/// The stage of an open command with what is kept beside: who was asked first, and the lock of an update.
 #[derive(Clone, Copy, Debug, PartialEq, Eq)]
 pub enum Phase {
     /// It waits for its retry.
@@ -45,9 +45,9 @@ pub enum Gathering {
     Update(OpId, u32),
 }
 
-/// How far a command is.
+/// The stage of a command, as a caller sees it.
 #[derive(Clone, Copy, Debug, PartialEq, Eq)]
-pub enum Standing {
+pub enum Stage {
     /// It is not open.
     Closed,
     /// It waits for its retry.
@@ -58,7 +58,7 @@ pub enum Standing {
     Changing(u32),
 }
 
-impl Standing {
+impl Stage {
     ghost use Rattle.pg_opens.specs.Readings.{is_closed};
 
     /// Whether the command is not open.
@@ -68,8 +68,8 @@ impl Standing {
         ensures { result ≡ is_closed self }
     {
         match self {
-            Standing::Closed => true,
-            Standing::Waiting | Standing::Asking(_) | Standing::Changing(_) => false,
+            Stage::Closed => true,
+            Stage::Waiting | Stage::Asking(_) | Stage::Changing(_) => false,
         }
     }
 }
@@ -108,7 +108,7 @@ impl OpenCommand {
     ghost use Rattle.pg_opens.specs.declared.command.Phase.TheVariants.{Waiting, Asking, Changing};
     ghost use Rattle.pg_opens.specs.Marks.{first_mark, mark_at, asked_in, has_yes, verdict_mark};
     ghost use Rattle.pg_opens.specs.Commands.{Turns, Forgets, first_in};
-    ghost use Rattle.pg_opens.specs.Readings.{gathering_in, standing_in, heard_in};
+    ghost use Rattle.pg_opens.specs.Readings.{gathering_in, stage_seen_in, heard_in};
     ghost use Rattle.pg_opens.specs.Readings.{complete_in, update_in, waiting_in, gathers_in};
     ghost use Rattle.std.specs.Option.{option_copied};
     ghost use Rattle.pg_opens.specs.Outlooks.{outlook_in, round_in};
@@ -167,13 +167,13 @@ impl OpenCommand {
         }
     }
 
-    pub fn standing(&self) -> Standing
-        ensures { result ≡ standing_in self.now.phase }
+    pub fn stage(&self) -> Stage
+        ensures { result ≡ stage_seen_in self.now.phase }
     {
         match self.phase {
-            Phase::Waiting => Standing::Waiting,
-            Phase::Asking(lock, _) => Standing::Asking(lock),
-            Phase::Changing(_, update) => Standing::Changing(update),
+            Phase::Waiting => Stage::Waiting,
+            Phase::Asking(lock, _) => Stage::Asking(lock),
+            Phase::Changing(_, update) => Stage::Changing(update),
         }
     }
 
@@ -317,6 +317,7 @@ impl OpenCommand {
         let marks = &self.marks;
         let answered = marks.all_pass(lost, Wanted::Answered, Asked::Nobody, granted);
         let none_denied = marks.all_pass(lost, Wanted::NotDenied, Asked::Nobody, granted);
+        // In both rounds the command waits exactly where one has denied.
         let waits = self.round(first).after_round(none_denied).waits();
         let all_granted = marks.all_pass(lost, Wanted::Granted, Asked::All, granted);
         let none_missing = marks.all_pass(lost, Wanted::Answered, Asked::All, granted);

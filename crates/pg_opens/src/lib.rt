@@ -1,6 +1,6 @@
 //! The commands that are open at a node, and what is gathered for each of them.
 //!
-//! `opens.standing(op)` says how far a command is. Begin with `src/opens.rt`, then `specs/Commands.antt`.
+//! `opens.stage(op)` says how far a command is. Begin with `src/opens.rt`, then `specs/Commands.antt`.
 #![tactic(auto)]
 
 mod command;
@@ -12,7 +12,7 @@ mod opens;
 mod outlook;
 mod twin;
 
-pub use command::{Gathering, Standing};
+pub use command::{Gathering, Stage};
 pub use laws::steps_go_by_outlook;
 pub use mark::Asked;
 pub use opens::Opens;

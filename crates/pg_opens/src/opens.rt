@@ -7,7 +7,7 @@ ghost use Rattle.pg_opens.specs.Places.{ArePlaces, name_at};
 ghost use Rattle.pg_opens.specs.declared.command.OpenCommand.{OpenCommand};
 ghost use Rattle.pg_opens.specs.Commands.{AreKnown};
 
-use crate::command::{Gathering, OpenCommand, Phase, Standing, place_of, place_of_op};
+use crate::command::{Gathering, OpenCommand, Phase, Stage, place_of, place_of_op};
 use crate::mark::Asked;
 use crate::marks::Marks;
 use crate::nodes::{greatest_place, place_of_atom};
@@ -29,7 +29,7 @@ pub struct Opens {
     // How many references were made.
     references: u32,
     commands: Vec<OpenCommand>,
-    // Where a change was last, if that command is still there: each call looks at that place first.
+    // Where a change or `look_for` was last, if that command is still there: each call looks at that place first.
     recent: usize,
     ghost apart: { IsDistinct same_atom names.items } by { IsDistinct-prop same_atom names.items },
     ghost places: { ArePlaces names.items lost.items },
@@ -56,7 +56,7 @@ impl Opens {
     ghost use Rattle.pg_opens.specs.Opens.{AreSame, lost_of, references_of, uses_of, opened_of};
     ghost use Rattle.pg_opens.specs.Opens.{stages_of, Shows, Follows, has_room};
     ghost use Rattle.pg_opens.specs.Marks.{whom, has_place};
-    ghost use Rattle.pg_opens.specs.Readings.{gathering_of, standing_of, is_locking};
+    ghost use Rattle.pg_opens.specs.Readings.{gathering_of, stage_seen, is_locking};
     ghost use Rattle.pg_opens.specs.Readings.{is_updating, update_of, waiting_of, waits_by};
     ghost use Rattle.pg_opens.specs.Outlooks.{outlook_of};
     ghost use Rattle.pg_step.specs.State.Status.{Asked as AskedYet};
@@ -244,17 +244,17 @@ impl Opens {
             && have_twins(&other.commands, &self.commands)
     }
 
-    /// How far a command is.
+    /// The stage of a command: how far it is.
     ///
     /// Cost: no memory; O(open commands).
-    pub fn standing(&self, op: OpId) -> Standing
-        ensures { result ≡ standing_of (stages_of self.now op) }
+    pub fn stage(&self, op: OpId) -> Stage
+        ensures { result ≡ stage_seen (stages_of self.now op) }
     {
         match place_of_op(&self.commands, self.recent, op) {
-            None => Standing::Closed,
+            None => Stage::Closed,
             Some(place) => {
                 let command = &self.commands[place];
-                command.standing()
+                command.stage()
             }
         }
     }
@@ -283,7 +283,7 @@ impl Opens {
     pub fn is_closed(&self, op: OpId) -> bool
         ensures { (result ≡ true) ↔ (stages_of self.now op ≡ Closed) }
     {
-        self.standing(op).is_closed()
+        self.stage(op).is_closed()
     }
 
     /// What a reply of a node under the reference of this number is to what is gathered there. `place`: the node's,
@@ -387,16 +387,16 @@ impl Opens {
     pub fn waits(&self, op: OpId) -> bool
         ensures { (s : State) → Shows self.now s → result ≡ waits (live_of self.now) (stages_of self.now op) s }
     {
-        self.waits_in(self.standing(op))
+        self.waits_in(self.stage(op))
     }
 
-    fn waits_in(&self, standing: Standing) -> bool
-        ensures { result ≡ waits_by standing (λ number. is_complete (live_of self.now) (uses_of self.now number)) }
+    fn waits_in(&self, stage: Stage) -> bool
+        ensures { result ≡ waits_by stage (λ number. is_complete (live_of self.now) (uses_of self.now number)) }
     {
-        match standing {
-            Standing::Closed => false,
-            Standing::Waiting => true,
-            Standing::Asking(number) | Standing::Changing(number) => self.is_complete(number),
+        match stage {
+            Stage::Closed => false,
+            Stage::Waiting => true,
+            Stage::Asking(number) | Stage::Changing(number) => self.is_complete(number),
         }
     }
 
@@ -437,7 +437,7 @@ impl Opens {
     ///
     /// Cost: no memory; O(open commands + nodes).
     pub fn start(&mut self, op: OpId, first: usize)
-        requires waits { standing_of (stages_of self.old op) ≡ Standing.Waiting }
+        requires waits { stage_seen (stages_of self.old op) ≡ Stage.Waiting }
         requires first { first < length (names_of self.old) }
         requires number { references_of self.old + 1 < 2 ^ 32 }
         ensures turned { (update : Update) → stages_of self.old op ≡ Waiting update
@@ -598,6 +598,19 @@ impl Opens {
         }
     }
 
+    /// Looks for the command that has the reference of this number: the calls that follow look there first. Nothing
+    /// else changes.
+    ///
+    /// Cost: no memory; O(open commands).
+    pub fn look_for(&mut self, number: u32)
+        ensures same { Follows self.old self.new becomes }
+        ensures nodes { names_of self.new ≡ names_of self.old }
+    {
+        if let Some(place) = place_of(&self.commands, self.recent, number) {
+            self.recent = place;
+        }
+    }
+
     /// Makes room for one more command. Nothing else changes.
     ///
     /// Errors: `AllocError`, which changes nothing.
@@ -634,7 +647,7 @@ impl Opens {
     ///
     /// Cost: no memory; O(open commands).
     pub fn take_back(&mut self, op: OpId)
-        requires waits { standing_of (stages_of self.old op) ≡ Standing.Waiting }
+        requires waits { stage_seen (stages_of self.old op) ≡ Stage.Waiting }
         ensures turned { Follows self.old self.new (command_taken_back op) }
         ensures nodes { names_of self.new ≡ names_of self.old }
     {

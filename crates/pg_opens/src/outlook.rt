@@ -6,14 +6,12 @@ ghost use Rattle.pg_opens.specs.Outlooks.{outlook_by};
 pub enum Outlook {
     /// An answer is missing.
     Wait,
-    /// One has denied: the attempt is given up.
+    /// One has denied, or the own node does, which alone was not asked: the attempt is given up.
     GiveUp,
     /// The rest is asked, and the command waits for the answers.
     Ask,
     /// The rest is asked, which is at most the own node, and all have granted: the update begins.
     Begin,
-    /// The rest is asked, which is the own node, and it denies: the attempt is given up.
-    AskThenGiveUp,
 }
 
 impl Outlook {
@@ -31,7 +29,7 @@ impl Outlook {
         } else if granted {
             Outlook::Begin
         } else if none_missing {
-            Outlook::AskThenGiveUp
+            Outlook::GiveUp
         } else {
             Outlook::Ask
         }

@@ -4,8 +4,8 @@ ghost use Rattle.std.specs.Prelude.{◌≡◌, ◌≤◌, ◌<◌, ◌+◌, ◌*
 ghost use Rattle.pg_group.specs.declared.update.Update.{Update};
 ghost use Rattle.pg_group.specs.Value.{count_in, name_of};
 ghost use Rattle.pg_message.specs.declared.packet.TheConstants.{MAX_STAMP};
-ghost use Rattle.pg_opens.specs.Readings.{standing_of};
-ghost use Rattle.pg_opens.specs.declared.command.Standing.TheVariants as standings;
+ghost use Rattle.pg_opens.specs.Readings.{stage_seen};
+ghost use Rattle.pg_opens.specs.declared.command.Stage.TheVariants as seen;
 ghost use Rattle.pg_step.specs.declared.command.OpId.{OpId};
 ghost use Rattle.pg_step.specs.Nodes.{Node, greatest, is_peer};
 ghost use Rattle.pg_step.specs.Peers.{would_grant};
@@ -41,7 +41,7 @@ impl<T: GroupTable + Drop> NodeState<T> {
         requires within { clock ≤ MAX_STAMP }
         requires made { (kept_by self.old).references + 2 ≤ 2 * clock }
         requires few { (name : Term) (pid : Pid) → count_in (T.contents self.old.table name) pid + 1 ≤ 2 ^ 32 + clock }
-        requires waits { standing_of ((kept_by self.old).stages op) ≡ standings.Waiting }
+        requires waits { stage_seen ((kept_by self.old).stages op) ≡ seen.Waiting }
         ensures happens { (update : Update) → (kept_by self.old).stages op ≡ Waiting update → IfOk result (λ done. Happens (names_of self.old)
             (at_clock clock (attempt (live_of self.old) op update (kept_by self.old)))
             done (state_of self.new) (answers_of self.old) (answers_of self.new)) }
@@ -71,7 +71,7 @@ impl<T: GroupTable + Drop> NodeState<T> {
         requires within { clock ≤ MAX_STAMP }
         requires made { (kept_by self.old).references + 2 ≤ 2 * clock }
         requires few { (name : Term) (pid : Pid) → count_in (T.contents self.old.table name) pid + 1 ≤ 2 ^ 32 + clock }
-        requires waits { standing_of ((kept_by self.old).stages op) ≡ standings.Waiting }
+        requires waits { stage_seen ((kept_by self.old).stages op) ≡ seen.Waiting }
         requires place { first < length (names_of self.old) }
         requires apart { 0 < first }
         requires peer { is_peer (live_of self.old) (name_at (names_of self.old) first) ≡ true }
@@ -98,7 +98,7 @@ impl<T: GroupTable + Drop> NodeState<T> {
         requires within { clock ≤ MAX_STAMP }
         requires made { (kept_by self.old).references + 2 ≤ 2 * clock }
         requires few { (name : Term) (pid : Pid) → count_in (T.contents self.old.table name) pid + 1 ≤ 2 ^ 32 + clock }
-        requires waits { standing_of ((kept_by self.old).stages op) ≡ standings.Waiting }
+        requires waits { stage_seen ((kept_by self.old).stages op) ≡ seen.Waiting }
         requires own { name_at (names_of self.old) 0 ≡ greatest (live_of self.old) }
         requires denies { (update : Update) → (kept_by self.old).stages op ≡ Waiting update → would_grant (live_of self.old) (kept_by self.old) (name_of update) ≡ false }
         ensures happens { (update : Update) → (kept_by self.old).stages op ≡ Waiting update → Happens (names_of self.old)
@@ -121,7 +121,7 @@ impl<T: GroupTable + Drop> NodeState<T> {
         requires within { clock ≤ MAX_STAMP }
         requires made { (kept_by self.old).references + 2 ≤ 2 * clock }
         requires few { (name : Term) (pid : Pid) → count_in (T.contents self.old.table name) pid + 1 ≤ 2 ^ 32 + clock }
-        requires waits { standing_of ((kept_by self.old).stages op) ≡ standings.Waiting }
+        requires waits { stage_seen ((kept_by self.old).stages op) ≡ seen.Waiting }
         requires own { name_at (names_of self.old) 0 ≡ greatest (live_of self.old) }
         requires grants { (update : Update) → (kept_by self.old).stages op ≡ Waiting update → would_grant (live_of self.old) (kept_by self.old) (name_of update) ≡ true }
         requires some { (q : Node) × (is_peer (live_of self.old) q ≡ true) }
@@ -159,7 +159,7 @@ impl<T: GroupTable + Drop> NodeState<T> {
         requires within { clock ≤ MAX_STAMP }
         requires made { (kept_by self.old).references + 2 ≤ 2 * clock }
         requires few { (name : Term) (pid : Pid) → count_in (T.contents self.old.table name) pid + 1 ≤ 2 ^ 32 + clock }
-        requires waits { standing_of ((kept_by self.old).stages op) ≡ standings.Waiting }
+        requires waits { stage_seen ((kept_by self.old).stages op) ≡ seen.Waiting }
         requires own { name_at (names_of self.old) 0 ≡ greatest (live_of self.old) }
         requires grants { (update : Update) → (kept_by self.old).stages op ≡ Waiting update → would_grant (live_of self.old) (kept_by self.old) (name_of update) ≡ true }
         requires alone { (q : Node) → is_peer (live_of self.old) q ≡ false }
@@ -191,7 +191,7 @@ impl<T: GroupTable + Drop> NodeState<T> {
 
     /// Whether the own node would grant the lock to a command that waits.
     fn would_grant_to(&self, op: OpId) -> bool
-        requires { standing_of ((kept_by self.now).stages op) ≡ standings.Waiting }
+        requires { stage_seen ((kept_by self.now).stages op) ≡ seen.Waiting }
         ensures { (update : Update) → (kept_by self.now).stages op ≡ Waiting update → result ≡ would_grant (live_of self.now) (kept_by self.now) (name_of update) }
     {
         let name = waiting_under(&self.opens, op).name();

@@ -8,8 +8,8 @@ ghost use Rattle.pg_message.specs.declared.message.Message.TheVariants as messag
 ghost use Rattle.pg_message.specs.declared.message.Request.TheVariants as requests;
 ghost use Rattle.pg_opens.specs.Opens.{names_of, live_of, references_of, stages_of, Shows};
 ghost use Rattle.pg_opens.specs.Places.{name_at};
-ghost use Rattle.pg_opens.specs.Readings.{standing_of};
-ghost use Rattle.pg_opens.specs.declared.command.Standing.TheVariants as standings;
+ghost use Rattle.pg_opens.specs.Readings.{stage_seen};
+ghost use Rattle.pg_opens.specs.declared.command.Stage.TheVariants as seen;
 ghost use Rattle.pg_step.specs.Attempts.{attempt, own_reference};
 ghost use Rattle.pg_step.specs.Nodes.{Node, greatest, is_peer, to_one, to_peers};
 ghost use Rattle.pg_step.specs.Peers.{would_grant};
@@ -40,7 +40,7 @@ pub(crate) fn first_asked(
     op: OpId,
     first: usize,
 ) -> Result<Done, AllocError>
-    requires waits { standing_of (stages_of opens.now op) ≡ standings.Waiting }
+    requires waits { stage_seen (stages_of opens.now op) ≡ seen.Waiting }
     requires next { references_of opens.now + 1 < 2 ^ 32 }
     requires place { first < length (names_of opens.now) }
     requires peer { 0 < first }
@@ -68,7 +68,7 @@ pub(crate) fn all_asked(
     opens: &Opens,
     op: OpId,
 ) -> Result<Done, AllocError>
-    requires waits { standing_of (stages_of opens.now op) ≡ standings.Waiting }
+    requires waits { stage_seen (stages_of opens.now op) ≡ seen.Waiting }
     requires next { references_of opens.now + 1 < 2 ^ 32 }
     requires within { clock ≤ MAX_STAMP }
     requires named { (update : Update) → stages_of opens.now op ≡ Waiting update → is_name (name_of update) ≡ true }
@@ -89,7 +89,7 @@ pub(crate) fn all_asked(
 ///
 /// Errors: `AllocError`.
 pub(crate) fn began_alone(alloc: Global, opens: &Opens, op: OpId) -> Result<Done, AllocError>
-    requires waits { standing_of (stages_of opens.now op) ≡ standings.Waiting }
+    requires waits { stage_seen (stages_of opens.now op) ≡ seen.Waiting }
     ensures sends { IfOk result (λ done. done.sends.items ≡ []) }
     ensures began { (update : Update) → stages_of opens.now op ≡ Waiting update → IfOk result (λ done. done.began ≡ Some (op, update)) }
     ensures odd { IfOk result (λ done. done.odd ≡ None) }
@@ -106,7 +106,7 @@ pub(crate) fn began_alone(alloc: Global, opens: &Opens, op: OpId) -> Result<Done
 /// A command that waits begins an attempt, and the node at a place is asked, alone: the greatest live one. `granted`:
 /// what the own node would answer. It takes no memory.
 pub(crate) fn ask_first(opens: &mut Opens, op: OpId, first: usize, granted: bool)
-    requires waits { standing_of (stages_of opens.old op) ≡ standings.Waiting }
+    requires waits { stage_seen (stages_of opens.old op) ≡ seen.Waiting }
     requires next { references_of opens.old + 1 < 2 ^ 32 }
     requires place { first < length (names_of opens.old) }
     requires greatest { name_at (names_of opens.old) first ≡ greatest (live_of opens.old) }
@@ -122,7 +122,7 @@ pub(crate) fn ask_first(opens: &mut Opens, op: OpId, first: usize, granted: bool
 
 /// A command that waits is carried out at once, where the own node grants the lock and no peer counts. It takes no memory.
 pub(crate) fn end_alone(opens: &mut Opens, op: OpId)
-    requires waits { standing_of (stages_of opens.old op) ≡ standings.Waiting }
+    requires waits { stage_seen (stages_of opens.old op) ≡ seen.Waiting }
     requires next { references_of opens.old + 2 < 2 ^ 32 }
     requires own { name_at (names_of opens.old) 0 ≡ greatest (live_of opens.old) }
     requires alone { (q : Node) → is_peer (live_of opens.old) q ≡ false }
@@ -141,7 +141,7 @@ pub(crate) fn end_alone(opens: &mut Opens, op: OpId)
 
 /// The update of a command that waits. It takes no memory: O(open commands).
 pub(crate) fn waiting_under(opens: &Opens, op: OpId) -> &Update
-    requires { standing_of (stages_of opens.now op) ≡ standings.Waiting }
+    requires { stage_seen (stages_of opens.now op) ≡ seen.Waiting }
     ensures { stages_of opens.now op ≡ Waiting result.now }
 {
     match opens.waiting_update(op) {

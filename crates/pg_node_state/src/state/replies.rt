@@ -81,6 +81,42 @@ impl<T: GroupTable + Drop> NodeState<T> {
         ensures ports { ports_of self.new ≡ ports_of self.old }
         ensures fits { IfOk result (λ done. AreSendable (names_of self.old) done.sends.items) }
     {
+        self.look_for(number);
+        self.take_looked_for(clock, peer, number, said)
+    }
+
+    /// Looks for the command that has the reference of this number, so that what follows finds it at once.
+    fn look_for(&mut self, number: u32)
+        ensures state { state_of self.new ≡ state_of self.old }
+        ensures answers { answers_of self.new ≡ answers_of self.old }
+        ensures left { live_of self.new ≡ live_of self.old }
+        ensures names { names_of self.new ≡ names_of self.old }
+        ensures ports { ports_of self.new ≡ ports_of self.old }
+    {
+        self.opens.look_for(number);
+    }
+
+    /// Takes the reply once its command was looked for.
+    fn take_looked_for(
+        &mut self,
+        clock: u32,
+        peer: usize,
+        number: u32,
+        said: Said,
+    ) -> Result<Done, NodeFault>
+        requires later { self.old.clock < clock }
+        requires within { clock ≤ MAX_STAMP }
+        requires place { peer + 1 < length (names_of self.old) }
+        ensures light { is_counted (what_of true (gathered (use_of (live_of self.old) (numbered (live_of self.old).own number) (kept_by self.old)) (name_at (names_of self.old) (peer + 1)))) ≡ false
+            → result ≢ Err OutOfMemory }
+        ensures comes { ComesAt clock (names_of self.old) (reply_taken (live_of self.old) (name_at (names_of self.old) (peer + 1)) (numbered (live_of self.old).own number) said (kept_by self.old))
+            result (state_of self.new) (answers_of self.old) (answers_of self.new) }
+        ensures err { OnErr result (state_of self.new ≡ state_of self.old) }
+        ensures err_answers { OnErr result (answers_of self.new ≡ answers_of self.old) }
+        ensures names { names_of self.new ≡ names_of self.old }
+        ensures ports { ports_of self.new ≡ ports_of self.old }
+        ensures fits { IfOk result (λ done. AreSendable (names_of self.old) done.sends.items) }
+    {
         let kind = is_kind(self.opens.gathering(number), said);
         match self.opens.heard(number, peer + 1) {
             Taken::Stranger => Ok(self.note_odd(clock, Odd::Stranger)),

@@ -6,7 +6,7 @@ ghost use Rattle.pg_message.specs.declared.packet.TheConstants.{MAX_STAMP};
 use crate::state::{Done, NodeFault, NodeState};
 use pg_group::GroupTable;
 use pg_message::MAX_STAMP;
-use pg_opens::{Gathering, Standing};
+use pg_opens::{Gathering, Stage};
 use pg_step::{OpId, Refusal};
 use std::alloc::AllocError;
 
@@ -56,9 +56,9 @@ impl<T: GroupTable + Drop> NodeState<T> {
     pub fn is_ready(&self, op: OpId) -> bool
         ensures { result ≡ is_ready (live_of self.now) ((kept_by self.now).stages op) (kept_by self.now) }
     {
-        match self.opens.standing(op) {
-            Standing::Asking(number) | Standing::Changing(number) => self.opens.is_complete(number),
-            Standing::Closed | Standing::Waiting => false,
+        match self.opens.stage(op) {
+            Stage::Asking(number) | Stage::Changing(number) => self.opens.is_complete(number),
+            Stage::Closed | Stage::Waiting => false,
         }
     }
 
@@ -75,11 +75,11 @@ impl<T: GroupTable + Drop> NodeState<T> {
         ensures ports { ports_of self.new ≡ ports_of self.old }
         ensures fits { IfOk result (λ done. AreSendable (names_of self.old) done.sends.items) }
     {
-        match self.opens.standing(op) {
-            Standing::Closed => Ok(self.wait(clock)),
-            Standing::Waiting => self.attempt(clock, op),
-            Standing::Asking(number) => self.go_on_asking(clock, number),
-            Standing::Changing(number) => self.go_on_changing(clock, number),
+        match self.opens.stage(op) {
+            Stage::Closed => Ok(self.wait(clock)),
+            Stage::Waiting => self.attempt(clock, op),
+            Stage::Asking(number) => self.go_on_asking(clock, number),
+            Stage::Changing(number) => self.go_on_changing(clock, number),
         }
     }
 

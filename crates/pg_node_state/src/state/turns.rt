@@ -226,7 +226,6 @@ impl<T: GroupTable + Drop> NodeState<T> {
         match self.opens.outlook(number, granted) {
             Outlook::Wait => Ok(self.wait(clock)),
             Outlook::GiveUp => self.stop_asking(clock, number),
-            Outlook::AskThenGiveUp => self.stop_asking(clock, number),
             Outlook::Ask => self.ask_rest(clock, number),
             Outlook::Begin => {
                 if has_peer(&self.opens) {

@@ -1,7 +1,7 @@
 use crate::commands::sights::Sight::{self, *};
 use crate::commands::steps::Step::{self, *};
 use pg_multicall::Taken::{Counted, Double, Stranger};
-use pg_opens::{Gathering, Outlook, Standing};
+use pg_opens::{Gathering, Outlook, Stage};
 use pg_step::OpId;
 
 /// Steps, and what is seen then.
@@ -56,7 +56,7 @@ pub const SAME: &[Both] = &[
 /// c is asked first, then a and b; the update goes out, and the command ends.
 pub const GATHERED: &[Row] = &[
     (&[Opens(1)], &[Open(1), HasWaitingUpdate(1)]),
-    (&[Starts(1, 2)], &[Stands(1, Standing::Asking(1))]),
+    (&[Starts(1, 2)], &[Stands(1, Stage::Asking(1))]),
     (&[Asks(1, Some(2), true)], &[Looks(1, true, Outlook::Wait)]),
     (&[], &[Hears(1, 1, Stranger)]),
     (&[Answers(1, 2, true)], &[Looks(1, true, Outlook::Ask)]),
@@ -68,7 +68,7 @@ pub const GATHERED: &[Row] = &[
     (&[], &[HasUpdate(2)]),
     (&[Replies(2, 1)], &[IsComplete(2, false)]),
     (&[Replies(2, 2)], &[IsComplete(2, true)]),
-    (&[Finishes(2)], &[Stands(1, Standing::Closed), Open(0)]),
+    (&[Finishes(2)], &[Stands(1, Stage::Closed), Open(0)]),
 ];
 
 /// A counted answer that is taken back is counted again, and so is a reply.
@@ -79,16 +79,20 @@ pub const TAKEN_BACK: &[Row] = &[
     (&[Answers(1, 2, true), Asks(1, None, true)], &[]),
     (&[Answers(1, 1, true), Updates(1)], &[]),
     (&[Replies(2, 1), Replies(2, 2), TakesBackReply(2, 1)], &[]),
+    (&[Opens(2), LooksFor(2)], &[Open(2)]),
     (&[], &[IsComplete(2, false), Hears(2, 1, Counted)]),
 ];
 
-/// One denies, and the command waits for its retry.
+/// One denies, and the command waits for its retry; then the own node denies, which alone was not asked.
 pub const DENIED: &[Row] = &[
     (BEGINS, &[]),
     (&[Answers(1, 2, false)], &[Looks(1, true, Outlook::GiveUp)]),
     (&[GivesUp(1)], &[Waits(1, true)]),
     (&[], &[Gathers(1, Gathering::Nothing)]),
-    (&[Starts(1, 2)], &[Stands(1, Standing::Asking(2))]),
+    (&[Starts(1, 2)], &[Stands(1, Stage::Asking(2))]),
+    (&[Asks(2, Some(2), true), Answers(2, 2, true)], &[]),
+    (&[Loses(1)], &[Looks(2, false, Outlook::GiveUp)]),
+    (&[], &[Looks(2, true, Outlook::Begin)]),
 ];
 
 /// What waits for a lost node alone waits for its retry.

@@ -1,7 +1,7 @@
 use crate::commands::steps::op;
 use crate::samples::atom;
 use pg_multicall::Taken;
-use pg_opens::{Asked, Gathering, Opens, Outlook, Standing};
+use pg_opens::{Asked, Gathering, Opens, Outlook, Stage};
 use pg_step::OpId;
 use pg_term::Atom;
 use std::alloc::Global;
@@ -14,7 +14,7 @@ pub enum Sight {
     Open(usize),
     /// The command at a place of the list of those that are open.
     At(usize, Option<OpId>),
-    Stands(u32, Standing),
+    Stands(u32, Stage),
     /// Whether a command waits for its retry.
     Waits(u32, bool),
     /// A command waits with its update.
@@ -44,7 +44,7 @@ pub fn see(rt: &impl Abort, alloc: Global, opens: &Opens, sight: Sight) -> bool 
     match sight {
         Sight::Open(count) => opens.open_count() == count,
         Sight::At(place, found) => op_at(opens, place) == found,
-        Sight::Stands(number, standing) => opens.standing(op(number)) == standing,
+        Sight::Stands(number, stage) => opens.stage(op(number)) == stage,
         Sight::Waits(number, waits) => opens.waits(op(number)) == waits,
         Sight::HasWaitingUpdate(number) => opens.waiting_update(op(number)).is_some(),
         Sight::Gathers(number, gathering) => opens.gathering(number) == gathering,

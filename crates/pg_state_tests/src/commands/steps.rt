@@ -3,7 +3,7 @@ ghost use Rattle.pg_term.specs.Same.{same_atom};
 
 use crate::samples::atom;
 use pg_group::Update;
-use pg_opens::{Asked, Opens, Standing};
+use pg_opens::{Asked, Opens, Stage};
 use pg_step::OpId;
 use pg_term::{Atom, Term};
 use std::alloc::{AllocError, Global};
@@ -30,6 +30,8 @@ pub enum Step {
     TakesBackReply(u32, usize),
     GivesUp(u32),
     Finishes(u32),
+    /// The command of a reference is looked for.
+    LooksFor(u32),
     /// A node is lost.
     Loses(usize),
 }
@@ -58,6 +60,7 @@ fn go(rt: &impl Abort, opens: &mut Opens, step: Step) {
         Step::TakesBackReply(number, place) => reply(rt, opens, number, place, false),
         Step::GivesUp(number) => give_up(rt, opens, number),
         Step::Finishes(number) => finish(rt, opens, number),
+        Step::LooksFor(number) => opens.look_for(number),
         Step::Loses(place) => lose(rt, opens, place),
     }
 }
@@ -81,7 +84,7 @@ fn open_once(opens: &mut Opens, op: OpId) -> Result<(), AllocError> {
 }
 
 fn start(rt: &impl Abort, opens: &mut Opens, op: OpId, first: usize) {
-    assert!(rt; opens.standing(op) == Standing::Waiting);
+    assert!(rt; opens.stage(op) == Stage::Waiting);
     assert!(rt; first < opens.node_count());
     assert!(rt; opens.references() < 1000);
     opens.start(op, first);

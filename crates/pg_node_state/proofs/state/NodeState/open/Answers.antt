@@ -8,7 +8,7 @@ use Rattle.std.proofs.lemmas.Bool.{eq-eqb}
 use Rattle.pg_opens.specs.declared.opens.Opens.{Opens}
 use Rattle.pg_opens.specs.Opens.{Shows, names_of as opens_names, live_of as live_in}
 use Rattle.pg_opens.specs.Opens.{lost_of, references_of, uses_of, opened_of, stages_of}
-use Rattle.pg_opens.specs.Readings.{standing_of}
+use Rattle.pg_opens.specs.Readings.{stage_seen}
 use Rattle.pg_opens.specs.TakenBack.{command_taken_back}
 use Rattle.pg_group.proofs.Changes.{upd_at}
 use Rattle.pg_opens.proofs.Followed.{op_same}
@@ -107,7 +107,7 @@ attempt-requires g c =
       within = c.requires.within;
       made = omega (arith, sym turned.references, old.made, c.requires.later);
       few = λ name pid. omega (arith, old.few name pid, c.requires.later);
-      waits = ap standing_of (ap (λ (stages : OpId → Stage). stages op) (sym turned.stages) ∙ upd_at same_op (kept_by old).stages op (Waiting update) (op_same op));
+      waits = ap stage_seen (ap (λ (stages : OpId → Stage). stages op) (sym turned.stages) ∙ upd_at same_op (kept_by old).stages op (Waiting update) (op_same op));
     }
 
 pub returns-in-Ok-clause-happens : goal.returns-in-Ok-clause-happens
@@ -154,8 +154,8 @@ take_back-requires g c =
     let update : Update = c.in_ok-update.update in
     let turned : Shows c.add.new.self (opened_state port op update (kept_by old)) = c.add.ensures.turned (counted_state port (kept_by old)) (shows_counted c.prepared.new.opens port (kept_by old) (c.prepared.ensures.same (kept_by old) (shows old))) in
     record {
-      waits = ap (λ (x : Timed State). standing_of (x.state.stages op)) c.in-Err.ensures.err
-          ∙ (ap (λ (stages : OpId → Stage). standing_of (stages op)) (sym turned.stages) ∙ ap standing_of (upd_at same_op (kept_by old).stages op (Waiting update) (op_same op)));
+      waits = ap (λ (x : Timed State). stage_seen (x.state.stages op)) c.in-Err.ensures.err
+          ∙ (ap (λ (stages : OpId → Stage). stage_seen (stages op)) (sym turned.stages) ∙ ap stage_seen (upd_at same_op (kept_by old).stages op (Waiting update) (op_same op)));
     }
 
 pub uncount-requires : goal.uncount-requires

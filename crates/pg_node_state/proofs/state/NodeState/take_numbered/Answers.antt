@@ -1,77 +1,31 @@
-use Rattle.std.proofs.Common.{◌∙◌, ◌+◌, ℕ, true, Result, Ok, Err, sym, ap, subst, arith}
-use Rattle.pg_term.specs.RefParts.{RefParts}
-use Rattle.pg_refs.specs.Numbered.{numbered}
-use Rattle.pg_multicall.specs.declared.gather.Taken.TheVariants as taken
-use Rattle.pg_opens.specs.Places.{name_at}
-use Rattle.pg_step.specs.declared.refusal.Refusal.{Refusal}
+use Rattle.std.proofs.Common.{◌≡◌, ◌∙◌, ◌+◌, ℕ, List, true, ap, subst}
+use Rattle.std.specs.Prelude.{OnErr}
+use Rattle.pg_machine.specs.Clocked.{Timed}
 use Rattle.pg_multicall.specs.Gathered.{what_of}
-use Rattle.pg_step.specs.Attempts.{gathered}
-use Rattle.pg_step.specs.Nodes.{Node, Nodes}
-use Rattle.pg_step.specs.State.{Use}
-use Rattle.pg_step.specs.Turns.{NodeTurn}
-use Rattle.pg_node_state.specs.declared.state.fault.NodeFault.TheVariants.{OutOfMemory}
-use Rattle.pg_node_state.specs.States.{names_of, live_of, kept_by, state_of, answers_of, is_counted, ComesAt}
-use Rattle.pg_opens.proofs.Named.{clash}
-use Rattle.pg_node_state.proofs.Replied.{read_numbered, leads, number_is, use_is}
+use Rattle.pg_opens.specs.Places.{name_at}
+use Rattle.pg_refs.specs.Numbered.{numbered}
+use Rattle.pg_step.specs.declared.answer.Answer.{Answer}
+use Rattle.pg_step.specs.Attempts.{gathered, use_of}
+use Rattle.pg_step.specs.State.{State}
+use Rattle.pg_node_state.specs.States.{names_of, live_of, kept_by, state_of, answers_of, is_counted}
+use Rattle.pg_node_state.proofs.Replied.{comes_as}
 use Rattle.pg_node_state.proofs.state.NodeState.take_numbered.Goals as goal
 
-pub returns-in-Stranger-clause-comes : goal.returns-in-Stranger-clause-comes
-returns-in-Stranger-clause-comes g c =
+pub returns-clause-comes : goal.returns-clause-comes
+returns-clause-comes g c =
     let old = c.args.self.now in
-    let m : Nodes = live_of old in
-    let p : Node = name_at (names_of old) (c.args.peer + 1) in
-    let n : ℕ = c.args.number in
-    let reference : RefParts = numbered m.own n in
-    let read = read_numbered m.own n (omega arith) in
-    let goes = leads m p reference c.args.said (kept_by old) n read in
-    let kind = c.is_kind-kind.ensures ((kept_by old).uses n) c.gathering.ensures in
-    subst (λ (r : Result NodeTurn Refusal). ComesAt c.args.clock (names_of old) r (Ok c.note_odd.result) (state_of c.note_odd.new.self) (answers_of old) (answers_of c.note_odd.new.self)) (sym (goes taken.Stranger c.is_kind-kind.result (sym c.in-Stranger.is ∙ c.heard.ensures) kind)) c.note_odd.ensures.happens
+    let sought = c.look_for.new.self in
+    comes_as c.args.clock c.args.peer c.args.number c.args.said (names_of old) (names_of sought) (live_of old) (live_of sought) (kept_by old) (kept_by sought) (answers_of old) (answers_of sought)
+    c.take_looked_for.result (state_of c.take_looked_for.new.self) (answers_of c.take_looked_for.new.self)
+    c.look_for.ensures.names c.look_for.ensures.left (ap (λ (x : Timed State). x.state) c.look_for.ensures.state) c.look_for.ensures.answers c.take_looked_for.ensures.comes
 
-pub returns-in-Double-clause-comes : goal.returns-in-Double-clause-comes
-returns-in-Double-clause-comes g c =
-    let old = c.args.self.now in
-    let m : Nodes = live_of old in
-    let p : Node = name_at (names_of old) (c.args.peer + 1) in
-    let n : ℕ = c.args.number in
-    let reference : RefParts = numbered m.own n in
-    let read = read_numbered m.own n (omega arith) in
-    let goes = leads m p reference c.args.said (kept_by old) n read in
-    let kind = c.is_kind-kind.ensures ((kept_by old).uses n) c.gathering.ensures in
-    subst (λ (r : Result NodeTurn Refusal). ComesAt c.args.clock (names_of old) r (Ok c.note_odd-in-Double.result) (state_of c.note_odd-in-Double.new.self) (answers_of old) (answers_of c.note_odd-in-Double.new.self)) (sym (goes taken.Double true (sym c.in-Double.is ∙ c.heard.ensures) (sym c.if-kind.true ∙ kind))) c.note_odd-in-Double.ensures.happens
+pub returns-clause-light : goal.returns-clause-light
+returns-clause-light g c = λ light.
+    c.take_looked_for.ensures.light
+    ((λ i. is_counted (what_of true (gathered (use_of (c.look_for.ensures.left i) (numbered (c.look_for.ensures.left i).own c.args.number) (c.look_for.ensures.state i).state) (name_at (c.look_for.ensures.names i) (c.args.peer + 1))))) ∙ light)
 
-pub returns-in-Ok-clause-comes : goal.returns-in-Ok-clause-comes
-returns-in-Ok-clause-comes g c =
-    let old = c.args.self.now in
-    let m : Nodes = live_of old in
-    let p : Node = name_at (names_of old) (c.args.peer + 1) in
-    let n : ℕ = c.args.number in
-    let reference : RefParts = numbered m.own n in
-    let read = read_numbered m.own n (omega arith) in
-    let goes = leads m p reference c.args.said (kept_by old) n read in
-    let kind = c.is_kind-kind.ensures ((kept_by old).uses n) c.gathering.ensures in
-    subst (λ (r : Result NodeTurn Refusal). ComesAt c.args.clock (names_of old) r (Ok c.in-Ok.done) (state_of c.count.new.self) (answers_of old) (answers_of c.count.new.self)) (sym (goes taken.Counted true (sym c.in-Counted.is ∙ c.heard.ensures) (sym c.if-kind-2.true ∙ kind))) c.in-Ok.ensures.happens
+pub returns-clause-err : goal.returns-clause-err
+returns-clause-err g c = subst (λ (s : Timed State). OnErr c.take_looked_for.result (state_of c.take_looked_for.new.self ≡ s)) c.look_for.ensures.state c.take_looked_for.ensures.err
 
-pub returns-in-Err-clause-comes : goal.returns-in-Err-clause-comes
-returns-in-Err-clause-comes g c =
-    let old = c.args.self.now in
-    let m : Nodes = live_of old in
-    let p : Node = name_at (names_of old) (c.args.peer + 1) in
-    let n : ℕ = c.args.number in
-    let reference : RefParts = numbered m.own n in
-    let read = read_numbered m.own n (omega arith) in
-    let goes = leads m p reference c.args.said (kept_by old) n read in
-    let kind = c.is_kind-kind.ensures ((kept_by old).uses n) c.gathering.ensures in
-    subst (λ (r : Result NodeTurn Refusal). ComesAt c.args.clock (names_of old) r (Err OutOfMemory) (state_of c.count.new.self) (answers_of old) (answers_of c.count.new.self)) (sym (goes taken.Counted true (sym c.in-Counted.is ∙ c.heard.ensures) (sym c.if-kind-2.true ∙ kind))) tt
-
-pub returns-in-Err-clause-light : goal.returns-in-Err-clause-light
-returns-in-Err-clause-light g c = λ light is.
-    let old = c.args.self.now in
-    let m : Nodes = live_of old in
-    let p : Node = name_at (names_of old) (c.args.peer + 1) in
-    let n : ℕ = c.args.number in
-    let reference : RefParts = numbered m.own n in
-    let read = read_numbered m.own n (omega arith) in
-    let same = use_is m p reference c.args.said (kept_by old) n read
-    ∙ ap (λ (k : ℕ). (kept_by old).uses k) (number_is m p reference c.args.said (kept_by old) n read) in
-    let counted = ap is_counted (sym (sym c.in-Counted.is ∙ c.heard.ensures)) in
-    clash (sym (ap (λ (u : Use). is_counted (what_of true (gathered u p))) same ∙ counted) ∙ light)
+pub returns-clause-err_answers : goal.returns-clause-err_answers
+returns-clause-err_answers g c = subst (λ (answers : ℕ → List Answer). OnErr c.take_looked_for.result (answers_of c.take_looked_for.new.self ≡ answers)) c.look_for.ensures.answers c.take_looked_for.ensures.err_answers

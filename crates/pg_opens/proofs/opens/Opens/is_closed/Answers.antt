@@ -5,4 +5,4 @@ use Rattle.pg_opens.proofs.Found.{closed_by}
 use Rattle.pg_opens.proofs.opens.Opens.is_closed.Goals as goal
 
 pub returns : goal.returns
-returns c = closed_by c.is_closed.result (stages_of c.args.self.now c.args.op) (c.is_closed.ensures ∙ ap is_closed c.standing.ensures)
+returns c = closed_by c.is_closed.result (stages_of c.args.self.now c.args.op) (c.is_closed.ensures ∙ ap is_closed c.stage.ensures)

@@ -7,5 +7,5 @@ use Rattle.pg_opens.proofs.opens.Opens.waits.Goals as goal
 
 pub returns : goal.returns
 returns c s h = c.waits_in.ensures
-    ∙ (ap (λ z. waits_by z (λ number. is_complete (live_of c.args.self.now) (uses_of c.args.self.now number))) c.standing.ensures
+    ∙ (ap (λ z. waits_by z (λ number. is_complete (live_of c.args.self.now) (uses_of c.args.self.now number))) c.stage.ensures
     ∙ waits_so (live_of c.args.self.now) (stages_of c.args.self.now c.args.op) (uses_of c.args.self.now) s h.uses)
