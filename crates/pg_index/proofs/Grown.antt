@@ -1,6 +1,6 @@
 -- Tables to which names are added, and taken out again.
 use Rattle.std.proofs.Math.Path.{fun_ext}
-use Rattle.std.proofs.Common.{◌≡◌, ℕ, ◌+◌, ◌<◌, Bool, true, false, cond, Option, Some, None, List, [], ◌∷◌, ◌++◌, length}
+use Rattle.std.proofs.Common.{◌≡◌, ℕ, ◌<◌, Bool, true, false, cond, Option, Some, None, List, [], ◌∷◌, ◌++◌, length}
 use Rattle.std.proofs.Common.{refl, sym, ap, subst, ◌∙◌, nat_eq, arith, append_assoc, append-nil, length-append}
 use Rattle.std.specs.Prelude.{Result, Ok, Err, OnOk, OnErr}
 use Rattle.std.specs.Option.{option_map}
@@ -52,20 +52,21 @@ none_more xs (y ∷ ys) e = absurd (let all = length-append xs (y ∷ ys) in ome
 
 number_among : (used : ℕ → Bool) (test : Term → Bool) (group : ℕ) (more : List (Term × ℕ)) → AllByRecursion (λ entry. used entry.1 ≡ false) more → lookup test more ≡ Some group → used group ≡ false
 number_among used test group [] free found = absurd cc
-number_among used test group (e ∷ es) free found = go (test e.0) found
+number_among used test group (e ∷ es) free found = go (test e.0) found (number_among used test group es free.1)
   where
-    go : (t : Bool) → cond t (Some e.1) (lookup test es) ≡ Some group → used group ≡ false
-    go true is = let same : e.1 ≡ group = cc in sym (ap used same) ∙ free.0
-    go false is = number_among used test group es free.1 is
+    go : (t : Bool) → cond t (Some e.1) (lookup test es) ≡ Some group → (lookup test es ≡ Some group → used group ≡ false) → used group ≡ false
+    go true is later = let same : e.1 ≡ group = cc in sym (ap used same) ∙ free.0
+    go false is later = later is
 
 number_came : (used : ℕ → Bool) (test : Term → Bool) (group : ℕ) (entries more : List (Term × ℕ)) → AllByRecursion (λ entry. used entry.1 ≡ false) more
     → lookup test entries ≡ None → lookup test (entries ++ more) ≡ Some group → used group ≡ false
 number_came used test group [] more free none found = number_among used test group more free found
-number_came used test group (e ∷ es) more free none found = go (test e.0) none found
+number_came used test group (e ∷ es) more free none found = go (test e.0) none found (number_came used test group es more free)
   where
-    go : (t : Bool) → cond t (Some e.1) (lookup test es) ≡ None → cond t (Some e.1) (lookup test (es ++ more)) ≡ Some group → used group ≡ false
-    go true no is = absurd cc
-    go false no is = number_came used test group es more free no is
+    go : (t : Bool) → cond t (Some e.1) (lookup test es) ≡ None → cond t (Some e.1) (lookup test (es ++ more)) ≡ Some group
+        → (lookup test es ≡ None → lookup test (es ++ more) ≡ Some group → used group ≡ false) → used group ≡ false
+    go true missing is later = absurd cc
+    go false missing is later = later missing is
 
 -- ---- a table that grows
 
@@ -175,3 +176,11 @@ module _ (n : Numbers) (m : Memberships) (numbers : Numbers) (now : Memberships)
         go : (name : Term) (o : Option ℕ) → number_of n name ≡ o → option_map (counts_in now.groups) o ≡ option_map (counts_in m.groups) o
         go name None e = refl
         go name (Some k) e = ap Some (grown.kept k (there name k e))
+
+-- the name of a group that is absent has no number
+pub unnumbered : (n : Numbers) (m : Memberships) (name : Term) → table_of n m name ≡ None → number_of n name ≡ None
+unnumbered n m name absent = go (number_of n name) absent
+  where
+    go : (o : Option ℕ) → option_map (counts_in m.groups) o ≡ None → o ≡ None
+    go None e = refl
+    go (Some k) e = absurd cc

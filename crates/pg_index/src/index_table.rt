@@ -63,7 +63,10 @@ fn cut_last(numbers: &mut IndexMap<Term, u32>, memberships: &mut Memberships)
         → IsGrown n m numbers.old memberships.old → IsGrown n m numbers.new memberships.new }
 {
     match numbers.pop() {
-        Some((_, number)) => memberships.close(number),
+        Some((name, number)) => {
+            drop(name);
+            memberships.close(number);
+        }
         None => unreachable!(),
     }
 }
@@ -130,9 +133,13 @@ impl IndexTable {
             → IsGrown n m self.new.numbers self.new.memberships }
     {
         if let Some(number) = self.number(&name) {
+            drop(name);
             return Ok(number);
         }
-        let number = self.memberships.open()?;
+        let Ok(number) = self.memberships.open() else {
+            drop(name);
+            return Err(AllocError);
+        };
         if let Ok(_) = self.numbers.insert(name, number) {
             return Ok(number);
         }
