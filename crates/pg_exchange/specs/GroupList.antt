@@ -1,9 +1,8 @@
 -- The groups that a peer announces.
 pub use Rattle.pg_group.specs.Table.{GroupList, all_merged}
-use Rattle.std.specs.Prelude.{Bool, cond, List, [], ◌∷◌, map, None}
+use Rattle.std.specs.Prelude.{cond, List, [], ◌∷◌, map, None}
 use Rattle.std.specs.List.{AllByRecursion}
 use Rattle.std.specs.List.Sorted.{IsSorted}
-use Rattle.pg_term.specs.declared.pid.Pid.{Pid}
 use Rattle.pg_term.specs.declared.term.Term.{Term}
 use Rattle.pg_term.specs.Same.{same_term, term_cmp}
 use Rattle.pg_group.specs.Value.{merge, listed}
