@@ -1,4 +1,5 @@
 pub mod Groups
 pub mod Marks
+pub mod Parts
 pub mod Undone
 pub mod Tables

@@ -1,23 +1,14 @@
 -- The groups that a peer announces.
-use Rattle.std.specs.Prelude.{Bool, cond, List, [], ◌∷◌, map, None}
+pub use Rattle.pg_group.specs.Table.{GroupList, all_merged}
+use Rattle.std.specs.Prelude.{cond, List, [], ◌∷◌, map, None}
 use Rattle.std.specs.List.{AllByRecursion}
 use Rattle.std.specs.List.Sorted.{IsSorted}
-use Rattle.pg_term.specs.declared.pid.Pid.{Pid}
 use Rattle.pg_term.specs.declared.term.Term.{Term}
 use Rattle.pg_term.specs.Same.{same_term, term_cmp}
 use Rattle.pg_group.specs.Value.{merge, listed}
 use Rattle.pg_group.specs.Scope.{anywhere}
 use Rattle.pg_group.specs.Members.{IsMemberList}
-use Rattle.pg_group.specs.Table.{Table, AreNames, merged}
-
--- groups with their members, each as often as its count
-abbrev pub GroupList : Type 0
-GroupList = List (Term × List Pid)
-
--- the table after it took in groups, one after the other
-abbrev pub all_merged : Table → GroupList → (Pid → Bool) → Table
-all_merged table [] ended = table
-all_merged table (group ∷ groups) ended = all_merged (merged table group.0 group.1 ended) groups ended
+use Rattle.pg_group.specs.Table.{Table, AreNames}
 
 -- the table that groups announce: where a name stands more than once, the greatest count of each pid
 abbrev pub announced_table : GroupList → Table

@@ -1,5 +1,6 @@
 -- How groups stood before they were merged, and what leads them back.
-use Rattle.std.specs.Prelude.{ℕ, cond, nat_lt, List, [], ◌∷◌, map, Option, Some, None}
+use Rattle.std.specs.Prelude.{ℕ, cond, nat_lt, List, [], ◌∷◌, map, Option, Some, None, IsSome}
+use Rattle.std.specs.List.{AllByRecursion}
 use Rattle.std.specs.Option.{option_map}
 use Rattle.std.specs.declared.vec.Vec.{Vec}
 use Rattle.std.specs.declared.alloc.Global.{Global}
@@ -10,6 +11,10 @@ use Rattle.pg_group.specs.Functions.{upd}
 use Rattle.pg_group.specs.Value.{Counts, Value, with_one_less}
 use Rattle.pg_group.specs.Table.{Table}
 use Rattle.pg_exchange.specs.GroupList.{GroupList}
+
+-- each of the groups is there
+abbrev pub ArePresent : Table → GroupList → Type 0
+ArePresent table groups = AllByRecursion (λ group. IsSome (table group.0)) groups
 
 -- of a group that was there, how often each pid of a list was a member
 abbrev pub Before : Type 0

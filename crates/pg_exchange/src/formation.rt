@@ -7,7 +7,7 @@ ghost use Rattle.pg_exchange.specs.GroupList.{all_merged};
 ghost use Rattle.pg_exchange.specs.declared.fault.ExchangeFault.TheVariants.{NotAMessage};
 
 use crate::fault::ExchangeFault;
-use crate::merging::merge_all;
+use crate::merging::{merge_all, merge_owned};
 use pg_group::{Ended, GroupTable};
 use pg_term::{Items, Pid, Term};
 use std::alloc::{AllocError, Global};
@@ -111,6 +111,36 @@ impl Formation {
             return Err(ExchangeFault::NotAMessage);
         }
         merge_all(self.alloc, groups, table, ended)?;
+        self.forget(peer);
+        Ok(())
+    }
+
+    /// The same of groups that are given to the table, which takes the names of those that it lacks, so that it holds
+    /// none of them twice.
+    ///
+    /// Errors: `NotAMessage` where the peer is merged already; else `OutOfMemory`. They change nothing.
+    ///
+    /// Cost: that of `take`.
+    pub fn take_owned<T: GroupTable>(
+        &mut self,
+        peer: usize,
+        groups: Vec<(Term, Items<Pid>)>,
+        table: &mut T,
+        ended: &Ended,
+    ) -> Result<(), ExchangeFault>
+        requires { peer < length self.old }
+        ensures marked { OnOk result (self.new ≡ slice_set self.old peer true) }
+        ensures merged { OnOk result
+            (T.contents table.new ≡ all_merged (T.contents table.old) groups.items (ended_of ended.now)) }
+        ensures err_marks { OnErr result (self.new ≡ self.old) }
+        ensures err_table { OnErr result (T.contents table.new ≡ T.contents table.old) }
+        ensures second { (result ≡ Err NotAMessage) ↔ (slice_get self.old peer ≡ Some true) }
+    {
+        if self.marks[peer] {
+            drop(groups);
+            return Err(ExchangeFault::NotAMessage);
+        }
+        merge_owned(self.alloc, groups, table, ended)?;
         self.forget(peer);
         Ok(())
     }

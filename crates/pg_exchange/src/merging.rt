@@ -1,9 +1,11 @@
-ghost use Rattle.std.specs.Prelude.{◌≡◌, ◌≤◌, [], length, map, IfOk, OnOk, OnErr};
+ghost use Rattle.std.specs.Prelude.{◌≡◌, ◌≤◌, [], Bool, length, map, IfOk, OnOk, OnErr};
+ghost use Rattle.pg_term.specs.declared.pid.Pid.{Pid};
 ghost use Rattle.pg_term.specs.Same.{same_term};
 ghost use Rattle.pg_group.specs.Functions.{upd};
 ghost use Rattle.pg_group.specs.Ended.{ended_of};
+ghost use Rattle.pg_group.specs.Table.{Table, AreAbsent};
 ghost use Rattle.pg_exchange.specs.GroupList.{all_merged};
-ghost use Rattle.pg_exchange.specs.Undone.{noted, before_of, put_back, undone};
+ghost use Rattle.pg_exchange.specs.Undone.{noted, before_of, put_back, undone, ArePresent};
 
 use pg_group::{Ended, GroupTable};
 use pg_term::{Items, Pid, Term};
@@ -12,6 +14,9 @@ use std::alloc::{AllocError, Global};
 // How a group was before it was merged: how often each pid that is announced was a member; `None` where it was
 // absent.
 type Before = Option<Vec<u64>>;
+
+// The name of a group and its members.
+type Group = (Term, Items<Pid>);
 
 /// Takes in groups, one after the other. It notes how each group was before.
 ///
@@ -34,6 +39,100 @@ pub fn merge_all<T: GroupTable>(
         undo(groups, table, before);
     }
     merged
+}
+
+/// The same of groups whose names are given to the table, where it lacks them.
+///
+/// Errors: `AllocError`, which changes nothing.
+///
+/// Cost: that of merging them, and for those that are there that of `merge_all`.
+pub fn merge_owned<T: GroupTable>(
+    alloc: Global,
+    groups: Vec<Group>,
+    table: &mut T,
+    ended: &Ended,
+) -> Result<(), AllocError>
+    ensures ok { OnOk result
+        (T.contents table.new ≡ all_merged (T.contents table.old) groups.items (ended_of ended.now)) }
+    ensures err { OnErr result (T.contents table.new ≡ T.contents table.old) }
+{
+    let (present, absent) = part(alloc, groups, table)?;
+    merge_parts(alloc, present, absent, table, ended)
+}
+
+/// The groups that are there, and those that are absent: to merge the former and then the latter is to merge all.
+fn part<T: GroupTable>(
+    alloc: Global,
+    groups: Vec<Group>,
+    table: &T,
+) -> Result<(Vec<Group>, Vec<Group>), AllocError>
+    ensures present { IfOk result (λ parts. ArePresent (T.contents table.now) parts.0.items) }
+    ensures absent { IfOk result (λ parts. AreAbsent (T.contents table.now) parts.1.items) }
+    ensures all { IfOk result (λ parts. (before : Table) (ended : Pid → Bool)
+        → all_merged (all_merged before parts.0.items ended) parts.1.items ended
+        ≡ all_merged before groups.items ended) }
+{
+    let mut present = Vec::new(alloc);
+    let mut absent = Vec::new(alloc);
+    for group in groups {
+        if table.has(&group.0) {
+            present.push(group)?;
+        } else {
+            absent.push(group)?;
+        }
+    }
+    Ok((present, absent))
+}
+
+/// Takes in groups that are there, and then others that are absent.
+fn merge_parts<T: GroupTable>(
+    alloc: Global,
+    present: Vec<Group>,
+    absent: Vec<Group>,
+    table: &mut T,
+    ended: &Ended,
+) -> Result<(), AllocError>
+    requires present { ArePresent (T.contents table.old) present.items }
+    requires absent { AreAbsent (T.contents table.old) absent.items }
+    ensures ok { OnOk result (T.contents table.new
+        ≡ all_merged (all_merged (T.contents table.old) present.items (ended_of ended.now))
+        absent.items (ended_of ended.now)) }
+    ensures err { OnErr result (T.contents table.new ≡ T.contents table.old) }
+{
+    let mut before = Vec::with_capacity(alloc, present.len())?;
+    let merged = merge_both(alloc, present.as_slice(), absent, table, ended, &mut before);
+    if merged.is_err() {
+        undo(present.as_slice(), table, before);
+    }
+    merged
+}
+
+/// The same, which notes how each group that is there was before.
+fn merge_both<T: GroupTable>(
+    alloc: Global,
+    present: &[Group],
+    absent: Vec<Group>,
+    table: &mut T,
+    ended: &Ended,
+    before: &mut Vec<Before>,
+) -> Result<(), AllocError>
+    requires none { before.old.items ≡ [] }
+    requires present { ArePresent (T.contents table.old) present.now }
+    requires absent { AreAbsent (T.contents table.old) absent.items }
+    ensures ok { OnOk result (T.contents table.new
+        ≡ all_merged (all_merged (T.contents table.old) present.now (ended_of ended.now))
+        absent.items (ended_of ended.now)) }
+    ensures back { OnErr result (undone (T.contents table.new) present.now (map noted before.new.items)
+        ≡ T.contents table.old) }
+    ensures within { length before.new.items ≤ length present.now }
+{
+    match merge_each(alloc, present, table, ended, before) {
+        Ok(()) => table.merge_absent(absent, ended),
+        Err(error) => {
+            drop(absent);
+            Err(error)
+        }
+    }
 }
 
 /// Merges group after group, and notes how each was before.

@@ -6,6 +6,7 @@ pub mod EndedCopies
 pub mod EndedListed
 pub mod EndedWithin
 pub mod Exchanges
+pub mod Groups
 pub mod Growth
 pub mod Lists
 pub mod Longer

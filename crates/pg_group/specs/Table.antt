@@ -1,6 +1,6 @@
 -- A table of groups, as a function from names to groups.
-use Rattle.std.specs.Prelude.{◌≡◌, ℕ, ◌+◌, ◌<◌, ◌≤◌, ◌^◌, length, Bool, true, false, cond, List, None, is_some, IsSome}
-use Rattle.std.specs.List.{IsDistinct, list_any}
+use Rattle.std.specs.Prelude.{◌≡◌, ℕ, ◌+◌, ◌<◌, ◌≤◌, ◌^◌, length, Bool, true, false, cond, List, [], ◌∷◌, None, is_some, IsSome}
+use Rattle.std.specs.List.{AllByRecursion, IsDistinct, list_any}
 use Rattle.pg_term.specs.declared.pid.Pid.{Pid}
 use Rattle.pg_term.specs.declared.term.Term.{Term}
 use Rattle.pg_term.specs.Same.{same_term, same_pid}
@@ -71,6 +71,19 @@ pub record PartlyMerged (old new : Table) (name : Term) (pids : List Pid) (ended
   pub others : (other : Term) → same_term name other ≡ false → new other ≡ old other
   pub stays : is_some (old name) ≡ true → is_some (new name) ≡ true
   pub raised : IsBetween (count_in (old name)) (count_in (exchanged (old name) pids ended)) (count_in (new name))
+
+-- groups with their members, each as often as its count
+abbrev pub GroupList : Type 0
+GroupList = List (Term × List Pid)
+
+-- the table after exchanges of groups, one after the other
+abbrev pub all_merged : Table → GroupList → (Pid → Bool) → Table
+all_merged table [] ended = table
+all_merged table (group ∷ groups) ended = all_merged (merged table group.0 group.1 ended) groups ended
+
+-- none of the groups is there
+abbrev pub AreAbsent : Table → GroupList → Type 0
+AreAbsent table groups = AllByRecursion (λ group. table group.0 ≡ None) groups
 
 -- the table without a pid; each group stays
 abbrev pub without : Table → Pid → Table

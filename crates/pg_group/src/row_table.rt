@@ -7,7 +7,7 @@ use crate::rows::{self, Rows, create, delete, join, leave};
 use crate::scope::Scope;
 use crate::table::GroupTable;
 use crate::update::Update;
-use pg_term::{Atom, Pid, Term};
+use pg_term::{Atom, Items, Pid, Term};
 use std::alloc::{AllocError, Global};
 use std::collections::BTreeMap;
 
@@ -77,6 +77,18 @@ impl GroupTable for RowTable {
 
     fn merge(&mut self, name: &Term, members: &[Pid], ended: &Ended) -> Result<(), AllocError> {
         rows::merge(&mut self.rows, self.alloc, name, members, ended)
+    }
+
+    /// Into a copy of the table, whatever its size.
+    fn merge_absent(
+        &mut self,
+        groups: Vec<(Term, Items<Pid>)>,
+        ended: &Ended,
+    ) -> Result<(), AllocError> {
+        let mut rows = rows::copy(&self.rows, self.alloc)?;
+        rows::merge_all(&mut rows, self.alloc, groups.as_slice(), ended)?;
+        self.rows = rows;
+        Ok(())
     }
 
     fn drop_pid(&mut self, pid: &Pid) {

@@ -2,14 +2,14 @@ ghost use Rattle.std.specs.Prelude.{◌≡◌, ◌+◌, ◌<◌, ◌^◌, None, 
 ghost use Rattle.pg_term.specs.Same.{same_term};
 ghost use Rattle.pg_group.specs.Functions.{upd};
 ghost use Rattle.pg_group.specs.Value.{apply, count_in};
-ghost use Rattle.pg_group.specs.Table.{merged, PartlyMerged, without, without_node};
+ghost use Rattle.pg_group.specs.Table.{merged, PartlyMerged, all_merged, without, without_node};
 ghost use Rattle.pg_group.specs.Ended.{ended_of};
 ghost use Rattle.pg_group.specs.Rows.{table_of};
 ghost use Rattle.pg_group.specs.declared.update.Update.TheVariants.{Create, Delete, Join, Leave};
 
 use crate::ended::Ended;
 use crate::members::Members;
-use pg_term::{Atom, Pid, Term};
+use pg_term::{Atom, Items, Pid, Term};
 use std::alloc::{AllocError, Global};
 use std::collections::BTreeMap;
 
@@ -98,6 +98,26 @@ pub fn merge(
         unreachable!()
     };
     members.raise_all(alloc, pids, ended)?;
+    Ok(())
+}
+
+/// Merges groups, one after the other.
+///
+/// Errors: `AllocError`, which may leave some of them merged.
+///
+/// Cost: that of merging them.
+pub fn merge_all(
+    rows: &mut Rows,
+    alloc: Global,
+    groups: &[(Term, Items<Pid>)],
+    ended: &Ended,
+) -> Result<(), AllocError>
+    ensures { OnOk result (table_of rows.new
+        ≡ all_merged (table_of rows.old) groups.now (ended_of ended.now)) }
+{
+    for (name, pids) in groups {
+        merge(rows, alloc, name, pids.as_slice(), ended)?;
+    }
     Ok(())
 }
 

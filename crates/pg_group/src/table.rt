@@ -8,14 +8,14 @@ ghost use Rattle.pg_group.specs.declared.update.Update.TheVariants.{Leave};
 ghost use Rattle.pg_group.specs.Functions.{upd};
 ghost use Rattle.pg_group.specs.Value.{apply, count_in};
 ghost use Rattle.pg_group.specs.Table.{Table, changed, HasRoom, Adds, Overfills, AreNames};
-ghost use Rattle.pg_group.specs.Table.{merged, PartlyMerged, without, without_node};
+ghost use Rattle.pg_group.specs.Table.{merged, PartlyMerged, all_merged, AreAbsent, without, without_node};
 ghost use Rattle.pg_group.specs.Scope.{in_scope};
 ghost use Rattle.pg_group.specs.Members.{IsMemberList};
 
 use crate::ended::Ended;
 use crate::scope::Scope;
 use crate::update::Update;
-use pg_term::{Atom, Pid, Term};
+use pg_term::{Atom, Items, Pid, Term};
 use std::alloc::{AllocError, Global};
 
 /// A table of process groups, however it is kept.
@@ -67,6 +67,23 @@ pub trait GroupTable {
             (contents self.new ≡ merged (contents self.old) name.now members.now (ended_of ended.now)) }
         ensures err { OnErr result
             (PartlyMerged (contents self.old) (contents self.new) name.now members.now (ended_of ended.now)) };
+
+    /// Takes in what another node says of groups that are absent: makes each under its name, which is the table's
+    /// from then on, with the count of each pid that has not ended as often as it is in the group's list. A name may
+    /// stand there more than once: it has the greatest counts.
+    ///
+    /// Errors: `AllocError`, which changes nothing.
+    ///
+    /// Cost: grows with `groups`.
+    fn merge_absent(
+        &mut self,
+        groups: Vec<(Term, Items<Pid>)>,
+        ended: &Ended,
+    ) -> Result<(), AllocError>
+        requires { AreAbsent (contents self.old) groups.items }
+        ensures ok { OnOk result
+            (contents self.new ≡ all_merged (contents self.old) groups.items (ended_of ended.now)) }
+        ensures err { OnErr result (contents self.new ≡ contents self.old) };
 
     /// Takes a pid out of every group, with all its counts; the groups stay.
     ///

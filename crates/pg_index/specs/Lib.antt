@@ -1,3 +1,4 @@
 pub mod Listings
 pub mod Groups
+pub mod Grown
 pub mod Index

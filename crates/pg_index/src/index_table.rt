@@ -1,19 +1,21 @@
-ghost use Rattle.std.specs.Prelude.{◌≡◌, ◌+◌, ◌<◌, ◌^◌, ◌⊎◌, true, false, None};
+ghost use Rattle.std.specs.Prelude.{◌≡◌, ◌+◌, ◌<◌, ◌≤◌, ◌^◌, ◌⊎◌, true, false, None, length};
 ghost use Rattle.std.specs.Prelude.{Some, OnOk, OnErr, IfOk, IsSome, option_copied};
 ghost use Rattle.pg_term.specs.Same.{same_term, same_pid};
 ghost use Rattle.pg_group.specs.Ended.{ended_of};
 ghost use Rattle.pg_group.specs.Functions.{upd};
 ghost use Rattle.pg_group.specs.Value.{apply, count_in};
-ghost use Rattle.pg_group.specs.Table.{changed, Adds, HasRoom, LacksRoom, Overfills};
+ghost use Rattle.pg_group.specs.Table.{changed, merged, all_merged, Adds, AreAbsent, HasRoom, LacksRoom, Overfills};
 ghost use Rattle.pg_group.specs.declared.update.Update.TheVariants.{Create, Delete, Join, Leave};
 ghost use Rattle.pg_index.specs.Groups.{is_used};
-ghost use Rattle.pg_index.specs.Index.{number_of, table_of, HasGroups, AreApart, MembersOf};
+ghost use Rattle.pg_index.specs.Index.{Numbers, number_of, table_of, HasGroups, AreApart, MembersOf};
+ghost use Rattle.pg_index.specs.Grown.{IsGrown};
+ghost use Rattle.pg_index.specs.declared.memberships.Memberships.{Memberships};
 
 use crate::memberships::Memberships;
 use indexmap::IndexMap;
 use pg_group::{Ended, GroupTable, Scope, Update};
 use pg_members::Members;
-use pg_term::{Atom, Pid, Term};
+use pg_term::{Atom, Items, Pid, Term};
 use std::alloc::{AllocError, Global};
 
 /// The table for many groups and members: a number for each name, the members of each number in an order that finds
@@ -39,6 +41,34 @@ fn copy_numbers(
         copy.insert(name.copy(alloc)?, *number)?;
     }
     Ok(copy)
+}
+
+/// Takes out the names after the first ones, with their groups.
+fn cut(numbers: &mut IndexMap<Term, u32>, memberships: &mut Memberships, first: usize)
+    requires { first ≤ length numbers.old.entries }
+    ensures first { length numbers.new.entries ≡ first }
+    ensures kept { (n : Numbers) (m : Memberships) → length n.entries ≤ first
+        → IsGrown n m numbers.old memberships.old → IsGrown n m numbers.new memberships.new }
+{
+    while numbers.len() > first {
+        cut_last(numbers, memberships);
+    }
+}
+
+/// Takes out the last name, with its group.
+fn cut_last(numbers: &mut IndexMap<Term, u32>, memberships: &mut Memberships)
+    requires { 0 < length numbers.old.entries }
+    ensures fewer { length numbers.new.entries + 1 ≡ length numbers.old.entries }
+    ensures kept { (n : Numbers) (m : Memberships) → length n.entries < length numbers.old.entries
+        → IsGrown n m numbers.old memberships.old → IsGrown n m numbers.new memberships.new }
+{
+    match numbers.pop() {
+        Some((name, number)) => {
+            drop(name);
+            memberships.close(number);
+        }
+        None => unreachable!(),
+    }
 }
 
 impl IndexTable {
@@ -86,12 +116,64 @@ impl IndexTable {
             return Ok(());
         }
         let copy = name.copy(self.alloc)?;
-        let number = self.memberships.open()?;
-        if let Ok(_) = self.numbers.insert(copy, number) {
-            return Ok(());
+        self.put(copy)?;
+        Ok(())
+    }
+
+    /// Makes an absent group empty under a name that is the table's from then on, and gives the number of the group.
+    /// An error changes nothing.
+    fn put(&mut self, name: Term) -> Result<u32, AllocError>
+        ensures number { IfOk result (λ number. number_of self.new.numbers name ≡ Some number) }
+        ensures ok { OnOk result (table_of self.new.numbers self.new.memberships
+            ≡ upd same_term (table_of self.old.numbers self.old.memberships) name
+            (apply (table_of self.old.numbers self.old.memberships name) (Create name))) }
+        ensures err { OnErr result (table_of self.new.numbers self.new.memberships
+            ≡ table_of self.old.numbers self.old.memberships) }
+        ensures kept { (n : Numbers) (m : Memberships) → IsGrown n m self.old.numbers self.old.memberships
+            → IsGrown n m self.new.numbers self.new.memberships }
+    {
+        if let Some(number) = self.number(&name) {
+            drop(name);
+            return Ok(number);
+        }
+        let Ok(number) = self.memberships.open() else {
+            drop(name);
+            return Err(AllocError);
+        };
+        if let Ok(_) = self.numbers.insert(name, number) {
+            return Ok(number);
         }
         self.memberships.close(number);
         Err(AllocError)
+    }
+
+    /// Merges a group under a name that is the table's from then on. An error may leave some of it.
+    fn merge_own(&mut self, name: Term, members: &[Pid], ended: &Ended) -> Result<(), AllocError>
+        ensures ok { OnOk result (table_of self.new.numbers self.new.memberships
+            ≡ merged (table_of self.old.numbers self.old.memberships) name members.now (ended_of ended.now)) }
+        ensures kept { (n : Numbers) (m : Memberships) → number_of n name ≡ None
+            → IsGrown n m self.old.numbers self.old.memberships
+            → IsGrown n m self.new.numbers self.new.memberships }
+    {
+        let number = self.put(name)?;
+        self.memberships.raise_all(number, members, ended)
+    }
+
+    /// Merges groups that are absent, one after the other. An error may leave some of them, and nothing else changed.
+    fn merge_each(
+        &mut self,
+        groups: Vec<(Term, Items<Pid>)>,
+        ended: &Ended,
+    ) -> Result<(), AllocError>
+        requires { AreAbsent (table_of self.old.numbers self.old.memberships) groups.items }
+        ensures ok { OnOk result (table_of self.new.numbers self.new.memberships
+            ≡ all_merged (table_of self.old.numbers self.old.memberships) groups.items (ended_of ended.now)) }
+        ensures kept { IsGrown self.old.numbers self.old.memberships self.new.numbers self.new.memberships }
+    {
+        for (name, members) in groups {
+            self.merge_own(name, members.as_slice(), ended)?;
+        }
+        Ok(())
     }
 
     /// Adds one to the count of a pid in a group that is there. Only a new member takes memory. An error changes nothing.
@@ -177,6 +259,19 @@ impl GroupTable for IndexTable {
             Some(number) => self.memberships.raise_all(number, members, ended),
             None => unreachable!(),
         }
+    }
+
+    fn merge_absent(
+        &mut self,
+        groups: Vec<(Term, Items<Pid>)>,
+        ended: &Ended,
+    ) -> Result<(), AllocError> {
+        let first = self.numbers.len();
+        let merged = self.merge_each(groups, ended);
+        if merged.is_err() {
+            cut(&mut self.numbers, &mut self.memberships, first);
+        }
+        merged
     }
 
     /// Its cost is that of the groups of the pid alone.

@@ -8,8 +8,9 @@ use Rattle.pg_group.specs.Functions.{upd}
 use Rattle.pg_lock.specs.Locks.{locks_of}
 use Rattle.pg_ends.specs.Processes.{made_of}
 use Rattle.pg_message.specs.declared.message.Message.{Message}
-use Rattle.pg_message.specs.declared.message.Message.TheVariants.{DelLock, Reply as Replied}
+use Rattle.pg_message.specs.declared.message.Message.TheVariants.{DelLock, Exchange, Reply as Replied}
 use Rattle.pg_message.specs.declared.packet.Packet.{Packet}
+use Rattle.pg_exchange.specs.GroupList.{GroupList}
 use Rattle.pg_machine.specs.Clocked.{Timed, Stamped}
 use Rattle.pg_multicall.specs.Gathered.{what_of}
 use Rattle.pg_multicall.specs.declared.gather.Taken.{Taken}
@@ -73,6 +74,10 @@ answers_of node = answers_in node.ports.items
 
 abbrev pub stamped_of : Packet → Stamped Message
 stamped_of packet = record { stamp = packet.stamp; packet = packet.message }
+
+-- the groups that a node announces
+abbrev pub announced_at : ℕ → Node → GroupList → Stamped Message
+announced_at stamp node groups = record { stamp = stamp; packet = Exchange node groups }
 
 -- the packets to each node, where each goes to a peer by its place among the peers
 abbrev pub sends_in : List Node → List (ℕ × Packet) → Node → List (Stamped Message)

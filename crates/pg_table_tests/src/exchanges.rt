@@ -6,7 +6,7 @@ use crate::trial::{Trial, on_both};
 use pg_exchange::{ExchangeFault, Formation, snapshot};
 use pg_group::{Ended, GroupTable};
 use pg_term::{Items, Pid, Term};
-use std::alloc::Global;
+use std::alloc::{AllocError, Global};
 use std::process::Abort;
 
 /// How a node forms.
@@ -51,6 +51,11 @@ fn formation_of_two(rt: HostRuntime) {
     holds(&rt, ExchangeFault::NotAMessage.number() == 12, "number");
 }
 
+#[test]
+fn groups_that_are_given(rt: HostRuntime) {
+    on_both(&rt, rt.alloc(), Trial::Given);
+}
+
 /// A node that forms, and what each of its peers tells.
 #[derive(Drop)]
 pub struct Node {
@@ -89,6 +94,29 @@ impl Node {
         self.formation.take(peer, &self.told, table, &self.ended)
     }
 
+    /// A peer announces its groups, which are given to the table.
+    fn give<T: GroupTable + Drop>(&mut self, rt: &impl Abort, table: &mut T, peer: usize) -> Taken {
+        holds(rt, peer < self.formation.peers(), "peer");
+        let groups = either(rt, self.copies(), self.copies());
+        self.formation.take_owned(peer, groups, table, &self.ended)
+    }
+
+    /// The groups again.
+    fn copies(&self) -> Result<Vec<(Term, Items<Pid>)>, AllocError> {
+        let mut groups = Vec::with_capacity(self.alloc, self.told.len())?;
+        for (name, pids) in &self.told {
+            let pids = copy_pids(self.alloc, pids.as_slice())?;
+            groups.push((name.copy(self.alloc)?, pids))?;
+        }
+        Ok(groups)
+    }
+
+    /// What the table says.
+    fn said<T: GroupTable>(&self, rt: &impl Abort, table: &T) -> Items<(Term, Items<Pid>)> {
+        let first = snapshot(self.alloc, table);
+        either(rt, first, snapshot(self.alloc, table))
+    }
+
     /// A peer is lost.
     pub fn forget(&mut self, rt: &impl Abort, peer: usize) {
         holds(rt, peer < self.formation.peers(), "peer");
@@ -97,12 +125,47 @@ impl Node {
 
     /// Whether the table says what is told.
     fn is_told<T: GroupTable>(&self, rt: &impl Abort, table: &T) -> bool {
-        let first = snapshot(self.alloc, table);
-        let all = either(rt, first, snapshot(self.alloc, table));
+        let all = self.said(rt, table);
         let is_told = all.as_slice() == self.told.as_slice();
         drop(all);
         is_told
     }
+}
+
+fn copy_pids(alloc: Global, pids: &[Pid]) -> Result<Items<Pid>, AllocError> {
+    let mut copies = Vec::with_capacity(alloc, pids.len())?;
+    for pid in pids {
+        copies.push(pid.copy()?)?;
+    }
+    Ok(Items::from_vec(copies))
+}
+
+/// Each of two peers gives its groups: three that are absent, and then three more beside them. A refusal changes nothing, so
+/// that no group which was put in is left.
+pub fn takes_given<T: GroupTable + Drop>(rt: &impl Abort, alloc: Global, table: &mut T) {
+    let mut node = Node::new(rt, alloc, 2);
+    for (peer, first) in [(0, 0), (1, 3)] {
+        for number in first..first + 3 {
+            node.tell(rt, number, 2);
+        }
+        give(rt, table, &mut node, peer);
+        holds(rt, node.is_told(rt, table), "told");
+    }
+    holds(rt, node.formation.formed(), "formed");
+    let again = node.give(rt, table, 1);
+    holds(rt, again == Err(ExchangeFault::NotAMessage), "again");
+    drop(node);
+}
+
+fn give<T: GroupTable + Drop>(rt: &impl Abort, table: &mut T, node: &mut Node, peer: usize) {
+    let before = node.said(rt, table);
+    if node.give(rt, table, peer).is_err() {
+        let after = node.said(rt, table);
+        holds(rt, after.as_slice() == before.as_slice(), "as before");
+        drop(after);
+        node.give(rt, table, peer).expect(rt, "again");
+    }
+    drop(before);
 }
 
 /// The node forms when the last of its peers is merged, and says no more than they told. A peer that is merged can't announce

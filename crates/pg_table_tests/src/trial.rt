@@ -18,6 +18,7 @@ pub enum Trial {
     /// The processes that a node has made, and up to which it makes more, which end.
     Ends(u32, u32),
     Forming(Forming),
+    Given,
     ManyGroups,
     ManyMembers,
     DropFromManyGroups,
@@ -44,6 +45,7 @@ fn put_to<T: GroupTable + Drop>(rt: &impl Abort, alloc: Global, table: &mut T, t
         Trial::MembersInOrder => queries::names_in_order(rt, alloc, table),
         Trial::Ends(before, last) => ends::all_end(rt, alloc, table, before, last),
         Trial::Forming(forming) => exchanges::forms(rt, alloc, table, &forming),
+        Trial::Given => exchanges::takes_given(rt, alloc, table),
         Trial::ManyGroups => many::tables::keeps_groups(rt, alloc, table),
         Trial::ManyMembers => many::tables::keeps_members(rt, alloc, table),
         Trial::DropFromManyGroups => many::tables::drops_from_groups(rt, alloc, table),

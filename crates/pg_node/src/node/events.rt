@@ -76,22 +76,18 @@ impl<T: GroupTable + Drop> Node<T> {
         ensures ports { ports_of (held_by self.new) ≡ ports_of (held_by self.old) }
     {
         match self.next(peer) {
-            Ok(next) => {
-                let taken = self.take_next(peer, &next);
-                drop(next);
-                taken
-            }
+            Ok(next) => self.take_next(peer, next),
             Err(fault) => Err(fault),
         }
     }
 
     /// Takes the packet, if there is one, which the next frame of a peer holds.
-    fn take_next(&mut self, peer: usize, next: &Option<Packet>) -> Result<Option<Done>, NodeFault>
+    fn take_next(&mut self, peer: usize, next: Option<Packet>) -> Result<Option<Done>, NodeFault>
         requires place { peer + 1 < length (names_of (held_by self.old)) }
-        requires few { (packet : Packet) → next.now ≡ Some packet → IsShort (2 ^ 32) packet.message }
-        requires next { next_packet (links_of self.old peer) ≡ Ok next.now }
+        requires few { (packet : Packet) → next ≡ Some packet → IsShort (2 ^ 32) packet.message }
+        requires next { next_packet (links_of self.old peer) ≡ Ok next }
         ensures event { TakesNext (names_of (held_by self.old))
-            (taken_of (nodes_of (held_by self.old)) (name_at (names_of (held_by self.old)) (peer + 1)) (state_of (held_by self.old)) (Ok next.now))
+            (taken_of (nodes_of (held_by self.old)) (name_at (names_of (held_by self.old)) (peer + 1)) (state_of (held_by self.old)) (Ok next))
             result (state_of (held_by self.old)) (state_of (held_by self.new)) (answers_of (held_by self.old)) (answers_of (held_by self.new)) }
         ensures sent { (done : Done) → result ≡ Ok (Some done)
             → (place : ℕ) → links_of self.new place ≡ at_link peer passed (sent_out done.sends.items (links_of self.old)) place }
@@ -106,7 +102,7 @@ impl<T: GroupTable + Drop> Node<T> {
     {
         match next {
             None => Ok(None),
-            Some(packet) => match self.take_read(peer, packet) {
+            Some(packet) => match self.take_owned(peer, packet) {
                 Ok(done) => Ok(Some(done)),
                 Err(fault) => Err(fault),
             },
@@ -171,6 +167,45 @@ impl<T: GroupTable + Drop> Node<T> {
                     &mut self.frame,
                     done.sends.as_slice(),
                 );
+                let wire = &mut self.wires[peer];
+                wire.pass();
+                Ok(done)
+            }
+            Err(fault) => {
+                let wire = &mut self.wires[peer];
+                wire.mark(fault);
+                Err(fault)
+            }
+        }
+    }
+
+    /// The same of a packet that is given to the node.
+    fn take_owned(&mut self, peer: usize, packet: Packet) -> Result<Done, NodeFault>
+        requires place { peer + 1 < length (names_of (held_by self.old)) }
+        requires few { IsShort (2 ^ 32) packet.message }
+        requires next { next_packet (links_of self.old peer) ≡ Ok (Some packet) }
+        ensures event { ComesInRoom (names_of (held_by self.old))
+            (step_take (nodes_of (held_by self.old)) (name_at (names_of (held_by self.old)) (peer + 1)) (stamped_of packet) (state_of (held_by self.old)))
+            result (state_of (held_by self.new)) (answers_of (held_by self.old)) (answers_of (held_by self.new)) }
+        ensures sent { IfOk result (λ done. (place : ℕ) → links_of self.new place ≡ at_link peer passed (sent_out done.sends.items (links_of self.old)) place) }
+        ensures small { IfOk result (λ done. AreSmallFrames done.sends.items) }
+        ensures fits { IfOk result (λ done. AreSendable (names_of (held_by self.old)) done.sends.items) }
+        ensures marked { IfErr result (λ fault. links_of self.new ≡ at_link peer (λ l. marked l fault) (links_of self.old)) }
+        ensures err { OnErr result (state_of (held_by self.new) ≡ state_of (held_by self.old)) }
+        ensures err_answers { OnErr result (answers_of (held_by self.new) ≡ answers_of (held_by self.old)) }
+        ensures names { names_of (held_by self.new) ≡ names_of (held_by self.old) }
+        ensures ports { ports_of (held_by self.new) ≡ ports_of (held_by self.old) }
+    {
+        match make_room(&mut self.wires) {
+            Ok(()) => {}
+            Err(AllocError) => {
+                drop(packet);
+                return Err(NodeFault::OutOfMemory);
+            }
+        }
+        match self.state.take_owned(peer, packet) {
+            Ok(done) => {
+                send_all(&mut self.wires, &mut self.frame, done.sends.as_slice());
                 let wire = &mut self.wires[peer];
                 wire.pass();
                 Ok(done)

@@ -158,6 +158,52 @@ impl<T: GroupTable + Drop> NodeState<T> {
         Ok(Done::nothing(self.alloc))
     }
 
+    /// The same of groups that are given to the node.
+    ///
+    /// Errors: `NotAMessage` where the groups are of another node, or the peer has announced its groups; else
+    /// `OutOfMemory`.
+    pub(crate) fn take_owned_groups(
+        &mut self,
+        clock: u32,
+        peer: usize,
+        node: &Atom,
+        groups: Vec<(Term, Items<Pid>)>,
+    ) -> Result<Done, NodeFault>
+        requires later { self.old.clock < clock }
+        requires within { clock ≤ MAX_STAMP }
+        requires place { peer + 1 < length (names_of self.old) }
+        requires few { HasFewMembers (2 ^ 32) groups.items }
+        ensures state { OnOk result (state_of self.new
+            ≡ (at_clock clock (exchange (name_at (names_of self.old) (peer + 1)) groups.items (kept_by self.old))).state) }
+        ensures told { IfOk result (Tells (names_of self.old)
+            (at_clock clock (exchange (name_at (names_of self.old) (peer + 1)) groups.items (kept_by self.old)))) }
+        ensures bad { (result ≡ Err (Refused NotAMessage))
+            ↔ (is_bad_exchange (name_at (names_of self.old) (peer + 1)) node.now (kept_by self.old) ≡ true) }
+        ensures fault { IfErr result (λ fault. (fault ≡ Refused NotAMessage) ⊎ (fault ≡ OutOfMemory)) }
+        ensures err { OnErr result (state_of self.new ≡ state_of self.old) }
+        ensures names { names_of self.new ≡ names_of self.old }
+        ensures ports { ports_of self.new ≡ ports_of self.old }
+        ensures fits { IfOk result (λ done. AreSendable (names_of self.old) done.sends.items) }
+        ensures answers { answers_of self.new ≡ answers_of self.old }
+    {
+        if node != self.opens.name(peer + 1) {
+            drop(groups);
+            return Err(NodeFault::Refused(Refusal::NotAMessage));
+        }
+        match self
+            .formation
+            .take_owned(peer, groups, &mut self.table, &self.ended)
+        {
+            Ok(()) => {}
+            Err(ExchangeFault::NotAMessage) => {
+                return Err(NodeFault::Refused(Refusal::NotAMessage));
+            }
+            Err(ExchangeFault::OutOfMemory) => return Err(NodeFault::OutOfMemory),
+        }
+        self.clock = clock;
+        Ok(Done::nothing(self.alloc))
+    }
+
     /// Takes the end of a process.
     pub(crate) fn take_end(&mut self, clock: u32, pid: &Pid) -> Result<Done, AllocError>
         requires later { self.old.clock < clock }

@@ -1,13 +1,14 @@
 //! What a node makes of a packet.
 
 ghost use Rattle.std.specs.Prelude.{◌≡◌, ◌≢◌, ◌≤◌, ◌<◌, ◌+◌, ◌^◌, true, Err, IfOk, OnErr, length};
-ghost use Rattle.pg_message.specs.Members.{IsShort};
+ghost use Rattle.pg_message.specs.Members.{IsShort, HasFewMembers};
 ghost use Rattle.pg_message.specs.declared.packet.TheConstants.{MAX_STAMP};
 
 use crate::state::{Done, NodeFault, NodeState};
 use pg_group::GroupTable;
 use pg_message::{MAX_STAMP, Message, Packet, Request};
 use pg_step::Refusal;
+use pg_term::{Atom, Items, Pid, Term};
 
 impl<T: GroupTable + Drop> NodeState<T> {
     ghost use Rattle.pg_opens.specs.Places.{name_at};
@@ -15,7 +16,7 @@ impl<T: GroupTable + Drop> NodeState<T> {
     ghost use Rattle.pg_node_state.specs.Issued.{ports_of};
     ghost use Rattle.pg_node_state.specs.declared.state.fault.NodeFault.TheVariants.{OutOfMemory};
     ghost use Rattle.pg_node_state.specs.States.{names_of, nodes_of, live_of, kept_by, state_of};
-    ghost use Rattle.pg_node_state.specs.States.{answers_of, stamped_of, step_see_loss, takes_none, Comes};
+    ghost use Rattle.pg_node_state.specs.States.{answers_of, stamped_of, announced_at, step_see_loss, takes_none, Comes};
     ghost use Rattle.pg_node_state.specs.Sendable.{AreSendable};
 
     /// Takes a packet of a peer. `peer`: its place among the peers. What is sent carries the clock that the event
@@ -61,6 +62,73 @@ impl<T: GroupTable + Drop> NodeState<T> {
             }
             Message::Down(pid) => Ok(self.take_end(clock, pid)?),
         }
+    }
+
+    /// The same of a packet that is given to the node: of the groups that it announces, the table takes the names that
+    /// it lacks, so that the node holds none of them twice.
+    ///
+    /// Errors: those of `take`. They change nothing; the packet is gone.
+    ///
+    /// Cost: that of `take`.
+    pub fn take_owned(&mut self, peer: usize, packet: Packet) -> Result<Done, NodeFault>
+        requires place { peer + 1 < length (names_of self.old) }
+        requires few { IsShort (2 ^ 32) packet.message }
+        ensures event { Comes (names_of self.old)
+            (step_take (nodes_of self.old) (name_at (names_of self.old) (peer + 1)) (stamped_of packet) (state_of self.old))
+            result (state_of self.new) (answers_of self.old) (answers_of self.new) }
+        ensures light { takes_none (live_of self.old) (name_at (names_of self.old) (peer + 1)) (kept_by self.old) packet.message ≡ true
+            → result ≢ Err OutOfMemory }
+        ensures err { OnErr result (state_of self.new ≡ state_of self.old) }
+        ensures err_answers { OnErr result (answers_of self.new ≡ answers_of self.old) }
+        ensures names { names_of self.new ≡ names_of self.old }
+        ensures ports { ports_of self.new ≡ ports_of self.old }
+        ensures fits { IfOk result (λ done. AreSendable (names_of self.old) done.sends.items) }
+    {
+        let Packet { stamp, message } = packet;
+        match message {
+            Message::Exchange(node, groups) => {
+                let taken = self.take_exchange(peer, stamp, &node, groups.into_vec());
+                drop(node);
+                taken
+            }
+            message => {
+                let packet = Packet { stamp, message };
+                let taken = self.take(peer, &packet);
+                drop(packet);
+                taken
+            }
+        }
+    }
+
+    /// The same of the groups that a packet announces.
+    fn take_exchange(
+        &mut self,
+        peer: usize,
+        stamp: u32,
+        node: &Atom,
+        groups: Vec<(Term, Items<Pid>)>,
+    ) -> Result<Done, NodeFault>
+        requires place { peer + 1 < length (names_of self.old) }
+        requires few { HasFewMembers (2 ^ 32) groups.items }
+        ensures event { Comes (names_of self.old)
+            (step_take (nodes_of self.old) (name_at (names_of self.old) (peer + 1)) (announced_at stamp node.now groups.items) (state_of self.old))
+            result (state_of self.new) (answers_of self.old) (answers_of self.new) }
+        ensures err { OnErr result (state_of self.new ≡ state_of self.old) }
+        ensures answers { answers_of self.new ≡ answers_of self.old }
+        ensures names { names_of self.new ≡ names_of self.old }
+        ensures ports { ports_of self.new ≡ ports_of self.old }
+        ensures fits { IfOk result (λ done. AreSendable (names_of self.old) done.sends.items) }
+    {
+        if self.opens.is_lost(peer + 1) {
+            drop(groups);
+            return Err(NodeFault::Refused(Refusal::NodeLost));
+        }
+        let latest = self.clock.max(stamp);
+        if latest >= MAX_STAMP {
+            drop(groups);
+            return Err(NodeFault::Refused(Refusal::ClockFull));
+        }
+        self.take_owned_groups(latest + 1, peer, node, groups)
     }
 
     /// Sees the loss of a peer, once all that came from it was taken: it is live no more, the locks of its references

@@ -3,7 +3,7 @@ use Rattle.std.proofs.lemmas.List.{length-append}
 use Rattle.pg_group.specs.Ended.{ended_of}
 use Rattle.pg_group.specs.Table.{merged, PartlyMerged}
 use Rattle.pg_exchange.specs.Undone.{noted, before_of, undone}
-use Rattle.pg_exchange.proofs.Groups.{merged_more}
+use Rattle.pg_group.proofs.Groups.{merged_more}
 use Rattle.pg_exchange.proofs.Undone.{whole, one_more_back}
 use Rattle.pg_exchange.proofs.merging.merge_each.Goals as goal
 

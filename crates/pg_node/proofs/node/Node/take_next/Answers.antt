@@ -12,8 +12,8 @@ use Rattle.pg_node_state.specs.States.{names_of, nodes_of, state_of, answers_of,
 use Rattle.pg_node.proofs.Events.{takes_ok, takes_err}
 use Rattle.pg_node.proofs.node.Node.take_next.Goals as goal
 
-pub take_read-requires-clause-next : goal.take_read-requires-clause-next
-take_read-requires-clause-next g c = subst (λ (next : Option Packet). next_packet (links_in c.args.self.now.wires.items c.args.peer) ≡ Ok next) c.in-Some.is c.requires.next
+pub take_owned-requires-clause-next : goal.take_owned-requires-clause-next
+take_owned-requires-clause-next g c = subst (λ (next : Option Packet). next_packet (links_in c.args.self.now.wires.items c.args.peer) ≡ Ok next) c.in-Some.is c.requires.next
 
 pub returns-in-None-clause-event : goal.returns-in-None-clause-event
 returns-in-None-clause-event g c =
@@ -24,14 +24,14 @@ returns-in-None-clause-event g c =
 pub returns-in-Ok-clause-event : goal.returns-in-Ok-clause-event
 returns-in-Ok-clause-event g c =
     let old = c.args.self.now.state in
-    let new = c.take_read.new.self.state in
+    let new = c.take_owned.new.self.state in
     subst (λ (next : Option Packet). TakesNext (names_of old) (taken_of (nodes_of old) (name_at (names_of old) (c.args.peer + 1)) (state_of old) (Ok next)) (Ok (Some c.in-Ok.done)) (state_of old) (state_of new) (answers_of old) (answers_of new))
     (sym c.in-Some.is) (takes_ok (names_of old) (state_of old) (state_of new) (answers_of old) (answers_of new) (step_take (nodes_of old) (name_at (names_of old) (c.args.peer + 1)) (stamped_of c.in-Some.packet) (state_of old)) c.in-Ok.done c.in-Ok.ensures.event)
 
 pub returns-in-Err-clause-event : goal.returns-in-Err-clause-event
 returns-in-Err-clause-event g c =
     let old = c.args.self.now.state in
-    let new = c.take_read.new.self.state in
+    let new = c.take_owned.new.self.state in
     subst (λ (next : Option Packet). TakesNext (names_of old) (taken_of (nodes_of old) (name_at (names_of old) (c.args.peer + 1)) (state_of old) (Ok next)) (Err c.in-Err.fault) (state_of old) (state_of new) (answers_of old) (answers_of new))
     (sym c.in-Some.is) (takes_err (names_of old) (state_of old) (state_of new) (answers_of old) (answers_of new) (step_take (nodes_of old) (name_at (names_of old) (c.args.peer + 1)) (stamped_of c.in-Some.packet) (state_of old)) c.in-Err.fault c.in-Err.ensures.event)
 

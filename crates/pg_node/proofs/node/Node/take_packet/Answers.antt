@@ -12,11 +12,11 @@ use Rattle.pg_node.proofs.Events.{tells_ok, next_err, read_is, step_read}
 use Rattle.pg_node.proofs.Linked.{on_err}
 use Rattle.pg_node.proofs.node.Node.take_packet.Goals as goal
 
-pub take_next-taken-requires-clause-few : goal.take_next-taken-requires-clause-few
-take_next-taken-requires-clause-few g c = λ packet is. subst (λ (o : Option Packet). IfSome o (λ p. IsShort (2 ^ 32) p.message)) is c.in-Ok.ensures.few
+pub take_next-requires-clause-few : goal.take_next-requires-clause-few
+take_next-requires-clause-few g c = λ packet is. subst (λ (o : Option Packet). IfSome o (λ p. IsShort (2 ^ 32) p.message)) is c.in-Ok.ensures.few
 
-pub take_next-taken-requires-clause-next : goal.take_next-taken-requires-clause-next
-take_next-taken-requires-clause-next g c =
+pub take_next-requires-clause-next : goal.take_next-requires-clause-next
+take_next-requires-clause-next g c =
     let old = c.args.self.now in
     ap (λ (links : ℕ → Link). next_packet (links c.args.peer)) c.in-Ok.ensures.same
     ∙ (read_is (has_lost old.state c.args.peer) (links_in old.wires.items c.args.peer) c.in-Ok.next (tells_ok _ c.in-Ok.next c.in-Ok.ensures.told)).1
@@ -27,24 +27,24 @@ returns-in-Ok-clause-event g c =
     let node = old.state in
     let p = name_at (names_of node) (c.args.peer + 1) in
     let link = links_in old.wires.items c.args.peer in
-    let result = c.take_next-taken.result in
-    let after = c.take_next-taken.new.self.state in
+    let result = c.take_next.result in
+    let after = c.take_next.new.self.state in
     let read : read_next (has_lost node c.args.peer) link ≡ Ok c.in-Ok.next = tells_ok _ c.in-Ok.next c.in-Ok.ensures.told in
     subst (λ r. TakesNext (names_of node) r result (state_of node) (state_of after) (answers_of node) (answers_of after))
     (sym (step_read (nodes_of node) p link (state_of node) ∙ ap (taken_of (nodes_of node) p (state_of node)) read))
     (subst (λ s. TakesNext (names_of s) (taken_of (nodes_of s) (name_at (names_of s) (c.args.peer + 1)) (state_of s) (Ok c.in-Ok.next)) result (state_of s) (state_of after) (answers_of s) (answers_of after))
-    c.next.ensures.state c.take_next-taken.ensures.event)
+    c.next.ensures.state c.take_next.ensures.event)
 
 pub returns-in-Ok-clause-sent : goal.returns-in-Ok-clause-sent
 returns-in-Ok-clause-sent g c = λ done is place.
-    c.take_next-taken.ensures.sent done is place ∙ ap (λ (links : ℕ → Link). at_link c.args.peer passed (sent_out done.sends.items links) place) c.in-Ok.ensures.same
+    c.take_next.ensures.sent done is place ∙ ap (λ (links : ℕ → Link). at_link c.args.peer passed (sent_out done.sends.items links) place) c.in-Ok.ensures.same
 
 pub returns-in-Ok-clause-none : goal.returns-in-Ok-clause-none
-returns-in-Ok-clause-none g c = λ is. c.take_next-taken.ensures.none is ∙ c.in-Ok.ensures.same
+returns-in-Ok-clause-none g c = λ is. c.take_next.ensures.none is ∙ c.in-Ok.ensures.same
 
 pub returns-in-Ok-clause-marked : goal.returns-in-Ok-clause-marked
 returns-in-Ok-clause-marked g c =
-    subst (λ (links : ℕ → Link). IfErr c.take_next-taken.result (λ fault. links_in c.take_next-taken.new.self.wires.items ≡ at_link c.args.peer (λ l. marked l fault) links)) c.in-Ok.ensures.same c.take_next-taken.ensures.marked
+    subst (λ (links : ℕ → Link). IfErr c.take_next.result (λ fault. links_in c.take_next.new.self.wires.items ≡ at_link c.args.peer (λ l. marked l fault) links)) c.in-Ok.ensures.same c.take_next.ensures.marked
 
 pub returns-in-Err-clause-event : goal.returns-in-Err-clause-event
 returns-in-Err-clause-event g c =
@@ -59,10 +59,10 @@ returns-in-Err-clause-event g c =
     (next_err (names_of node) (state_of node) (state_of node) (answers_of node) (answers_of node) (nodes_of node) p (read_next (has_lost node c.args.peer) link) fault c.in-Err.ensures.told))
 
 pub returns-in-Ok-clause-err : goal.returns-in-Ok-clause-err
-returns-in-Ok-clause-err g c = on_err c.take_next-taken.result _ _ (λ same. same ∙ ap (λ s. state_of s) c.next.ensures.state) c.take_next-taken.ensures.err
+returns-in-Ok-clause-err g c = on_err c.take_next.result _ _ (λ same. same ∙ ap (λ s. state_of s) c.next.ensures.state) c.take_next.ensures.err
 
 pub returns-in-Ok-clause-err_answers : goal.returns-in-Ok-clause-err_answers
-returns-in-Ok-clause-err_answers g c = on_err c.take_next-taken.result _ _ (λ same. same ∙ ap (λ s. answers_of s) c.next.ensures.state) c.take_next-taken.ensures.err_answers
+returns-in-Ok-clause-err_answers g c = on_err c.take_next.result _ _ (λ same. same ∙ ap (λ s. answers_of s) c.next.ensures.state) c.take_next.ensures.err_answers
 
 pub returns-in-Ok-clause-fits : goal.returns-in-Ok-clause-fits
-returns-in-Ok-clause-fits g c = λ done is. subst (λ s. AreSendable (names_of s) done.sends.items) c.next.ensures.state (c.take_next-taken.ensures.fits done is)
+returns-in-Ok-clause-fits g c = λ done is. subst (λ s. AreSendable (names_of s) done.sends.items) c.next.ensures.state (c.take_next.ensures.fits done is)
