@@ -1,5 +1,6 @@
 //! Two nodes over bytes, and rings between them.
 
+ghost use Rattle.std.proofs.Math.Nat.{le_refl};
 ghost use Rattle.std.specs.Prelude.{◌≡◌, ◌≤◌, ◌∷◌, [], false, IfOk};
 ghost use Rattle.pg_term.specs.Same.{same_atom};
 ghost use Rattle.pg_ring.specs.MemRing.{Grows};
@@ -50,6 +51,8 @@ impl Link for Skips {
     ghost composes = { λ a b c xs ys. Grows-composes a.ring b.ring c.ring xs ys };
 
     ghost agrees = { λ a b xs ys. Grows-agrees a.ring b.ring xs ys };
+
+    ghost idles = { λ a. le_refl 0 };
 }
 
 /// Two nodes, and a ring each way.

@@ -2,7 +2,8 @@
 use Rattle.std.specs.Prelude.{◌≡◌, ℕ, List, [], ◌++◌, refl}
 use Rattle.std.proofs.Common.{sym, append_assoc, ◌∙◌, ap}
 use Rattle.std.proofs.lemmas.List.{append-nil, append_cancel_left, append_cancel_right}
-use Rattle.pg_ring.specs.MemRing.{RingBytes, Grows, Loses}
+use Rattle.std.proofs.Math.Nat.{zero-min}
+use Rattle.pg_ring.specs.MemRing.{RingBytes, Grows, Loses, HasRoomFor, free_room}
 
 -- nothing was taken in
 pub Grows-rests : (a : RingBytes) → Grows a [] a
@@ -18,6 +19,10 @@ Grows-composes a b c xs ys p q = record {
 -- two runs that lead to the same ring are one
 pub Grows-agrees : (a b : RingBytes) (xs ys : List ℕ) → Grows a xs b → Grows a ys b → xs ≡ ys
 Grows-agrees a b xs ys p q = append_cancel_left a.unread xs ys (sym p.grown ∙ q.grown)
+
+-- of nothing that is offered nothing is taken in
+pub HasRoomFor-idles : (a : RingBytes) → HasRoomFor a 0 0
+HasRoomFor-idles a = sym (zero-min (free_room a))
 
 -- nothing was given
 pub Loses-rests : (a : RingBytes) → Loses a [] a

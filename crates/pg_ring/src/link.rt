@@ -25,6 +25,9 @@ pub trait Link {
 
     // One list of bytes leads from a link to what it became.
     ghost agrees: { (a b : Self) (xs ys : List ℕ) → accepts a xs b → accepts a ys b → xs ≡ ys };
+
+    // A link that is offered nothing may take in nothing: a `put` of nothing can be left out.
+    ghost idles: { (a : Self) → moves a 0 0 };
 }
 
 /// Where the bytes that were put can be taken.

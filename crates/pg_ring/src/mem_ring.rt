@@ -1,7 +1,7 @@
 ghost use Rattle.std.specs.Prelude.{◌≡◌, ◌==◌, ◌≢◌, ◌≤◌, ◌↔◌, [], length, take, drop, IfOk};
 ghost use Rattle.pg_ring.specs.Capacity.{IsCapacity, IsBadCapacity};
 ghost use Rattle.pg_ring.specs.MemRing.{Grows, Loses, HasRoomFor, HasUnread};
-ghost use Rattle.pg_ring.specs.MemRingLaws.{Grows-rests, Grows-composes, Grows-agrees};
+ghost use Rattle.pg_ring.specs.MemRingLaws.{Grows-rests, Grows-composes, Grows-agrees, HasRoomFor-idles};
 ghost use Rattle.pg_ring.specs.MemRingLaws.{Loses-rests, Loses-composes, Loses-agrees};
 
 use crate::capacity::is_capacity;
@@ -74,6 +74,8 @@ impl Link for MemRing {
     ghost composes = { Grows-composes };
 
     ghost agrees = { Grows-agrees };
+
+    ghost idles = { HasRoomFor-idles };
 }
 
 /// The first unread bytes are given, as many as there are places. Moves runs.

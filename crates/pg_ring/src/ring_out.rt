@@ -1,3 +1,4 @@
+ghost use Rattle.std.proofs.Math.Nat.{le_refl};
 ghost use Rattle.std.specs.Prelude.{◌≡◌, ◌+◌, ◌<◌, ◌≤◌, length, take};
 ghost use Rattle.pg_ring.specs.Ends.{Sends, bytes_free};
 ghost use Rattle.pg_ring.specs.EndsLaws.{Sends-rests, Sends-composes, Sends-agrees};
@@ -39,4 +40,6 @@ impl Link for RingOut {
     ghost composes = { Sends-composes };
 
     ghost agrees = { Sends-agrees };
+
+    ghost idles = { λ end. le_refl 0 };
 }

@@ -1,7 +1,7 @@
 //! A link of one's own: a queue of bytes in memory that counts what crossed it.
 
 ghost use Rattle.pg_ring.specs.MemRing.{Grows, HasRoomFor, HasUnread, Loses};
-ghost use Rattle.pg_ring.specs.MemRingLaws.{Grows-agrees, Grows-composes, Grows-rests};
+ghost use Rattle.pg_ring.specs.MemRingLaws.{Grows-agrees, Grows-composes, Grows-rests, HasRoomFor-idles};
 ghost use Rattle.pg_ring.specs.MemRingLaws.{Loses-agrees, Loses-composes, Loses-rests};
 
 use pg_ring::{Inlet, Link, MemRing};
@@ -41,6 +41,8 @@ impl Link for Wire {
     ghost composes = { λ a b c xs ys. Grows-composes a.ring b.ring c.ring xs ys };
 
     ghost agrees = { λ a b xs ys. Grows-agrees a.ring b.ring xs ys };
+
+    ghost idles = { λ a. HasRoomFor-idles a.ring };
 }
 
 impl Inlet for Wire {
