@@ -136,7 +136,8 @@ impl Formation {
         ensures err_table { OnErr result (T.contents table.new ≡ T.contents table.old) }
         ensures second { (result ≡ Err NotAMessage) ↔ (slice_get self.old peer ≡ Some true) }
     {
-        if self.marks[peer] {
+        let merged = self.marks[peer];
+        if merged {
             drop(groups);
             return Err(ExchangeFault::NotAMessage);
         }

@@ -15,7 +15,6 @@ use Rattle.pg_opens.proofs.Followed.{op_same}
 use Rattle.pg_step.specs.declared.answer.Answer.{Answer}
 use Rattle.pg_step.specs.declared.command.OpId.{OpId}
 use Rattle.pg_step.specs.Attempts.{attempt, same_op}
-use Rattle.pg_step.specs.Nodes.{Node}
 use Rattle.pg_step.specs.State.{State, Stage}
 use Rattle.pg_step.specs.State.Stage.{Waiting}
 use Rattle.pg_step.specs.Step.{at_clock}
