@@ -1,8 +1,11 @@
 -- What a put and a pull have moved.
 use Rattle.std.proofs.Common.{◌≡◌, ◌<◌, ◌≤◌, ◌+◌, ◌∙◌, ℕ, get_or, take, drop, length, List, [], ◌++◌}
 use Rattle.std.proofs.Common.{refl, sym, ap, subst, arith, length-append, length-drop, append-nil, inl}
+use Rattle.std.proofs.Math.Nat.{min-zero}
+use Rattle.std.proofs.lemmas.Bool.{eqb-true}
 use Rattle.std.proofs.lemmas.Option.{slice_get-get_or}
 use Rattle.std.specs.Prelude.{slice_get, slice_set, IfSome, Result, Ok, Err, IfOk, OnErr}
+use Rattle.std.specs.Prelude.{true, eqb, min, Option, Some, None}
 use Rattle.pg_node_state.specs.declared.state.fault.NodeFault.{NodeFault}
 use Rattle.pg_node.specs.Links.{Link, at_link, without_front, with_fed}
 use Rattle.pg_run.specs.declared.linked.Peer.{Peer}
@@ -32,6 +35,12 @@ pub pull_many : {P : Type 0} (peers : List P) (k : ℕ) (peer : P) (Holds : ℕ 
     → IfOk r (λ count. Holds count peer) → IfOk r (λ count. IfSome (slice_get peers k) (Holds count))
 pull_many peers k peer Holds (Ok count) within is holds = peer_holds peers k peer (Holds count) within is holds
 pull_many peers k peer Holds (Err fault) within is holds = tt
+
+-- where nothing waits nothing is put, whichever the peer is
+pub none_put : {L I : Type 0} (moves : L → ℕ → ℕ → Type 0) → ((a : L) → moves a 0 0) → (max : ℕ) (outbox : List ℕ) → eqb (length outbox) 0 ≡ true → (peer : Option (Peer L I))
+    → IfSome peer (λ (of : Peer L I). moves of.link (min max (length outbox)) 0)
+none_put moves idles max outbox none None = tt
+none_put moves idles max outbox none (Some of) = subst (λ n. moves of.link n 0) (sym (ap (min max) (eqb-true (length outbox) 0 none) ∙ min-zero max)) (idles of.link)
 
 -- a put makes no mark, nor does a pull
 pub put_marks : (links links2 : ℕ → Link) (k n : ℕ) → links2 ≡ at_link k (λ l. without_front l n) links → (place : ℕ) → (links2 place).damaged ≡ (links place).damaged

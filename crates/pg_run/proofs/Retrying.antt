@@ -10,7 +10,11 @@ use Rattle.pg_group.specs.declared.table.GroupTable.{Ghosts}
 use Rattle.pg_node_state.specs.declared.state.fault.NodeFault.{NodeFault}
 use Rattle.pg_node_state.specs.declared.state.fault.NodeFault.TheVariants.{Refused}
 use Rattle.pg_node_state.specs.Issued.{ports_of}
+use Rattle.pg_node.specs.declared.node.Node.{Node}
 use Rattle.pg_node.specs.Nodes.{held_by}
+use Rattle.pg_node_state.specs.States.{kept_by, live_of}
+use Rattle.pg_opens.specs.Commands.{stages_in}
+use Rattle.pg_opens.specs.declared.command.OpenCommand.{OpenCommand}
 use Rattle.pg_run.specs.declared.linked.LinkedNode.{LinkedNode}
 use Rattle.pg_run.specs.declared.log.NodeEvent.{NodeEvent}
 use Rattle.pg_run.specs.declared.log.NodeEvent.TheVariants as events
@@ -27,12 +31,28 @@ use Rattle.pg_run.proofs.Following.{follows_itself}
 use Rattle.pg_run.proofs.Logging.{are_so, logs_on, logs_same}
 use Rattle.pg_run.proofs.Pausing.{waits_less}
 use Rattle.pg_run.proofs.Trying.{stays, comes_on}
+use Rattle.pg_run.proofs.Wanting.{not_both}
 use Rattle.pg_step.specs.declared.command.OpId.{OpId}
 use Rattle.pg_step.specs.declared.refusal.Refusal.{Refusal}
 use Rattle.pg_step.specs.declared.refusal.Refusal.TheVariants.{NoSuchPlace}
-use Rattle.pg_step.specs.Attempts.{same_op}
+use Rattle.pg_step.specs.Attempts.{same_op, waits}
+use Rattle.pg_step.specs.State.Stage.{Closed}
 use Rattle.pg_step.specs.Step.{Retry, timed}
 use Rattle.pg_step.specs.Turns.{NodeTurn}
+
+-- ---- none is open
+
+all_closed : (commands : List OpenCommand) → length commands ≡ 0 → (op : OpId) → stages_in commands op ≡ Closed
+all_closed [] none op = refl
+all_closed (command ∷ commands) none op = absurd (omega (arith, none))
+
+-- where no command is open none waits
+pub none_waits : {A T : Type 0} {g : Ghosts T} (node : Node T g) → (kept_by (held_by node)).opened ≡ 0 → (op : OpId) → waits_at node op ≡ true → A
+none_waits node none op waits_there =
+    let not_there : waits_at node op ≡ false = ap (λ stage. waits (live_of (held_by node)) stage (kept_by (held_by node))) (all_closed _ none op) in
+    not_both (waits_at node op) waits_there not_there
+
+-- ---- one by one
 
 -- what is told where the port of a command is not there
 told_nowhere : (there : Bool) (clock : ℕ) (made : Result NodeTurn Refusal) → there ≡ false → IsRefusedAs (timed clock (cond there made (Err NoSuchPlace))) (Refused NoSuchPlace)

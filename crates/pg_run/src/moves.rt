@@ -15,7 +15,7 @@ impl<T: GroupTable + Drop, L: Link + Drop, I: Inlet + Drop> LinkedNode<T, L, I> 
     ghost use Rattle.pg_run.specs.Follows.{Follows, node_of, peers_of};
 
     /// Moves what waits for a peer into the link to it, as much as that takes, and returns how many bytes. `peer`:
-    /// its place among the peers.
+    /// its place among the peers. Where nothing waits the link is left alone.
     ///
     /// Cost: no memory; O(bytes moved).
     pub fn put(&mut self, peer: usize) -> usize
@@ -25,6 +25,9 @@ impl<T: GroupTable + Drop, L: Link + Drop, I: Inlet + Drop> LinkedNode<T, L, I> 
         ensures many { IfSome (slice_get (peers_of self.old) peer)
             (λ of. L.moves of.link (min (2 ^ 64 - 1) (length (links_of (node_of self.old) peer).outbox)) result) }
     {
+        if self.node.outbox(peer).is_empty() {
+            return 0;
+        }
         let links = &mut self.peers[peer];
         self.node.put(peer, &mut links.link, usize::MAX)
     }

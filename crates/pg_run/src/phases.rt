@@ -92,7 +92,7 @@ impl Phase {
 }
 
 impl<T: GroupTable + Drop, L: Link + Drop, I: Inlet + Drop> LinkedNode<T, L, I> {
-    ghost use Rattle.pg_run.specs.Follows.{Follows, log_of, peers_of};
+    ghost use Rattle.pg_run.specs.Follows.{log_of, peers_of};
     ghost use Rattle.pg_run.specs.Logs.{IsTake, LogsOnly};
     ghost use Rattle.pg_run.specs.Tries.{HasPulled, HasPulledAll, HasPutAll, HasTried, HasTriedAll, WasWanting};
     ghost use Rattle.pg_run.specs.Turns.{GoesOn};
@@ -129,25 +129,14 @@ impl<T: GroupTable + Drop, L: Link + Drop, I: Inlet + Drop> LinkedNode<T, L, I> 
         pulled.and(taken)
     }
 
-    /// What waits for peers is put, of those for whom something waits.
+    /// What waits for each peer is put, behind an event.
     pub(crate) fn put_waiting(&mut self)
         ensures goes { GoesOn L.accepts I.gives self.old self.new }
         ensures log { log_of self.new ≡ log_of self.old }
     {
         for peer in 0..self.peer_count() {
-            self.put_what_waits(peer);
+            self.put(peer);
         }
-    }
-
-    /// What waits for a peer is put, if something does.
-    fn put_what_waits(&mut self, peer: usize)
-        requires place { peer < length (peers_of self.old) }
-        ensures { Follows L.accepts I.gives [] self.old self.new }
-    {
-        if self.node.outbox(peer).is_empty() {
-            return;
-        }
-        self.put(peer);
     }
 
     /// What waits for each peer is put.

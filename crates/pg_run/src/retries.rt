@@ -37,7 +37,11 @@ pub(crate) fn retry_all<T: GroupTable + Drop, L: Link + Drop, I: Inlet + Drop, K
     ensures others { (op : OpId) → waits_at (node_of linked.old) op ≡ false → wait_of pauses.new op ≡ wait_of pauses.old op }
     ensures logs { LogsOnly (IsDueRetry (is_ready_at (node_of linked.old)) pauses.old pauses.new) (log_of linked.old) (log_of linked.new) }
 {
-    match linked.node().state().waiting() {
+    let state = linked.node().state();
+    if state.open_count() == 0 {
+        return Phase::idle();
+    }
+    match state.waiting() {
         Ok(ops) => retry_listed(alloc, linked, pauses, generator, ops.as_slice()),
         Err(AllocError) => Phase::of(false, Some(NodeFault::OutOfMemory)),
     }

@@ -132,8 +132,8 @@ impl<T: GroupTable + Drop, L: Link + Drop, I: Inlet + Drop, K: Rng + Drop> NodeR
     /// after the retries.
     ///
     /// Cost: that of the bytes that move, of the events, each with a look at each peer, and of copies of the answers
-    /// that are handed over; for the retries, that of `NodeState::waiting` and O(n) in the pauses for each command
-    /// that waits.
+    /// that are handed over; for the retries, where commands are open, that of `NodeState::waiting` and O(n) in the
+    /// pauses for each command that waits.
     pub fn turn(&mut self) -> Turned
         ensures runs { Runs L.accepts I.gives self.old self.new }
         ensures stop { TurnedTo I.gives (stop_of self.old) result (stop_of self.new) }

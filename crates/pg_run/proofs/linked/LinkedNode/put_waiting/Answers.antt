@@ -13,8 +13,8 @@ loop-peer-preserved g c =
     let was = c.loop-peer.invariant in
     let a = c.args.self.now in
     let b = c.loop-peer.self in
-    let d = c.put_what_waits.new.self in
-    let put = c.put_what_waits.ensures in (
+    let d = c.put.new.self in
+    let put = c.put.ensures.follows in (
       none_on g.L.Link.accepts g.I.Inlet.gives g.met.L.Link.rests g.met.I.Inlet.rests g.met.L.Link.composes g.met.I.Inlet.composes a b d was.0 put,
       logs_none g.L.Link.accepts g.I.Inlet.gives b d put ∙ was.1,
     )
