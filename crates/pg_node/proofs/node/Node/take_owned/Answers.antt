@@ -1,11 +1,14 @@
-use Rattle.std.proofs.Common.{◌≡◌, ◌<◌, ◌∙◌, ℕ, List, Err, length, refl, sym, ap, arith, subst}
+use Rattle.std.proofs.lemmas.List.{length-set}
+use Rattle.std.specs.Prelude.{slice_set}
+use Rattle.std.proofs.Common.{◌≡◌, ◌<◌, ◌+◌, ◌∙◌, ℕ, List, Err, length, refl, sym, ap, arith, subst}
 use Rattle.pg_message.specs.declared.packet.Packet.{Packet}
 use Rattle.pg_node_state.specs.declared.state.fault.NodeFault.TheVariants.{OutOfMemory}
 use Rattle.pg_node.specs.Bytes.{marked}
 use Rattle.pg_node_state.specs.Frames.{frames_to, AreSmallFrames}
 use Rattle.pg_node.specs.Links.{links_in, at_link, with_more}
-use Rattle.pg_node_state.specs.States.{state_of}
-use Rattle.pg_node.proofs.Linked.{one_link}
+use Rattle.pg_step.specs.Nodes.{Node}
+use Rattle.pg_node_state.specs.States.{names_of, state_of}
+use Rattle.pg_node.proofs.Linked.{one_link, still_room}
 use Rattle.pg_node.proofs.Events.{unmarked, sent_links, in_room}
 use Rattle.pg_node.proofs.node.Node.take_owned.Goals as goal
 
@@ -19,7 +22,7 @@ pub returns-in-Err-take_owned-clause-marked : goal.returns-in-Err-take_owned-cla
 returns-in-Err-take_owned-clause-marked g c =
     let wires = c.make_room.new.wires.items in
     let within : c.args.peer < length wires = omega (arith, c.args.self.now.linked, c.requires.place, c.make_room.ensures.len) in
-    one_link wires c.args.peer c.index_mut-wire-in-Err-take_owned.result.now c.mark.new.self (λ l. marked l c.in-Err-take_owned.fault) within c.index_mut-wire-in-Err-take_owned.ensures.value c.mark.ensures
+    one_link wires c.args.peer c.index_mut-wire-in-Err-take_owned.result.now c.mark.new.self (λ l. marked l c.in-Err-take_owned.fault) within c.index_mut-wire-in-Err-take_owned.ensures.value c.mark.ensures.marked
     ∙ ap (at_link c.args.peer (λ l. marked l c.in-Err-take_owned.fault)) c.make_room.ensures.same
 
 pub returns-in-Ok-take_owned-clause-sent : goal.returns-in-Ok-take_owned-clause-sent
@@ -29,7 +32,31 @@ returns-in-Ok-take_owned-clause-sent g c =
     let w2 = c.send_all.new.wires.items in
     let sent : (place : ℕ) → links_in w2 place ≡ with_more (links_in w1 place) (frames_to c.in-Ok-take_owned.done.sends.items place) = λ place. c.send_all.ensures.sent place ∙ ap (λ (sends : List (ℕ × Packet)). with_more (links_in w1 place) (frames_to sends place)) c.as_slice.ensures.value in
     let within : c.args.peer < length w2 = omega (arith, c.args.self.now.linked, c.requires.place, c.make_room.ensures.len, c.send_all.ensures.len) in
-    λ place. sent_links w0 w1 w2 c.in-Ok-take_owned.done.sends.items c.args.peer c.index_mut-wire.result.now c.pass.new.self c.make_room.ensures.same sent within c.index_mut-wire.ensures.value c.pass.ensures place
+    λ place. sent_links w0 w1 w2 c.in-Ok-take_owned.done.sends.items c.args.peer c.index_mut-wire.result.now c.pass.new.self c.make_room.ensures.same sent within c.index_mut-wire.ensures.value c.pass.ensures.passed place
 
 pub returns-in-Ok-take_owned-clause-small : goal.returns-in-Ok-take_owned-clause-small
 returns-in-Ok-take_owned-clause-small g c = subst (λ (sends : List (ℕ × Packet)). AreSmallFrames sends) c.as_slice.ensures.value c.send_all.ensures.small
+
+pub invariant_of-self-in-Ok-take_owned : goal.invariant_of-self-in-Ok-take_owned
+invariant_of-self-in-Ok-take_owned g c =
+    let wires = c.send_all.new.wires.items in
+    let within : c.args.peer < length wires = omega (arith, c.args.self.now.linked, c.requires.place, c.make_room.ensures.len, c.send_all.ensures.len) in
+    let same = ap (λ (names : List Node). length names) c.take_owned.ensures.names in
+    let linked : length (slice_set wires c.args.peer c.pass.new.self) + 1 ≡ length (names_of c.take_owned.new.self) = omega (arith, length-set wires c.args.peer c.pass.new.self, c.args.self.now.linked, c.make_room.ensures.len, c.send_all.ensures.len, same) in
+    record {
+      linked = linked;
+      passage = c.args.self.now.passage;
+      room = λ is. still_room wires c.args.peer c.index_mut-wire.result.now c.pass.new.self within c.index_mut-wire.ensures.value (omega (arith, c.pass.ensures.room)) (c.send_all.ensures.known is);
+    }
+
+pub invariant_of-self-in-Err-take_owned : goal.invariant_of-self-in-Err-take_owned
+invariant_of-self-in-Err-take_owned g c =
+    let wires = c.make_room.new.wires.items in
+    let within : c.args.peer < length wires = omega (arith, c.args.self.now.linked, c.requires.place, c.make_room.ensures.len) in
+    let same = ap (λ (names : List Node). length names) c.take_owned.ensures.names in
+    let linked : length (slice_set wires c.args.peer c.mark.new.self) + 1 ≡ length (names_of c.take_owned.new.self) = omega (arith, length-set wires c.args.peer c.mark.new.self, c.args.self.now.linked, c.make_room.ensures.len, same) in
+    record {
+      linked = linked;
+      passage = c.args.self.now.passage;
+      room = λ is. still_room wires c.args.peer c.index_mut-wire-in-Err-take_owned.result.now c.mark.new.self within c.index_mut-wire-in-Err-take_owned.ensures.value (omega (arith, c.mark.ensures.room)) (c.make_room.ensures.known is);
+    }
