@@ -55,8 +55,8 @@ abbrev pub marks_of : Row → ℕ → Marked
 marks_of row i = map (as_marked i) row.entries.items
 
 -- one more entry of a node needs no memory
-abbrev pub HasRoom : Row → ℕ → Type 0
-HasRoom row node = (vec_len row.entries < vec_capacity row.entries) × CanCount row.tally node
+abbrev pub HasRowRoom : Row → ℕ → Type 0
+HasRowRoom row node = (vec_len row.entries < vec_capacity row.entries) × CanCount row.tally node
 
 -- ---- all groups
 
@@ -71,7 +71,7 @@ marks_in rows node name = option_map_or (λ row. marks_of row node) (get term_cm
 
 -- one more entry of a group and a node needs no memory
 abbrev pub HasRow : BTreeMap Term Row → Term → ℕ → Type 0
-HasRow rows name node = (row : Row) × (get term_cmp rows name ≡ Some row) × HasRoom row node
+HasRow rows name node = (row : Row) × (get term_cmp rows name ≡ Some row) × HasRowRoom row node
 
 -- 1 where it is that node and an update of that group
 abbrev pub one_of : ℕ → ℕ → Term → Option Update → ℕ
@@ -135,9 +135,9 @@ LastHasRow rows (Some entry) = HasRow rows (name_of entry.update) entry.node
 -- ---- what an event applies
 
 -- the update that a packet asks for
-abbrev pub asked_by : Message → Option Update
-asked_by (Call reference (Change update)) = Some update
-asked_by message = None
+abbrev pub update_asked_by : Message → Option Update
+update_asked_by (Call reference (Change update)) = Some update
+update_asked_by message = None
 
 -- the update of what began
 abbrev pub begun_by : Option (OpId × Update) → Option Update

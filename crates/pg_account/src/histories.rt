@@ -6,7 +6,7 @@ ghost use Rattle.std.specs.BTreeMap.{get};
 ghost use Rattle.std.specs.Option.{option_copied, option_to_list};
 ghost use Rattle.pg_term.specs.declared.term.Term.{Term};
 ghost use Rattle.pg_term.specs.Same.{term_cmp};
-ghost use Rattle.pg_account.specs.Histories.{asked_by};
+ghost use Rattle.pg_account.specs.Histories.{update_asked_by};
 
 use crate::entry::{Entry, add_each_missed, add_missed, same_with_last};
 use crate::rows::{self, Rows};
@@ -193,7 +193,7 @@ impl Histories {
     pub fn make_room(&mut self, node: usize, packet: &Packet) -> Result<(), AllocError>
         ensures account { account_of self.new ≡ account_of self.old }
         ensures last { self.new.last ≡ self.old.last }
-        ensures room { OnOk result (CanServe self.new.rows node (asked_by packet.now.message)) }
+        ensures room { OnOk result (CanServe self.new.rows node (update_asked_by packet.now.message)) }
     {
         match asked_update(packet) {
             Some(update) => rows::make_room(&mut self.rows, self.alloc, update.name(), node),
@@ -207,12 +207,12 @@ impl Histories {
     /// Cost: no memory.
     pub fn serve(&mut self, node: usize, packet: &Packet)
         requires settled { IsSettled self.old }
-        requires room { CanServe self.old.rows node (asked_by packet.now.message) }
+        requires room { CanServe self.old.rows node (update_asked_by packet.now.message) }
         ensures history { history_in self.new ≡ history_in self.old }
         ensures applied { (i : ℕ) (name : Term) → applied_in self.new i name
-            ≡ applied_in self.old i name + one_of node i name (asked_by packet.now.message) }
+            ≡ applied_in self.old i name + one_of node i name (update_asked_by packet.now.message) }
         ensures marked { (i : ℕ) (name : Term) → i < 16 → marked_in self.new i name
-            ≡ marked_after [] (nat_eq node i && is_update_of name (asked_by packet.now.message)) (marked_in self.old i name) }
+            ≡ marked_after [] (nat_eq node i && is_update_of name (update_asked_by packet.now.message)) (marked_in self.old i name) }
         ensures formed { self.new.formed ≡ self.old.formed }
         ensures last { self.new.last ≡ self.old.last }
     {
@@ -335,7 +335,7 @@ fn copy_last(alloc: Global, last: &Option<Entry>) -> Result<Option<Entry>, Alloc
 
 /// The update that a packet asks for, if it does.
 fn asked_update(packet: &Packet) -> Option<&Update>
-    ensures { option_copied result ≡ asked_by packet.now.message }
+    ensures { option_copied result ≡ update_asked_by packet.now.message }
 {
     match &packet.message {
         Message::Call(_, Request::Change(update)) => Some(update),

@@ -16,7 +16,7 @@ pub(crate) struct Row {
 impl Row {
     ghost use Rattle.pg_group.specs.Functions.{upd};
     ghost use Rattle.pg_left.specs.Missed.{last_applied};
-    ghost use Rattle.pg_account.specs.Histories.{count_at, as_entry, as_marked, entries_of, marks_of, HasRoom};
+    ghost use Rattle.pg_account.specs.Histories.{count_at, as_entry, as_marked, entries_of, marks_of, HasRowRoom};
 
     /// Nothing has begun.
     ///
@@ -52,7 +52,7 @@ impl Row {
         ensures entries { entries_of self.new ≡ entries_of self.old }
         ensures counts { count_at self.new.tally ≡ count_at self.old.tally }
         ensures marks { marks_of self.new ≡ marks_of self.old }
-        ensures room { OnOk result (HasRoom self.new node) }
+        ensures room { OnOk result (HasRowRoom self.new node) }
     {
         self.entries.reserve(1)?;
         self.tally.make_room(node)
@@ -62,7 +62,7 @@ impl Row {
     ///
     /// Cost: no memory.
     pub(crate) fn serve(&mut self, node: usize)
-        requires { HasRoom self.old node }
+        requires { HasRowRoom self.old node }
         ensures entries { entries_of self.new ≡ entries_of self.old }
         ensures counts { count_at self.new.tally
             ≡ upd nat_eq (count_at self.old.tally) node (count_at self.old.tally node + 1) }
@@ -78,7 +78,7 @@ impl Row {
     ///
     /// Cost: no memory.
     pub(crate) fn begin(&mut self, entry: Entry)
-        requires { HasRoom self.old entry.node }
+        requires { HasRowRoom self.old entry.node }
         ensures entries { entries_of self.new ≡ entries_of self.old ++ as_entry entry ∷ [] }
         ensures counts { count_at self.new.tally
             ≡ upd nat_eq (count_at self.old.tally) entry.node (count_at self.old.tally entry.node + 1) }

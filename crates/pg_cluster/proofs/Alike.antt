@@ -2,7 +2,7 @@
 use Rattle.std.proofs.Common.{◌≡◌, ◌∙◌, ℕ, Bool, true, false, not, ◌&&◌, ◌||◌, cond, nat_le, take}
 use Rattle.std.proofs.Common.{length, List, [], ◌∷◌, ◌++◌, Some, None, refl, sym, ap, subst}
 use Rattle.std.proofs.Math.Path.{fun_ext}
-use Rattle.pg_joining.specs.Losses.{IsMarked, Marked, MarkedLeads}
+use Rattle.pg_joining.specs.Losses.{IsMarked, MarkedEvent, MarkedLeads}
 use Rattle.pg_machine.specs.Losing.{LosingEvent, LosingWorld, Lose, Step, each_place, losing_happens, stopped}
 use Rattle.pg_machine.specs.Machine.{Machine, World}
 use Rattle.pg_machine.specs.Places.{is_pair, is_place, set_at}
@@ -14,15 +14,15 @@ SameEvent size (Lose i keep) (Lose j keep2) = (i ≡ j) × ((y : ℕ) → is_pai
 SameEvent size e f = ⊥
 
 -- and the same mark
-abbrev pub IsAlike : {C : Type 0} → ℕ → Marked C → Marked C → Type 0
+abbrev pub IsAlike : {C : Type 0} → ℕ → MarkedEvent C → MarkedEvent C → Type 0
 IsAlike size x y = SameEvent size x.0 y.0 × (x.1 ≡ y.1)
 
-abbrev pub AreAlike : {C : Type 0} → ℕ → List (Marked C) → List (Marked C) → Type 0
+abbrev pub AreAlike : {C : Type 0} → ℕ → List (MarkedEvent C) → List (MarkedEvent C) → Type 0
 AreAlike size [] [] = Unit {0}
 AreAlike size (e ∷ es) (f ∷ fs) = IsAlike size e f × AreAlike size es fs
 AreAlike size es fs = ⊥
 
-pub alike_append : {C : Type 0} (size : ℕ) (es fs es2 fs2 : List (Marked C)) → AreAlike size es fs → AreAlike size es2 fs2 → AreAlike size (es ++ es2) (fs ++ fs2)
+pub alike_append : {C : Type 0} (size : ℕ) (es fs es2 fs2 : List (MarkedEvent C)) → AreAlike size es fs → AreAlike size es2 fs2 → AreAlike size (es ++ es2) (fs ++ fs2)
 alike_append size [] [] es2 fs2 a b = b
 alike_append size [] (f ∷ fs) es2 fs2 a b = absurd a
 alike_append size (e ∷ es) [] es2 fs2 a b = absurd a
@@ -70,7 +70,7 @@ module _ {S P C O : Type 0} (m : Machine S P C O) (last : S → P) where
   marks_alike is_last w (Lose i keep) (Lose j keep2) a b same mark is = sym mark ∙ is
 
   -- events that are alike lead to the same world
-  pub leads_alike : (is_last : P → Bool) (w : LosingWorld S P O) (es fs : List (Marked C)) (v : LosingWorld S P O) → AreAlike m.size es fs → MarkedLeads m last is_last w es v → MarkedLeads m last is_last w fs v
+  pub leads_alike : (is_last : P → Bool) (w : LosingWorld S P O) (es fs : List (MarkedEvent C)) (v : LosingWorld S P O) → AreAlike m.size es fs → MarkedLeads m last is_last w es v → MarkedLeads m last is_last w fs v
   leads_alike is_last w [] [] v alike leads = leads
   leads_alike is_last w [] (f ∷ fs) v alike leads = absurd alike
   leads_alike is_last w (e ∷ es) [] v alike leads = absurd alike

@@ -22,7 +22,7 @@ use Rattle.pg_frame_world.specs.Losing.{ShowsLosing}
 use Rattle.pg_frame_world.specs.LosingRuns.{LosingGoesTo, LosingKind, LosingRunsTo, RanLosing, packets_past_losses}
 use Rattle.pg_frame_world.specs.Runs.{GoesTo, Kind, LosesNone, Ran, RunsTo, over_packets}
 use Rattle.pg_frame_world.specs.Views.{View}
-use Rattle.pg_frame_world.specs.Worlds.{Shows, TimedFrameWorld}
+use Rattle.pg_frame_world.specs.Worlds.{ShowsWorld, TimedFrameWorld}
 use Rattle.pg_cluster.specs.declared.replay.Replay.{Replay}
 use Rattle.pg_cluster.specs.Replay.{HasMade, HasMadeAll, MadeOn}
 use Rattle.pg_cluster.specs.Schedule.{SeenStep, losses_first, seen_step, steps_at, steps_behind}
@@ -113,12 +113,12 @@ losing_more given made more numbers others old new gone now ran goes law =
 
 -- so does one in which none is
 pub ran_more : (given : Config) (made more : List FrameStep) (numbers others : List ℕ) (old new : View)
-    → Ran over_packets given made numbers (λ config. Shows config old)
-    → ((config : Config) (w : TimedFrameWorld) → Shows config old w → GoesTo over_packets config w more others (Shows config new))
-    → KeepsOneHistory → Ran over_packets given (made ++ more) (numbers ++ others) (λ config. Shows config new)
+    → Ran over_packets given made numbers (λ config. ShowsWorld config old)
+    → ((config : Config) (w : TimedFrameWorld) → ShowsWorld config old w → GoesTo over_packets config w more others (ShowsWorld config new))
+    → KeepsOneHistory → Ran over_packets given (made ++ more) (numbers ++ others) (λ config. ShowsWorld config new)
 ran_more given made more numbers others old new ran goes law =
     let on = goes ran.config ran.w ran.shows in
-    ran_so over_packets given (λ config w. GoesTo over_packets config w (made ++ more) (numbers ++ others) (Shows config new)) (λ (config : Config). Shows config new) (made ++ more) (numbers ++ others) (
+    ran_so over_packets given (λ config w. GoesTo over_packets config w (made ++ more) (numbers ++ others) (ShowsWorld config new)) (λ (config : Config). ShowsWorld config new) (made ++ more) (numbers ++ others) (
       ran.config,
       ran.orders,
       record {
@@ -134,7 +134,7 @@ ran_more given made more numbers others old new ran goes law =
 -- one that made steps has made those that follow, with their numbers behind
 pub made_more : (before after : Replay) (steps : List FrameStep) (own : List ℕ) → KeepsOneHistory → SurvivesLosses
     → (LosesNone steps → lost_of after.world ≡ lost_of before.world)
-    → (lost_of after.world ≡ [] → (config : Config) (w : TimedFrameWorld) → Shows config (view_of before.world) w → GoesTo over_packets config w steps own (Shows config (view_of after.world)))
+    → (lost_of after.world ≡ [] → (config : Config) (w : TimedFrameWorld) → ShowsWorld config (view_of before.world) w → GoesTo over_packets config w steps own (ShowsWorld config (view_of after.world)))
     → ((config : Config) (u : LosingFrameWorld) → ShowsLosing config (view_of before.world) (lost_of before.world) u
     → LosingGoesTo packets_past_losses config u steps own (ShowsLosing config (view_of after.world) (lost_of after.world)))
     → after.numbers.items ≡ before.numbers.items ++ own
@@ -142,7 +142,7 @@ pub made_more : (before after : Replay) (steps : List FrameStep) (own : List ℕ
 made_more before after steps own history survive lost goes losing numbers given made has =
     let none_lost : LosesNone (made ++ steps) → lost_of after.world ≡ [] = λ none. lost (none_later made steps none) ∙ has.unlost (none_first made steps none) in record {
       unlost = none_lost;
-      ran = λ none. subst (λ ns. Ran over_packets given (made ++ steps) ns (λ config. Shows config (view_of after.world))) (sym numbers)
+      ran = λ none. subst (λ ns. Ran over_packets given (made ++ steps) ns (λ config. ShowsWorld config (view_of after.world))) (sym numbers)
           (ran_more given made steps before.numbers.items own (view_of before.world) (view_of after.world) (has.ran (none_first made steps none)) (goes (none_lost none)) history);
       losing = subst (λ ns. RanLosing packets_past_losses given (made ++ steps) ns (λ config. ShowsLosing config (view_of after.world) (lost_of after.world))) (sym numbers)
           (losing_more given made steps before.numbers.items own (view_of before.world) (view_of after.world) (lost_of before.world) (lost_of after.world) has.losing losing survive);
@@ -188,7 +188,7 @@ one_entry_more logs lost all order later place before after low goes rest given 
 -- a world made these steps, and its numbers have room
 pub made_if : {A E : Type 0} (r : Result A E) (before after : Replay) (steps : List FrameStep) (own slice : List ℕ) → KeepsOneHistory → SurvivesLosses
     → (LosesNone steps → lost_of after.world ≡ lost_of before.world)
-    → (lost_of after.world ≡ [] → (config : Config) (w : TimedFrameWorld) → Shows config (view_of before.world) w → GoesTo over_packets config w steps own (Shows config (view_of after.world)))
+    → (lost_of after.world ≡ [] → (config : Config) (w : TimedFrameWorld) → ShowsWorld config (view_of before.world) w → GoesTo over_packets config w steps own (ShowsWorld config (view_of after.world)))
     → ((config : Config) (u : LosingFrameWorld) → ShowsLosing config (view_of before.world) (lost_of before.world) u
     → LosingGoesTo packets_past_losses config u steps own (ShowsLosing config (view_of after.world) (lost_of after.world)))
     → slice ≡ own → after.numbers.items ≡ (if is_ok r then before.numbers.items ++ slice else before.numbers.items)

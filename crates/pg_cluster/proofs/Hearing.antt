@@ -10,12 +10,12 @@ use Rattle.pg_run.specs.declared.log.NodeEvent.{NodeEvent}
 use Rattle.pg_run.specs.declared.port.Client.{Client}
 use Rattle.pg_run.specs.declared.port.Port.{Port}
 use Rattle.pg_run.specs.Acts.{Act, Given, Took, Saw, Did, entry_of, event_of}
-use Rattle.pg_run.specs.Ports.{ArePort, IsUnused, Meets, SamePort, HandedOver, handed_count, kept_by, polled}
+use Rattle.pg_run.specs.Ports.{ArePort, IsUnused, Meets, SamePort, HandedOver, handed_count, asked_kept, polled}
 use Rattle.pg_run.specs.Runs.{Runs, ports_at}
 use Rattle.pg_run.specs.Turns.{PortFollows, command_at, commands_at}
 use Rattle.pg_step.specs.declared.answer.Answer.{Answer}
 use Rattle.pg_step.specs.Step.{Issue, Retry}
-use Rattle.pg_cluster.specs.Clients.{AllPairs, AreClients, AllHeard, Heard, NodeHeard}
+use Rattle.pg_cluster.specs.Clients.{AllPairs, AreClients, AllHeard, ClientHeard, NodeHeard}
 use Rattle.pg_cluster.specs.Clients.{command_in, commands_in, ports_begun, ports_ended}
 use Rattle.pg_cluster.specs.ClientsLaws.{port_later, same_itself}
 use Rattle.pg_cluster.specs.Promises.{RanAs}
@@ -38,13 +38,13 @@ commands_logged place (act ∷ acts) = (λ j. command_same place act.input j ++ 
 -- ---- one client
 
 port_heard : (place : ℕ) (acts : List Act) (log : List (ℕ × NodeEvent)) (x y : List Answer) (a b : Port) (client : Client) → PortFollows place acts x y a b → IsUnused a
-    → Meets client b → commands_at place acts ≡ commands_in place log → Heard place (length x) acts log y client
+    → Meets client b → commands_at place acts ≡ commands_in place log → ClientHeard place (length x) acts log y client
 port_heard place acts log x y a b client follows unused meets same =
     let over : HandedOver x a = record { first = unused.handed ∙ sym (ap (λ n. take n x) unused.count); within = let e = unused.count in omega (arith, e) } in
     let over2 : HandedOver y b = follows.handed over in record {
       taken = follows.given;
-      further = kept_by b ++ meets.on_the_way;
-      submitted = meets.asked ∙ (ap (λ w. w ++ meets.on_the_way) (follows.asked [] (unused.asked ∙ sym unused.kept)) ∙ append_assoc follows.given (kept_by b) meets.on_the_way);
+      further = asked_kept b ++ meets.on_the_way;
+      submitted = meets.asked ∙ (ap (λ w. w ++ meets.on_the_way) (follows.asked [] (unused.asked ∙ sym unused.kept)) ∙ append_assoc follows.given (asked_kept b) meets.on_the_way);
       logged = follows.commands ∙ same;
       later = follows.later over;
       unpolled = meets.unpolled ++ drop (handed_count b) y;

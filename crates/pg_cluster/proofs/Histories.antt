@@ -20,7 +20,7 @@ use Rattle.pg_frame_world.specs.LosingRuns.{RanLosing, packets_past_losses}
 use Rattle.pg_frame_world.specs.Openings.{CanBegin, CantBegin}
 use Rattle.pg_frame_world.specs.Runs.{Ran, LosesNone, over_packets}
 use Rattle.pg_frame_world.specs.Views.{View}
-use Rattle.pg_frame_world.specs.Worlds.{Shows}
+use Rattle.pg_frame_world.specs.Worlds.{ShowsWorld}
 use Rattle.pg_cluster.specs.declared.closed.Closed.{Closed}
 use Rattle.pg_cluster.specs.Closed.{AreStepsOf, IsHistory}
 use Rattle.pg_cluster.specs.Judges.{all_made, ran_out}
@@ -36,7 +36,7 @@ with_last entries (Some last) = map-append as_entry entries (last ∷ [])
 
 -- what is found in a world that a schedule leads to
 pub found_history : {E : Type 0} (given : Config) (schedule : List FrameStep) (name : Term) (view : View) (gone numbers : List ℕ) (result : Result (Option (Vec Entry Global)) E)
-    → (LosesNone schedule → Ran over_packets given schedule numbers (λ config. Shows config view))
+    → (LosesNone schedule → Ran over_packets given schedule numbers (λ config. ShowsWorld config view))
     → RanLosing packets_past_losses given schedule numbers (λ config. ShowsLosing config view gone)
     → IfOk result (λ found. IfSome found (λ entries. map as_entry entries.items ≡ view.account.histories name)) → IfOk result (λ found. is_some found ≡ all_made numbers)
     → IfOk result (λ found. IfSome found (λ entries. HasHistory given schedule name (map as_entry entries.items)))

@@ -9,11 +9,11 @@ use Rattle.std.proofs.Math.Seq.{get_or-append_seam}
 use Rattle.pg_ring.specs.Ends.{bytes_room}
 use Rattle.pg_joining.specs.Apart.{End}
 use Rattle.pg_cluster.specs.Ended.{Row}
-use Rattle.pg_cluster.specs.Rows.{HaveRoom, Wired, Joins, Joined, PairAt, SoFar}
+use Rattle.pg_cluster.specs.Rows.{HaveRowRoom, Wired, Joins, AreJoined, PairAt, SoFar}
 use Rattle.pg_cluster.proofs.Starts.{all_push}
 
 -- each row is as it was, or one longer
-grown : (xs ys : List Row) (i j : ℕ) → Joined xs ys i j → (k : ℕ) (d : Row) → (t : List End) × ((get_or ys k d).items ≡ (get_or xs k d).items ++ t)
+grown : (xs ys : List Row) (i j : ℕ) → AreJoined xs ys i j → (k : ℕ) (d : Row) → (t : List End) × ((get_or ys k d).items ≡ (get_or xs k d).items ++ t)
 grown xs ys i j h k d = elim (eqb_tells k i) [
   | inl e ↦ (h.x ∷ [], rw e.1 (h.at_i d))
   | inr f ↦ elim (eqb_tells k j) [
@@ -25,7 +25,7 @@ grown xs ys i j h k d = elim (eqb_tells k i) [
 wired_grown : (xs xs' ys ys' s t : List End) (p q : ℕ) → xs' ≡ xs ++ s → ys' ≡ ys ++ t → p < length xs → q < length ys → Wired xs p ys q → Wired xs' p ys' q
 wired_grown xs xs' ys ys' s t p q e f a b w d = rw (e, f, get_or-append xs s d p a, get_or-append ys t d q b) (w d)
 
-pair_grown : (xs ys : List Row) (i j : ℕ) → Joined xs ys i j → (a b : ℕ) (d : Row) → b - 1 < length (get_or xs a d).items → a < length (get_or xs b d).items → PairAt xs a b d → PairAt ys a b d
+pair_grown : (xs ys : List Row) (i j : ℕ) → AreJoined xs ys i j → (a b : ℕ) (d : Row) → b - 1 < length (get_or xs a d).items → a < length (get_or xs b d).items → PairAt xs a b d → PairAt ys a b d
 pair_grown xs ys i j h a b d low high w =
     let s = grown xs ys i j h a d in
     let t = grown xs ys i j h b d in record {
@@ -45,7 +45,7 @@ at_least n xs j i r d s low in_n = elim (leb_tells i r) [
 new_pair : (x y : End) → Joins x y → Wired (x ∷ []) 0 (y ∷ []) 0 × Wired (y ∷ []) 0 (x ∷ []) 0
 new_pair x y h = (λ d. (h.there, h.sent.0, h.got.1), λ d. (h.back, h.sent.1, h.got.0))
 
-pub joined_more : (n : ℕ) (xs ys : List Row) (j i : ℕ) → i < j → j < n → length ys ≡ length xs → Joined xs ys i j → SoFar n xs j i → SoFar n ys j (i + 1)
+pub joined_more : (n : ℕ) (xs ys : List Row) (j i : ℕ) → i < j → j < n → length ys ≡ length xs → AreJoined xs ys i j → SoFar n xs j i → SoFar n ys j (i + 1)
 joined_more n xs ys j i ij jn len h s = record {
   rows = len ∙ s.rows;
   before = λ r d low less in_n. elim (eqb_tells r i) [
@@ -109,7 +109,7 @@ pub joined_here : (xs : List Row) (i j : ℕ) (v v' w w' : Row) (x y : End)
     → v ≡ get_or xs i v → v'.items ≡ v.items ++ x ∷ []
     → w ≡ get_or (set xs i v') j w → w'.items ≡ w.items ++ y ∷ []
     → Joins x y
-    → Joined xs (set (set xs i v') j w') i j
+    → AreJoined xs (set (set xs i v') j w') i j
 joined_here xs i j v v' w w' x y ij jn vi vx wi wy js =
     let low : i < length xs = omega arith in
     let low2 : j < length (set xs i v') = let l = length-set xs i v' in omega arith in
@@ -127,7 +127,7 @@ joined_here xs i j v v' w w' x y ij jn vi vx wi wy js =
 -- ---- room
 
 -- a row that is one link longer keeps the room of its rings
-room_pushed : (room : ℕ) (xs : List Row) (i : ℕ) (v w : Row) (x : End) → i < length xs → v ≡ get_or xs i v → w.items ≡ v.items ++ x ∷ [] → bytes_room x.link ≡ room → HaveRoom room xs → HaveRoom room (set xs i w)
+room_pushed : (room : ℕ) (xs : List Row) (i : ℕ) (v w : Row) (x : End) → i < length xs → v ≡ get_or xs i v → w.items ≡ v.items ++ x ∷ [] → bytes_room x.link ≡ room → HaveRowRoom room xs → HaveRowRoom room (set xs i w)
 room_pushed room xs i v w x low vi wx new have k d within = elim (eqb_tells k i) [
   | inl t ↦
       let here : get_or (set xs i w) k d ≡ w = ap (λ n. get_or (set xs i w) n d) t.1 ∙ get_or-set_same xs i w d low in
@@ -144,11 +144,11 @@ pub room_joined : (room : ℕ) (xs : List Row) (i j : ℕ) (v v' w w' : Row) (x 
     → v ≡ get_or xs i v → v'.items ≡ v.items ++ x ∷ []
     → w ≡ get_or (set xs i v') j w → w'.items ≡ w.items ++ y ∷ []
     → bytes_room x.link ≡ room → bytes_room y.link ≡ room
-    → HaveRoom room xs → HaveRoom room (set (set xs i v') j w')
+    → HaveRowRoom room xs → HaveRowRoom room (set (set xs i v') j w')
 room_joined room xs i j v v' w w' x y ij jn vi vx wi wy rx ry have =
     let low2 : j < length (set xs i v') = let l = length-set xs i v' in omega (arith, jn, l) in
     room_pushed room (set xs i v') j w w' y low2 wi wy ry (room_pushed room xs i v v' x (omega (arith, ij, jn)) vi vx rx have)
 
 -- rows without links
-pub no_room : (room : ℕ) (xs : List Row) → ((r : ℕ) (d : Row) → r < length xs → length (get_or xs r d).items ≡ 0) → HaveRoom room xs
+pub no_room : (room : ℕ) (xs : List Row) → ((r : ℕ) (d : Row) → r < length xs → length (get_or xs r d).items ≡ 0) → HaveRowRoom room xs
 no_room room xs none k d low i e within = absurd (let n = none k d low in omega (arith, n, within))

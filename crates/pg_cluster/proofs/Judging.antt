@@ -13,7 +13,7 @@ use Rattle.pg_world.specs.Crossings.{node_of}
 use Rattle.pg_frame_world.specs.Runs.{Ran, LosesNone, over_packets}
 use Rattle.pg_starts.specs.Seen.{Seen, seen_of}
 use Rattle.pg_frame_world.specs.FrameWorlds.{lost_of, view_of}
-use Rattle.pg_frame_world.specs.Worlds.{Shows, ShowsNode, TimedFrameWorld}
+use Rattle.pg_frame_world.specs.Worlds.{ShowsWorld, ShowsNode, TimedFrameWorld}
 use Rattle.pg_step.specs.LossLaws.{LosingFrameWorld}
 use Rattle.pg_joining.specs.ApartWithLosses.{nodes_in}
 use Rattle.pg_frame_world.specs.Losing.{ShowsLosing, losing_of}
@@ -55,7 +55,7 @@ module _ {T : Type 0} {g : Ghosts T} where
 
   -- a world that the schedule leads to, and that shows these nodes
   pub replays_so : {E : Type 0} (given : Config) (schedule : List FrameStep) (nodes : List (Node T g)) (world : FrameWorld T g) (numbers : List ℕ) (result : Result Bool E)
-      → (LosesNone schedule → Ran over_packets given schedule numbers (λ config. Shows config (view_of world)))
+      → (LosesNone schedule → Ran over_packets given schedule numbers (λ config. ShowsWorld config (view_of world)))
       → IfOk result (λ yes. IsTrue yes ↔ ((all_made numbers ≡ true) × AreShown (view_of world).traffic.nodes nodes))
       → IfOk result (λ yes. IsTrue yes → LosesNone schedule → Replays given schedule nodes)
   replays_so given schedule nodes world numbers (Ok told) ran shown = λ holds none. let r = ran none in record {

@@ -26,10 +26,10 @@ use Rattle.pg_config.specs.declared.fault.WorldFault.TheVariants.{OutOfMemory}
 use Rattle.pg_cluster.specs.declared.fault.StartFault.{StartFault}
 use Rattle.pg_cluster.specs.declared.fault.StartFault.TheVariants.{World, NoThread}
 use Rattle.pg_cluster.specs.declared.runs.Made.{Made}
-use Rattle.pg_cluster.specs.Clients.{AllPairs, IsOpen}
+use Rattle.pg_cluster.specs.Clients.{AllPairs, IsOpenClient}
 use Rattle.pg_cluster.specs.Ended.{Row, AreWired, row_at}
 use Rattle.pg_cluster.specs.Fault.{CantRun, IsShortage}
-use Rattle.pg_cluster.specs.Rows.{HaveRoom, Wired, RowsWired}
+use Rattle.pg_cluster.specs.Rows.{HaveRowRoom, Wired, RowsWired}
 use Rattle.pg_cluster.specs.Threads.{AreMade, HasLinks, HaveRings, NodeOf, RunOf}
 use Rattle.pg_cluster.specs.Threads.{node_in, row_in, log_in, ports_of_runs}
 use Rattle.pg_cluster.proofs.Paired.{pairs_right}
@@ -81,7 +81,7 @@ pub are_made : {K : Type 0} (given : Config) (nodes : List NodeOf) (rows : List 
     → IsConfig given → length nodes ≡ length given → BytesBegin given (idle_crossing nodes) no_account → RowsWired (length nodes) rows
     → IfOk result (λ made. map node_in made.runs.items ≡ nodes) → IfOk result (λ made. map row_in made.runs.items ≡ lists rows)
     → IfOk result (λ made. All (λ run. log_in run ≡ []) made.runs.items) → IfOk result (λ made. All (λ run. IsUntold (notices_of run)) made.runs.items)
-    → IfOk result (λ made. AllPairs IsOpen made.clients.items (ports_of_runs made.runs.items))
+    → IfOk result (λ made. AllPairs IsOpenClient made.clients.items (ports_of_runs made.runs.items))
     → IfOk result (λ made. AreMade given made.runs.items)
 are_made given nodes rows (Ok made) good count begins wired held rowed unlogged untold clients =
     let size : length made.runs.items ≡ length nodes = sym (length-map made.runs.items node_in) ∙ ap length held in record {
@@ -91,7 +91,7 @@ are_made given nodes rows (Ok made) good count begins wired held rowed unlogged 
       begins = subst (λ (ns : List NodeOf). BytesBegin given (idle_crossing ns) no_account) (sym held) begins;
       unlogged = unlogged;
       untold = untold;
-      unused = pairs_right IsOpen IsUnused (λ client port both. both.1.1) made.clients.items (ports_of_runs made.runs.items) clients;
+      unused = pairs_right IsOpenClient IsUnused (λ client port both. both.1.1) made.clients.items (ports_of_runs made.runs.items) clients;
       wired = subst (λ (n : ℕ). AreWired n (map row_in made.runs.items)) (sym size) (subst (AreWired (length nodes)) (sym rowed) (are_wired (length nodes) rows wired));
     }
 are_made given nodes rows (Err fault) good count begins wired held rowed unlogged untold clients = tt
@@ -137,11 +137,11 @@ rows_fit given nodes rows begins wired = record {
 -- ---- the room of the rings
 
 -- what holds of the links of each row holds of those of each node that was made with them
-pub rings_of : {K : Type 0} (room : ℕ) (rows : List Row) (result : Result (Made K) StartFault) → HaveRoom room rows → IfOk result (λ made. map row_in made.runs.items ≡ lists rows)
+pub rings_of : {K : Type 0} (room : ℕ) (rows : List Row) (result : Result (Made K) StartFault) → HaveRowRoom room rows → IfOk result (λ made. map row_in made.runs.items ≡ lists rows)
     → IfOk result (λ made. HaveRings room made.runs.items)
 rings_of {K} room rows (Ok made) have rowed = go made.runs.items rows rowed have
   where
-    go : (runs : List (RunOf K)) (rows : List Row) → map row_in runs ≡ lists rows → HaveRoom room rows → HaveRings room runs
+    go : (runs : List (RunOf K)) (rows : List Row) → map row_in runs ≡ lists rows → HaveRowRoom room rows → HaveRings room runs
     go [] rows same have i run low = absurd (omega (arith, low))
     go (run ∷ runs) [] same have i d low = absurd (cc same)
     go (run ∷ runs) (row ∷ rows) same have zero d low =

@@ -18,7 +18,7 @@ use Rattle.pg_machine.proofs.Steps.{happened}
 use Rattle.pg_index.specs.declared.index_table.IndexTable.{IndexTable}
 use Rattle.pg_index.specs.contracts.index_table.IndexTableGroupTable.TheImpl.{ghosts}
 use Rattle.pg_joining.specs.Merge.{Merges, MergesRest, IsNext, rest_of, clocks_of}
-use Rattle.pg_joining.specs.Merge.{clocks_in, log_at, entry_at, merged, seen_log}
+use Rattle.pg_joining.specs.Merge.{clocks_in, log_at, entry_at, merged_logs, seen_log}
 use Rattle.pg_joining.proofs.Seen.{same_merge}
 use Rattle.pg_node.specs.Nodes.{held_by, links_of}
 use Rattle.pg_node_state.specs.States.{state_of}
@@ -149,12 +149,12 @@ all_there m w v (e ∷ events) leads = ((happened m w leads.0 e leads.1).there, 
 -- the steps of a merge are its events
 schedule_is : (size n : ℕ) (logs : List (List (ℕ × NodeEvent))) (at : ℕ → List (ℕ × NodeEvent)) (clocks : ℕ → List ℕ) (read : ℕ → ℕ) (order : List (ℕ × ℕ))
     → size ≤ 16 → ((i : ℕ) → i < n → log_at logs i ≡ at i) → ((i : ℕ) → i < n → AllPlain (at i)) → MergesRest n clocks read order
-    → AllByRecursion (λ e. is_there size e ≡ true) (merged (λ i. seen_log (event_at i) (at i)) order)
-    → map event_of (steps_of logs order) ≡ map Some (merged (λ i. seen_log (event_at i) (at i)) order)
+    → AllByRecursion (λ e. is_there size e ≡ true) (merged_logs (λ i. seen_log (event_at i) (at i)) order)
+    → map event_of (steps_of logs order) ≡ map Some (merged_logs (λ i. seen_log (event_at i) (at i)) order)
 schedule_is size n logs at clocks read [] few same plain merges all = refl
 schedule_is size n logs at clocks read (x ∷ order) few same plain merges all =
     let here : List NodeEvent = entry_at (at x.0) x.1 in
-    let later = merged (λ i. seen_log (event_at i) (at i)) order in
+    let later = merged_logs (λ i. seen_log (event_at i) (at i)) order in
     let seen = entry_seen (event_at x.0) (at x.0) x.1 in
     let parts = first_all (λ e. is_there size e ≡ true) (map (event_at x.0) here) later (subst (λ es. AllByRecursion (λ e. is_there size e ≡ true) (es ++ later)) seen all) in
     let first = steps_are size x.0 here (entry_plain (at x.0) x.1 (plain x.0 merges.1.there)) few parts.0 in

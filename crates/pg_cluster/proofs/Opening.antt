@@ -10,31 +10,31 @@ use Rattle.pg_ring.specs.declared.slot_out.SlotOut.{SlotOut}
 use Rattle.pg_run.specs.declared.notices.Notice.{Notice}
 use Rattle.pg_run.specs.Runs.{ports_at, notices_at}
 use Rattle.pg_cluster.specs.Notices.{IsFresh}
-use Rattle.pg_cluster.specs.Clients.{AllPairs, IsOpen, OpensMore, ports_ended}
+use Rattle.pg_cluster.specs.Clients.{AllPairs, IsOpenClient, OpensMore, ports_ended}
 use Rattle.pg_cluster.specs.Threads.{RunOf, RanOf, ports_of_runs}
 use Rattle.pg_cluster.proofs.Paired.{pairs_none, pairs_push}
 
 -- ---- ports that are opened
 
 pub opens_none : (clients : List Client) → OpensMore clients clients []
-opens_none clients = λ before all. subst (AllPairs IsOpen clients) (sym (append-nil before)) all
+opens_none clients = λ before all. subst (AllPairs IsOpenClient clients) (sym (append-nil before)) all
 
-pub opens_one : (old clients : List Client) (ports : List Port) (client : Client) (port : Port) → OpensMore old clients ports → IsOpen client port
+pub opens_one : (old clients : List Client) (ports : List Port) (client : Client) (port : Port) → OpensMore old clients ports → IsOpenClient client port
     → OpensMore old (clients ++ client ∷ []) (ports ++ port ∷ [])
 opens_one old clients ports client port opens here = λ before all.
-    subst (AllPairs IsOpen (clients ++ client ∷ [])) (append_assoc before ports (port ∷ []))
-    (pairs_push IsOpen clients (before ++ ports) client port (opens before all) here)
+    subst (AllPairs IsOpenClient (clients ++ client ∷ [])) (append_assoc before ports (port ∷ []))
+    (pairs_push IsOpenClient clients (before ++ ports) client port (opens before all) here)
 
 module _ {K : Type 0} where
-  pub opened_none : (clients : List Client) (runs : List (RunOf K)) → clients ≡ [] → runs ≡ [] → AllPairs IsOpen clients (ports_of_runs runs)
+  pub opened_none : (clients : List Client) (runs : List (RunOf K)) → clients ≡ [] → runs ≡ [] → AllPairs IsOpenClient clients (ports_of_runs runs)
   opened_none clients runs no_client no_run =
-      subst (λ (cs : List Client). AllPairs IsOpen cs (ports_of_runs runs)) (sym no_client)
-      (subst (λ (rs : List (RunOf K)). AllPairs IsOpen [] (ports_of_runs rs)) (sym no_run) (pairs_none IsOpen))
+      subst (λ (cs : List Client). AllPairs IsOpenClient cs (ports_of_runs runs)) (sym no_client)
+      (subst (λ (rs : List (RunOf K)). AllPairs IsOpenClient [] (ports_of_runs rs)) (sym no_run) (pairs_none IsOpenClient))
 
   pub opened_more : (old new : List Client) (runs runs2 : List (RunOf K)) (run : RunOf K) (ports : List Port) → ports_at run ≡ ports → runs2 ≡ runs ++ run ∷ [] → OpensMore old new ports
-      → AllPairs IsOpen old (ports_of_runs runs) → AllPairs IsOpen new (ports_of_runs runs2)
+      → AllPairs IsOpenClient old (ports_of_runs runs) → AllPairs IsOpenClient new (ports_of_runs runs2)
   opened_more old new runs runs2 run ports at is opens all =
-      subst (AllPairs IsOpen new)
+      subst (AllPairs IsOpenClient new)
       (ap (λ ps. ports_of_runs runs ++ ps) (sym at ∙ sym (append-nil (ports_at run)))
       ∙ (sym (flat_map-append ports_at runs (run ∷ [])) ∙ ap (λ (rs : List (RunOf K)). ports_of_runs rs) (sym is)))
       (opens (ports_of_runs runs) all)

@@ -30,7 +30,7 @@ use Rattle.pg_frame_world.specs.Openings.{CantBegin}
 use Rattle.pg_frame_world.specs.Runs.{IsTold, IsPassed, LosesNone, Ran, RunsTo, over_packets, number_told}
 use Rattle.pg_starts.specs.Seen.{Seen}
 use Rattle.pg_frame_world.specs.Views.{View}
-use Rattle.pg_frame_world.specs.Worlds.{TimedFrameWorld, Shows, ShowsNode, ShowsNodes, event_of, told, told_of_first}
+use Rattle.pg_frame_world.specs.Worlds.{TimedFrameWorld, ShowsWorld, ShowsNode, ShowsNodes, event_of, told, told_of_first}
 use Rattle.pg_cluster.specs.Judges.{AreShown, Replays, all_made, ran_out}
 use Rattle.pg_cluster.specs.Threads.{NodeOf}
 use Rattle.pg_cluster.specs.Together.{AreOneRun}
@@ -146,7 +146,7 @@ module _ {T : Type 0} {g : Ghosts T} (config : Config) (seen : List Seen) (nodes
 
 -- the schedule of one run leads to its nodes again, where no step is refused for memory
 module _ (given : Config) (nodes : List NodeOf) (logs : List (List (ℕ × NodeEvent))) (schedule : List FrameStep) (run : AreOneRun given nodes logs schedule) where
-  pub run_seen : (view : View) (numbers : List ℕ) → Ran over_packets given schedule numbers (λ config. Shows config view) → ran_out numbers ≡ false → AreShown view.traffic.nodes nodes
+  pub run_seen : (view : View) (numbers : List ℕ) → Ran over_packets given schedule numbers (λ config. ShowsWorld config view) → ran_out numbers ≡ false → AreShown view.traffic.nodes nodes
   run_seen view numbers ran none =
       seen_again run.config view.traffic.nodes nodes run.w (same_world (ordered_once given ran.config run.config ran.orders run.orders) ran.events ran.runs ran.shows.traffic.nodes) run.size run.shown
     where
@@ -157,7 +157,7 @@ module _ (given : Config) (nodes : List NodeOf) (logs : List (List (ℕ × NodeE
           let world : ran.w ≡ run.w = led_again run.config schedule numbers run.events events (start_of (frame_machine run.config)) run.w ran.w run.are run.leads here none in
           subst (ShowsNodes run.config view.traffic.nodes) world (subst (λ (config : Config). ShowsNodes config view.traffic.nodes ran.w) same shows)
 
-  pub run_numbers : (view : View) (numbers : List ℕ) → Ran over_packets given schedule numbers (λ config. Shows config view) → ran_out numbers ≡ false → all_made numbers ≡ true
+  pub run_numbers : (view : View) (numbers : List ℕ) → Ran over_packets given schedule numbers (λ config. ShowsWorld config view) → ran_out numbers ≡ false → all_made numbers ≡ true
   run_numbers view numbers ran none = by (ordered_once given ran.config run.config ran.orders run.orders) ran.events ran.runs
     where
       by : ran.config ≡ run.config → (events : List (Event Action)) → RunsTo over_packets ran.config (start_of (frame_machine ran.config)) schedule numbers events ran.w → all_made numbers ≡ true
@@ -167,7 +167,7 @@ module _ (given : Config) (nodes : List NodeOf) (logs : List (List (ℕ × NodeE
 
 -- so a look at a run of it never tells no
 pub never_no : {E : Type 0} (ring : ℕ) (given : Config) (nodes : List NodeOf) (logs : List (List (ℕ × NodeEvent))) (schedule : List FrameStep) (view : View) (numbers : List ℕ) (result : Result Bool E)
-    → (LosesNone schedule → Ran over_packets given schedule numbers (λ config. Shows config view))
+    → (LosesNone schedule → Ran over_packets given schedule numbers (λ config. ShowsWorld config view))
     → IfOk result (λ yes. IsTrue yes ↔ ((all_made numbers ≡ true) × AreShown view.traffic.nodes nodes)) → IfOk result (λ yes. ran_out numbers ≡ false)
     → IfOk result (λ yes. CanBegin ring given → AreOneRun given nodes logs schedule → yes ≡ true)
 never_no ring given nodes logs schedule view numbers (Ok answer) ran shown none =

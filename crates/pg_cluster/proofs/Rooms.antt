@@ -7,7 +7,7 @@ use Rattle.std.proofs.lemmas.List.{length-set}
 use Rattle.pg_ring.specs.declared.slot_out.SlotOut.{SlotOut}
 use Rattle.pg_ring.specs.Slots.{slots_free}
 use Rattle.pg_run.specs.declared.notices.Notice.{Notice}
-use Rattle.pg_cluster.specs.Notices.{AllNotified, HaveRoom, IsRoomy, NotifiedUpTo, SameTellers, count_running}
+use Rattle.pg_cluster.specs.Notices.{AllNotified, HaveNoticeRoom, IsRoomy, NotifiedUpTo, SameTellers, count_running}
 
 pub count_within : (lost : List Bool) → count_running lost ≤ length lost
 count_within [] = omega arith
@@ -22,7 +22,7 @@ one_fewer (false ∷ lost) zero low runs = refl
 one_fewer (true ∷ lost) (suc k) low runs = one_fewer lost k (omega (arith, low)) runs
 one_fewer (false ∷ lost) (suc k) low runs = let n = one_fewer lost k (omega (arith, low)) runs in omega (arith, n)
 
-pub room_first : (lost : List Bool) (tellers : List (SlotOut Notice)) → length tellers ≡ length lost → length lost ≤ 16 → All IsRoomy tellers → HaveRoom lost tellers
+pub room_first : (lost : List Bool) (tellers : List (SlotOut Notice)) → length tellers ≡ length lost → length lost ≤ 16 → All IsRoomy tellers → HaveNoticeRoom lost tellers
 room_first lost tellers count few roomy = record {
   count = count;
   room = λ place none low.
@@ -32,7 +32,7 @@ room_first lost tellers count few roomy = record {
 }
 
 module _ (lost : List Bool) (tellers tellers2 : List (SlotOut Notice)) (k last : ℕ) (within : k < length lost) (runs : get_or lost k false ≡ false)
-    (has : HaveRoom lost tellers) (told : NotifiedUpTo k last (length tellers) tellers tellers2) where
+    (has : HaveNoticeRoom lost tellers) (told : NotifiedUpTo k last (length tellers) tellers tellers2) where
   -- there was room at each
   pub all_notified : AllNotified k last tellers tellers2
   all_notified place none low =
@@ -41,7 +41,7 @@ module _ (lost : List Bool) (tellers tellers2 : List (SlotOut Notice)) (k last :
       let fewer = one_fewer lost k within runs in
       one.told (omega (arith, free, fewer))
 
-  pub room_on : SameTellers tellers tellers2 → HaveRoom (set lost k true) tellers2
+  pub room_on : SameTellers tellers tellers2 → HaveNoticeRoom (set lost k true) tellers2
   room_on same = record {
     count = same.len ∙ (has.count ∙ sym (length-set lost k true));
     room = λ place none low.

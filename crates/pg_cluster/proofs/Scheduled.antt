@@ -8,7 +8,7 @@ use Rattle.std.proofs.Math.Seq.{get_or-append_seam}
 use Rattle.std.proofs.lemmas.Bool.{cases_eq, cases_lt, eq-eqb, le-ltb, lt-ltb, ne_eqb}
 use Rattle.std.proofs.lemmas.List.{map-append}
 use Rattle.pg_joining.specs.Merge.{IsNext, Merges, MergesRest, entry_at, log_at, rest_of}
-use Rattle.pg_joining.specs.Losses.{Marked}
+use Rattle.pg_joining.specs.Losses.{MarkedEvent}
 use Rattle.pg_joining.proofs.Acts.{all_append}
 use Rattle.pg_machine.specs.Losing.{Lose}
 use Rattle.pg_machine.specs.Places.{set_at}
@@ -37,11 +37,11 @@ is_sight (steps.SeeLoss node peer) = true
 is_sight (steps.Lose node keep) = false
 
 -- the event of a step, and whether a last notice is taken by it
-abbrev pub marked_event : FrameStep → Marked Action
+abbrev pub marked_event : FrameStep → MarkedEvent Action
 marked_event step = (losing_event step, is_sight step)
 
 -- those of a step as it is seen
-abbrev pub event_seen : SeenStep → Marked Action
+abbrev pub event_seen : SeenStep → MarkedEvent Action
 event_seen (Turned step) = marked_event step
 event_seen (Lost node keep) = (Lose node (keep_of node keep), false)
 

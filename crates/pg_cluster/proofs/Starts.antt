@@ -15,7 +15,7 @@ use Rattle.pg_run.specs.declared.notices.Notice.{Notice}
 use Rattle.pg_run.specs.declared.port.Client.{Client}
 use Rattle.pg_run.specs.Runs.{notices_at}
 use Rattle.pg_step.specs.Config.{Config}
-use Rattle.pg_cluster.specs.Clients.{AllPairs, IsOpen, ports_begun}
+use Rattle.pg_cluster.specs.Clients.{AllPairs, IsOpenClient, ports_begun}
 use Rattle.pg_cluster.specs.Ended.{AreWired}
 use Rattle.pg_cluster.specs.declared.member.Member.{Member}
 use Rattle.pg_cluster.specs.Members.{clock_of, is_lost, last_of, losses_in, thread_of, threads_in}
@@ -76,9 +76,9 @@ module _ {K : Type 0} where
 
   -- and its clients
   pub started_clients : (runs : List (RunOf K)) (limit : ℕ) (threads : List (Thread K)) (clients : List Client) → StartedWith runs limit threads
-      → AllPairs IsOpen clients (ports_of_runs runs) → AllPairs IsOpen clients (ports_begun threads)
+      → AllPairs IsOpenClient clients (ports_of_runs runs) → AllPairs IsOpenClient clients (ports_begun threads)
   started_clients runs limit threads clients started opened =
-      subst (λ (rs : List (RunOf K)). AllPairs IsOpen clients (ports_of_runs rs)) (sym (started_runs runs limit threads started)) opened
+      subst (λ (rs : List (RunOf K)). AllPairs IsOpenClient clients (ports_of_runs rs)) (sym (started_runs runs limit threads started)) opened
 
   -- and is told of losses
   pub started_notices : (R : SlotOut Notice → SlotIn Notice → Type 0) (runs : List (RunOf K)) (limit : ℕ) (threads : List (Thread K)) (tellers : List (SlotOut Notice))

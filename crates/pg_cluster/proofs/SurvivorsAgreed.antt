@@ -29,7 +29,7 @@ use Rattle.pg_step.specs.Commands.{change_of}
 use Rattle.pg_step.specs.Config.{Config, name_at, names_of, nodes_at}
 use Rattle.pg_step.specs.FrameMachine.{last_notice, losing_frame_machine, losing_machine_of}
 use Rattle.pg_step.specs.Faults.{first_that_holds}
-use Rattle.pg_step.specs.LossLaws.{LosingFrameWorld, clock_after, is_drained, is_notice}
+use Rattle.pg_step.specs.LossLaws.{LosingFrameWorld, clock_after, way_is_drained, is_notice}
 use Rattle.pg_step.specs.StepLaws.{is_full}
 use Rattle.pg_step.specs.declared.refusal.Refusal.TheVariants.{NoSuchPlace, NodeLost, NotLost, NotDrained, ClockFull}
 use Rattle.pg_step.specs.State.{State, formed, live_nodes}
@@ -371,7 +371,7 @@ all_drained false false true d e is = absurd (cc)
 all_drained false true c d e is = absurd (cc)
 all_drained true b c d e is = absurd (cc)
 
-first_notice : (xs : List (Stamped (Noticed Message))) → is_drained xs ≡ true → (x : Stamped (Noticed Message)) × (rest : List (Stamped (Noticed Message))) × (xs ≡ x ∷ rest) × (x.packet ≡ Last)
+first_notice : (xs : List (Stamped (Noticed Message))) → way_is_drained xs ≡ true → (x : Stamped (Noticed Message)) × (rest : List (Stamped (Noticed Message))) × (xs ≡ x ∷ rest) × (x.packet ≡ Last)
 first_notice [] e = absurd (cc)
 first_notice (x ∷ rest) e = go x.packet refl e
   where
@@ -482,7 +482,7 @@ module _ (agreeing : Agreeing) (finishing : Finishing) (given : Config) (lost : 
         seen_by peer first rest at parts =
             let node : node_of_peer i peer ≡ p = ap (node_of_peer i) at ∙ peer_is i p apart few in
             let made = reached_at first rest (steps.SeeLoss i p) (parts ∙ ap (λ q. first ++ steps.SeeLoss i q ∷ rest) node) in
-            let drained = all_drained (not (is_pair (length run.config) i p)) (made.m.gone i || (made.m.world.node i).state.lost (name_at run.config p)) (not (made.m.gone p)) (is_drained (made.m.world.wire p i))
+            let drained = all_drained (not (is_pair (length run.config) i p)) (made.m.gone i || (made.m.world.node i).state.lost (name_at run.config p)) (not (made.m.gone p)) (way_is_drained (made.m.world.wire p i))
             (is_full (clock_after (made.m.world.node i).clock (made.m.world.wire p i))) made.can.allowed in
             let notice = first_notice (made.m.world.wire p i) drained in
             let now = sees run.config made.m made.next i p notice.0 notice.1 notice.2 notice.3 (passed run.config made.m made.next (Step (Take i p)) made.happens) in

@@ -18,7 +18,7 @@ use Rattle.pg_run.proofs.Moving.{nil_first}
 use Rattle.pg_run.specs.Runs.{notices_at}
 use Rattle.pg_cluster.specs.Clients.{AllPairs}
 use Rattle.pg_cluster.specs.ClientsLaws.{each_set, slot_in_on, slot_out_on}
-use Rattle.pg_cluster.specs.Notices.{AllNotified, IsOfLost, NobodyLost, IsSilent}
+use Rattle.pg_cluster.specs.Notices.{AllNotified, IsOfLost, NobodyLost, HasNoNotice}
 use Rattle.pg_cluster.specs.Notices.{SaysLost, Told, SameTellers, notice_for}
 use Rattle.pg_cluster.specs.Threads.{Thread, RanOf, Joined, begun_by, notices_begun, notices_ended}
 use Rattle.pg_cluster.proofs.Hearing.{first_ran, others_ran}
@@ -73,7 +73,7 @@ all_turned P Q [] f all = tt
 all_turned P Q (x ∷ xs) f all = (f x all.0, all_turned P Q xs f all.1)
 
 -- nothing
-pub says_none : (lost : List Bool) (lasts : List ℕ) (tellers : List (SlotOut Notice)) → length tellers ≡ length lost → All IsSilent tellers → SaysLost lost lasts tellers
+pub says_none : (lost : List Bool) (lasts : List ℕ) (tellers : List (SlotOut Notice)) → length tellers ≡ length lost → All HasNoNotice tellers → SaysLost lost lasts tellers
 says_none lost lasts tellers count silent place none low =
     subst (AllByRecursion (IsOfLost (length lost) (λ node. get_or lost node false) (λ node. get_or lasts node 0) place)) (sym (silent place none (omega (arith, low, count)))) tt
 
@@ -164,7 +164,7 @@ module _ {K : Type 0} where
       are (same_inlets threads rans joined)
 
 -- where nothing was told nothing came
-pub nothing_came : (tellers : List (SlotOut Notice)) (inlets : List (SlotIn Notice)) → All IsSilent tellers → AllPairs Told tellers inlets → All (λ inlet. taken inlet ≡ []) inlets
+pub nothing_came : (tellers : List (SlotOut Notice)) (inlets : List (SlotIn Notice)) → All HasNoNotice tellers → AllPairs Told tellers inlets → All (λ inlet. taken inlet ≡ []) inlets
 nothing_came [] inlets silent all = λ i y low. absurd (let e = all.len in omega (arith, e, low))
 nothing_came (t ∷ ts) inlets silent all = λ i y low.
     let told = all.each i t y low in

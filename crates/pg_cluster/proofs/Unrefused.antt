@@ -15,7 +15,7 @@ use Rattle.pg_machine.proofs.Options.{cond_is_some, map_is_some}
 use Rattle.pg_machine.proofs.Steps.{did, pair_apart, took}
 use Rattle.pg_step.specs.Config.{Config, name_at, names_of, nodes_at, ports_at}
 use Rattle.pg_step.specs.FrameMachine.{frame_machine, last_notice, losing_frame_machine, sent_packet}
-use Rattle.pg_step.specs.LossLaws.{LosingFrameWorld, is_drained, is_notice}
+use Rattle.pg_step.specs.LossLaws.{LosingFrameWorld, way_is_drained, is_notice}
 use Rattle.pg_step.specs.State.{State}
 use Rattle.pg_step.specs.Step.{Action, Issue, Retry, TimedTurn, node_acts, node_takes, step_act, timed as node_turn}
 use Rattle.pg_step.specs.StepLaws.{port_of, refusal_of}
@@ -183,7 +183,7 @@ module _ (config : Config) (u v : LosingFrameWorld) where
         let lost : u.gone p ≡ true = left_lost (u.gone p) (map (λ x. x.packet) t.rest) (left.ways p i)
         (subst (λ xs. Left (u.gone p) xs (left.ways p i)) (ap (map (λ (x : Stamped (Noticed Message)). x.packet)) t.first ∙ ap (λ y. y ∷ map (λ (x : Stamped (Noticed Message)). x.packet) t.rest) (is_last t.packet.packet last)) cut) in
         record {
-          allowed = (seen_exactly config u i p).1 (lost, ap is_drained t.first ∙ last, ap is_some h);
+          allowed = (seen_exactly config u i p).1 (lost, ap way_is_drained t.first ∙ last, ap is_some h);
           busy = refl;
         }
       where

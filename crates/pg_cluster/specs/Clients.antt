@@ -26,12 +26,12 @@ pub record AllPairs {X Y : Type 0} (R : X → Y → Type 0) (xs : List X) (ys : 
   pub each : (i : ℕ) (x : X) (y : Y) → i < length ys → R (get_or xs i x) (get_or ys i y)
 
 -- a client and the port that it is the other end of, over which nothing went
-abbrev pub IsOpen : Client → Port → Type 0
-IsOpen client port = ArePort client port × AreNew client port
+abbrev pub IsOpenClient : Client → Port → Type 0
+IsOpenClient client port = ArePort client port × AreNew client port
 
 -- to clients of so many ports there come those of these ports
 abbrev pub OpensMore : List Client → List Client → List Port → Type 0
-OpensMore old new ports = (before : List Port) → AllPairs IsOpen old before → AllPairs IsOpen new (before ++ ports)
+OpensMore old new ports = (before : List Port) → AllPairs IsOpenClient old before → AllPairs IsOpenClient new (before ++ ports)
 
 module _ {K : Type 0} where
   -- the ports of the nodes of these threads as they began, those of the first node first
@@ -70,7 +70,7 @@ abbrev pub commands_in : ℕ → List (ℕ × NodeEvent) → List Command
 commands_in place log = flat_map (λ entry. command_in place entry.1) log
 
 -- What the client at a port said and heard, of a node that came by these acts to this log and to these answers at the port.
-pub record Heard (place begun : ℕ) (acts : List Act) (log : List (ℕ × NodeEvent)) (answers : List Answer) (client : Client) : Type 0 where
+pub record ClientHeard (place begun : ℕ) (acts : List Act) (log : List (ℕ × NodeEvent)) (answers : List Answer) (client : Client) : Type 0 where
   -- the commands of the log are, in order, the first of those that it submitted
   pub taken : List Asked
   pub further : List Asked
@@ -90,7 +90,7 @@ pub record NodeHeard {K : Type 0} (begun : RunOf K) (ended : NodeOf) (log : List
   pub logged : log ≡ map entry_of acts
   pub count : length clients ≡ length (ports_at begun)
   pub each : (place : ℕ) (none : Client) → place < length clients
-      → Heard place (length (answers_of (held_by (node_in begun)) place)) acts log (answers_of (held_by ended) place) (get_or clients place none)
+      → ClientHeard place (length (answers_of (held_by (node_in begun)) place)) acts log (answers_of (held_by ended) place) (get_or clients place none)
 
 module _ {K : Type 0} where
   -- the same of the clients of all nodes, those of the first node first

@@ -13,8 +13,8 @@ abbrev pub NobodyLost : List Bool → Type 0
 NobodyLost lost = All (λ one. one ≡ false) lost
 
 -- nothing was told there
-abbrev pub IsSilent : SlotOut Notice → Type 0
-IsSilent teller = given teller ≡ []
+abbrev pub HasNoNotice : SlotOut Notice → Type 0
+HasNoNotice teller = given teller ≡ []
 
 -- there is room for a notice of each of 16 nodes
 abbrev pub IsRoomy : SlotOut Notice → Type 0
@@ -22,7 +22,7 @@ IsRoomy teller = slots_free teller ≡ 16
 
 -- the two ends of one ring, over which nothing went, with room for a notice of each node
 abbrev pub IsFresh : SlotOut Notice → SlotIn Notice → Type 0
-IsFresh teller inlet = AreSlots teller inlet × IsSilent teller × IsRoomy teller
+IsFresh teller inlet = AreSlots teller inlet × HasNoNotice teller × IsRoomy teller
 
 -- what came is, in order, the first of what was told there
 pub record Told (teller : SlotOut Notice) (inlet : SlotIn Notice) : Type 0 where
@@ -77,6 +77,6 @@ count_running (true ∷ lost) = count_running lost
 count_running (false ∷ lost) = count_running lost + 1
 
 -- At each node there is room for a notice of each node that was not lost.
-pub record HaveRoom (lost : List Bool) (tellers : List (SlotOut Notice)) : Type 0 where
+pub record HaveNoticeRoom (lost : List Bool) (tellers : List (SlotOut Notice)) : Type 0 where
   pub count : length tellers ≡ length lost
   pub room : (place : ℕ) (none : SlotOut Notice) → place < length tellers → count_running lost ≤ slots_free (get_or tellers place none)

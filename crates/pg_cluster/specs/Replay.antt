@@ -7,14 +7,14 @@ use Rattle.pg_frame_world.specs.FrameWorlds.{lost_of, view_of}
 use Rattle.pg_frame_world.specs.Losing.{ShowsLosing}
 use Rattle.pg_frame_world.specs.LosingRuns.{RanLosing, packets_past_losses}
 use Rattle.pg_frame_world.specs.Runs.{LosesNone, Ran, over_packets}
-use Rattle.pg_frame_world.specs.Worlds.{Shows}
+use Rattle.pg_frame_world.specs.Worlds.{ShowsWorld}
 use Rattle.pg_cluster.specs.declared.replay.Replay.{Replay}
 use Rattle.pg_cluster.specs.Schedule.{AreSteps, SeenStep, seen_step}
 
 -- A world made these steps, which have these numbers: of it the headline holds, or what survives losses.
 pub record HasMade (given : Config) (steps : List FrameStep) (replay : Replay) : Type 0 where
   pub unlost : LosesNone steps → lost_of replay.world ≡ []
-  pub ran : LosesNone steps → Ran over_packets given steps replay.numbers.items (λ config. Shows config (view_of replay.world))
+  pub ran : LosesNone steps → Ran over_packets given steps replay.numbers.items (λ config. ShowsWorld config (view_of replay.world))
   pub losing : RanLosing packets_past_losses given steps replay.numbers.items (λ config. ShowsLosing config (view_of replay.world) (lost_of replay.world))
 
 -- Behind steps that it had made it made some that are seen so.

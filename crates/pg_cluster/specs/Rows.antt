@@ -20,7 +20,7 @@ pub record Joins (x y : End) : Type 0 where
   pub got : (bytes_received x.inlet ≡ []) × (bytes_received y.inlet ≡ [])
 
 -- nodes i and j have one peer more each, and the others have what they had
-pub record Joined (xs ys : List Row) (i j : ℕ) : Type 0 where
+pub record AreJoined (xs ys : List Row) (i j : ℕ) : Type 0 where
   pub x : End
   pub y : End
   pub joins : Joins x y
@@ -29,8 +29,8 @@ pub record Joined (xs ys : List Row) (i j : ℕ) : Type 0 where
   pub other : (k : ℕ) (d : Row) → k ≢ i → k ≢ j → slice_index_or ys k d ≡ slice_index_or xs k d
 
 -- each ring from a node of these rows has room for so many bytes
-abbrev pub HaveRoom : ℕ → List Row → Type 0
-HaveRoom room rows = All (λ row. All (λ peer. bytes_room peer.link ≡ room) row.items) rows
+abbrev pub HaveRowRoom : ℕ → List Row → Type 0
+HaveRowRoom room rows = All (λ row. All (λ peer. bytes_room peer.link ≡ room) row.items) rows
 
 -- the two rings between nodes a and b, where a is before b
 pub record PairAt (xs : List Row) (a b : ℕ) (d : Row) : Type 0 where

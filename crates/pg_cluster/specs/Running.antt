@@ -48,7 +48,7 @@ abbrev pub polled_at : ℕ → Client → Running → List Answer
 polled_at place none running = polled (get_or (clients_in running) place none)
 
 -- nothing but what the clients said and heard is changed
-pub record Goes (a b : Running) : Type 0 where
+pub record RunningGoes (a b : Running) : Type 0 where
   pub same : SameClients (clients_in a) (clients_in b)
   pub cluster : b.cluster ≡ a.cluster
   pub config : b.config ≡ a.config

@@ -2,7 +2,7 @@
 
 ghost use Rattle.std.specs.Prelude.{◌≡◌, IfOk, IfErr, map, length};
 ghost use Rattle.pg_cluster.specs.Notices.{NobodyLost};
-ghost use Rattle.pg_cluster.specs.Room.{HasRoom};
+ghost use Rattle.pg_cluster.specs.Room.{HasClosingRoom};
 
 use crate::laws::{nodes_of_one_run_agree, survivors_of_one_run_agree};
 use crate::notices::{Teller, settle_notices};
@@ -203,7 +203,7 @@ pub(crate) fn stopped_of<K: Rng + Drop>(
     clients: Vec<Client>,
     lost: Vec<bool>,
 ) -> Stopped
-    requires room { HasRoom room (length rans.items) (length (ports_ended rans.items)) }
+    requires room { HasClosingRoom room (length rans.items) (length (ports_ended rans.items)) }
     requires joined { AreJoined (length rans.items) (rows_ended rans.items) }
     requires ports { AllPairs ArePort clients.items (ports_ended rans.items) }
     requires notices { AllPairs AreSlots tellers.items (notices_ended rans.items) }
@@ -235,7 +235,7 @@ pub(crate) fn stopped_of<K: Rng + Drop>(
 ///
 /// Cost: no memory.
 fn parts_of<K: Rng + Drop>(rans: Vec<NodeRan<K>>, room: Room) -> Room
-    requires { HasRoom room (length rans.items) (length (ports_ended rans.items)) }
+    requires { HasClosingRoom room (length rans.items) (length (ports_ended rans.items)) }
     ensures nodes { result.nodes.items ≡ map (λ ran. node_in ran.run) rans.items }
     ensures rows { map (λ v. v.items) result.rows.items ≡ rows_ended rans.items }
     ensures logs { map (λ v. v.items) result.logs.items ≡ map (λ ran. log_in ran.run) rans.items }
@@ -273,7 +273,7 @@ pub(crate) struct Room {
 
 impl Room {
     ghost use Rattle.std.specs.Prelude.{IfOk};
-    ghost use Rattle.pg_cluster.specs.Room.{HasRoom as IsRoomFor};
+    ghost use Rattle.pg_cluster.specs.Room.{HasClosingRoom as IsRoomFor};
 
     /// Room for so many nodes, with so many ports.
     ///

@@ -7,8 +7,8 @@ ghost use Rattle.pg_ring.specs.Slots.{AreSlots};
 ghost use Rattle.pg_cluster.specs.Clients.{AllPairs, ports_begun};
 ghost use Rattle.pg_cluster.specs.Ended.{AreWired};
 ghost use Rattle.pg_cluster.specs.Members.{lasts_in, losses_in, threads_in};
-ghost use Rattle.pg_cluster.specs.Notices.{HaveRoom, IsSilent as IsSilentTeller, NobodyLost as IsNobodyLost, SaysLost};
-ghost use Rattle.pg_cluster.specs.Room.{HasRoom};
+ghost use Rattle.pg_cluster.specs.Notices.{HaveNoticeRoom, HasNoNotice as IsSilentTeller, NobodyLost as IsNobodyLost, SaysLost};
+ghost use Rattle.pg_cluster.specs.Room.{HasClosingRoom};
 ghost use Rattle.pg_cluster.specs.Threads.{rows_begun, notices_begun};
 
 use crate::closed::{Closed, Room, Stopped, stopped_of};
@@ -46,10 +46,10 @@ pub struct Cluster<K: Rng + Drop> {
     alloc: Global,
     ghost lost_fit: { (vec_len lost ≡ 0) × (vec_len members ≤ vec_capacity lost) },
     ghost rans_fit: { (vec_len rans ≡ 0) × (vec_len members ≤ vec_capacity rans) },
-    ghost room_fits: { HasRoom room (vec_len members) (length (ports_begun (threads_in members.items))) },
+    ghost room_fits: { HasClosingRoom room (vec_len members) (length (ports_begun (threads_in members.items))) },
     ghost wired: { AreWired (length (threads_in members.items)) (rows_begun (threads_in members.items)) },
     ghost told: { AllPairs AreSlots tellers.items (notices_begun (threads_in members.items)) },
-    ghost roomy: { HaveRoom (losses_in members.items) tellers.items },
+    ghost roomy: { HaveNoticeRoom (losses_in members.items) tellers.items },
     ghost untold: { IsNobodyLost (losses_in members.items) → AllOf IsSilentTeller tellers.items },
     ghost says: { ∥ SaysLost (losses_in members.items) (lasts_in members.items) tellers.items ∥₁ },
 }
@@ -64,7 +64,7 @@ struct Kept<K: Rng + Drop> {
 
 impl<K: Rng + Drop> Kept<K> {
     ghost use Rattle.std.specs.Prelude.{vec_len, vec_capacity};
-    ghost use Rattle.pg_cluster.specs.Room.{HasRoom as IsRoomFor};
+    ghost use Rattle.pg_cluster.specs.Room.{HasClosingRoom as IsRoomFor};
 
     /// Room for so many nodes, with so many ports.
     ///

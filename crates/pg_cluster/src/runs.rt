@@ -2,7 +2,7 @@
 
 ghost use Rattle.std.specs.Prelude.{◌≡◌, IfOk, IfErr, [], length, map};
 ghost use Rattle.std.specs.List.{All as AllOf};
-ghost use Rattle.pg_cluster.specs.Clients.{AllPairs as Pairs, IsOpen as IsOpened, OpensMore};
+ghost use Rattle.pg_cluster.specs.Clients.{AllPairs as Pairs, IsOpenClient as IsOpened, OpensMore};
 ghost use Rattle.pg_run.specs.Notices.{IsUntold as IsUntoldAt};
 ghost use Rattle.pg_run.specs.Runs.{generator_of as generator_of_run};
 ghost use Rattle.pg_run.specs.Runs.{notices_at as notices_of_run, notices_of as told_of_run};
@@ -114,7 +114,7 @@ fn make_all<K: Rng + Drop>(
 impl<K: Rng + Drop> Made<K> {
     ghost use Rattle.std.specs.Prelude.{◌≡◌, ◌<◌, ◌++◌, ◌∷◌, [], IfOk, IfErr, OnOk, length, map, vec_capacity, vec_len};
     ghost use Rattle.std.specs.List.{All};
-    ghost use Rattle.pg_cluster.specs.Clients.{AllPairs, IsOpen, OpensMore};
+    ghost use Rattle.pg_cluster.specs.Clients.{AllPairs, IsOpenClient, OpensMore};
     ghost use Rattle.pg_cluster.specs.Fault.{IsShortage};
     ghost use Rattle.pg_ring.specs.Slots.{taken};
     ghost use Rattle.pg_run.specs.Notices.{IsUntold};
@@ -138,7 +138,7 @@ impl<K: Rng + Drop> Made<K> {
         ensures generators { OnOk result (map generator_of self.new.runs.items ≡ map generator_of self.old.runs.items ++ generator ∷ []) }
         ensures unlogged { OnOk result (All (λ run. log_in run ≡ []) self.old.runs.items → All (λ run. log_in run ≡ []) self.new.runs.items) }
         ensures untold { OnOk result (All (λ run. IsUntold (notices_of run)) self.old.runs.items → All (λ run. IsUntold (notices_of run)) self.new.runs.items) }
-        ensures clients { OnOk result (AllPairs IsOpen self.old.clients.items (ports_of_runs self.old.runs.items) → AllPairs IsOpen self.new.clients.items (ports_of_runs self.new.runs.items)) }
+        ensures clients { OnOk result (AllPairs IsOpenClient self.old.clients.items (ports_of_runs self.old.runs.items) → AllPairs IsOpenClient self.new.clients.items (ports_of_runs self.new.runs.items)) }
         ensures notices { OnOk result (AllPairs IsFresh self.old.tellers.items (map notices_at self.old.runs.items) → AllPairs IsFresh self.new.tellers.items (map notices_at self.new.runs.items)) }
         ensures fault { IfErr result IsShortage }
     {

@@ -1,7 +1,7 @@
 //! The rings between the nodes.
 
 ghost use Rattle.std.specs.Prelude.{◌≡◌, ◌<◌, IfOk, OnOk, vec_len};
-ghost use Rattle.pg_cluster.specs.Rows.{HaveRoom, Joined, RowsWired};
+ghost use Rattle.pg_cluster.specs.Rows.{HaveRowRoom, AreJoined, RowsWired};
 
 use pg_ring::{RingFault, RingIn, RingOut, ring_pair};
 use pg_run::Peer;
@@ -20,8 +20,8 @@ fn connect(
 ) -> Result<(), RingFault>
     requires { (i < j) × (j < vec_len rows.old) }
     ensures len { vec_len rows.new ≡ vec_len rows.old }
-    ensures joined { OnOk result (Joined rows.old.items rows.new.items i j) }
-    ensures room { OnOk result (HaveRoom ring rows.old.items → HaveRoom ring rows.new.items) }
+    ensures joined { OnOk result (AreJoined rows.old.items rows.new.items i j) }
+    ensures room { OnOk result (HaveRowRoom ring rows.old.items → HaveRowRoom ring rows.new.items) }
 {
     let (to_j, at_j) = ring_pair(alloc, ring)?;
     let (to_i, at_i) = ring_pair(alloc, ring)?;
@@ -45,7 +45,7 @@ fn connect(
 /// Errors: those of `ring_pair`.
 pub(crate) fn wire_all(alloc: Global, nodes: usize, ring: usize) -> Result<Vec<Row>, RingFault>
     ensures wired { IfOk result (λ rows. RowsWired nodes rows.items) }
-    ensures room { IfOk result (λ rows. HaveRoom ring rows.items) }
+    ensures room { IfOk result (λ rows. HaveRowRoom ring rows.items) }
 {
     let mut rows = Vec::with_capacity(alloc, nodes)?;
     for _ in 0..nodes {

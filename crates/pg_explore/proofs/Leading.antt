@@ -14,9 +14,9 @@ use Rattle.pg_explore.specs.declared.moves.Move.{Move}
 use Rattle.pg_explore.specs.declared.plan.Plan.{Plan}
 use Rattle.pg_explore.specs.declared.visitor.Led.{Led}
 use Rattle.pg_explore.specs.Explorations.{AreFollowedAt, Grows, IsFollowed, IsOpenAt, LeadsFrom, sight_in}
-use Rattle.pg_explore.specs.Listings.{IsOpen}
+use Rattle.pg_explore.specs.Listings.{IsOpenMove}
 use Rattle.pg_explore.specs.Moments.{Sight}
-use Rattle.pg_explore.specs.Moves.{Leads, Stays}
+use Rattle.pg_explore.specs.Moves.{MoveLeads, Stays}
 use Rattle.pg_explore.specs.Ways.{AreLed, AreLedAt, AreLentWays, AreWays, Arrives, IsAmong}
 use Rattle.pg_explore.specs.Ways.{IsArrived, IsLentWays, LeadsTo, LeadsToAt, StaysAt}
 use Rattle.pg_explore.proofs.Expanding.{LedBelow}
@@ -47,7 +47,7 @@ leads_to_at_on plans old new place step reached grows inside h = λ met at.
 leads_from_on : (plans : List Plan) (old new : List Met) (place : ℕ) (step : Move) (sight : Sight) → Grows old new → place < length old → LeadsFrom plans old place step sight → LeadsFrom plans new place step sight
 leads_from_on plans old new place step sight grows inside h = λ met at.
     let was = inside_some old place inside in
-    subst (λ (m : Met). Leads plans (sight_in m) step sight) (same_at old new place was.0 met grows was.1 at) (h was.0 was.1)
+    subst (λ (m : Met). MoveLeads plans (sight_in m) step sight) (same_at old new place was.0 met grows was.1 at) (h was.0 was.1)
 
 -- ---- where a step leads
 
@@ -107,9 +107,9 @@ led_all plans most old new place moves count led grows inside past listed h = λ
       lead = λ way among.
           let l = h.lead way among in
           let o = (listed way.step).0 l.0 in
-          (subst (λ (m : Met). IsOpen plans most (sight_in m) way.step) (some_is o.0 was.0 (sym o.1 ∙ was.1) ∙ same) o.2, l.1 met at);
+          (subst (λ (m : Met). IsOpenMove plans most (sight_in m) way.step) (some_is o.0 was.0 (sym o.1 ∙ was.1) ∙ same) o.2, l.1 met at);
       all = λ step can.
-          let among = (listed step).1 (was.0, was.1, subst (λ (m : Met). IsOpen plans most (sight_in m) step) (sym same) can) in
+          let among = (listed step).1 (was.0, was.1, subst (λ (m : Met). IsOpenMove plans most (sight_in m) step) (sym same) can) in
           elim (h.all among.0 step (omega (arith, past, among.1)) (slice_get_read moves _ among.0 step refl among.1 (sym among.2))) as (λ _. Stays plans (sight_in met) step ⊎ IsAmong led step) [
             | inl s ↦ inl (s met at)
             | inr a ↦ inr a

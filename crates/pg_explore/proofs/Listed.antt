@@ -6,8 +6,8 @@ use Rattle.std.specs.List.{Contains}
 use Rattle.pg_explore.specs.declared.moves.Move.{Move}
 use Rattle.pg_explore.specs.declared.moves.Move.TheVariants.{Take, Next, Loss, Retry, SeeLoss}
 use Rattle.pg_explore.specs.declared.plan.Plan.{Plan}
-use Rattle.pg_explore.specs.Listings.{Adds, AddsOpen, IsAt, IsListed, IsOfPeer, IsOfPeers}
-use Rattle.pg_explore.specs.Listings.{IsOfPeersBelow, IsOpen, IsPlannedOf, IsRetryOf, IsThere, node_of}
+use Rattle.pg_explore.specs.Listings.{Adds, AddsOpen, IsAt, IsListed, IsMoveOfPeer, IsOfPeers}
+use Rattle.pg_explore.specs.Listings.{IsOfPeersBelow, IsOpenMove, IsPlannedOf, IsRetryOf, IsThere, node_of}
 use Rattle.pg_explore.specs.Moments.{Sight}
 
 -- ---- lists
@@ -66,13 +66,13 @@ module _ (plans : List Plan) (most : ℕ) (sight : Sight) where
   -- of peers and what is planned, and of commands that are tried again
   pub kinds : (i : ℕ) (old a b c : List Move) → AddsOpen plans most sight (IsOfPeers i) old a → AddsOpen plans most sight (IsPlannedOf i) a b → AddsOpen plans most sight (IsRetryOf i) b c
       → AddsOpen plans most sight (IsAt i) old c
-  kinds i old a b c x y z = adds_both (λ s. IsOpen plans most sight s × (IsOfPeers i s ⊎ IsPlannedOf i s)) _ _ old b c cases left (λ s q. (q.0, retry_at s q.1)) (adds_both _ _ _ old a b both (λ s p. (p.0, inl p.1)) (λ s q. (q.0, inr q.1)) x y) z
+  kinds i old a b c x y z = adds_both (λ s. IsOpenMove plans most sight s × (IsOfPeers i s ⊎ IsPlannedOf i s)) _ _ old b c cases left (λ s q. (q.0, retry_at s q.1)) (adds_both _ _ _ old a b both (λ s p. (p.0, inl p.1)) (λ s q. (q.0, inr q.1)) x y) z
     where
-      both : (s : Move) → IsOpen plans most sight s × (IsOfPeers i s ⊎ IsPlannedOf i s) → (IsOpen plans most sight s × IsOfPeers i s) ⊎ (IsOpen plans most sight s × IsPlannedOf i s)
+      both : (s : Move) → IsOpenMove plans most sight s × (IsOfPeers i s ⊎ IsPlannedOf i s) → (IsOpenMove plans most sight s × IsOfPeers i s) ⊎ (IsOpenMove plans most sight s × IsPlannedOf i s)
       both s (o, inl h) = inl (o, h)
       both s (o, inr h) = inr (o, h)
 
-      cases : (s : Move) → IsOpen plans most sight s × IsAt i s → (IsOpen plans most sight s × (IsOfPeers i s ⊎ IsPlannedOf i s)) ⊎ (IsOpen plans most sight s × IsRetryOf i s)
+      cases : (s : Move) → IsOpenMove plans most sight s × IsAt i s → (IsOpenMove plans most sight s × (IsOfPeers i s ⊎ IsPlannedOf i s)) ⊎ (IsOpenMove plans most sight s × IsRetryOf i s)
       cases (Take j q) w = inl (w.0, inl w.1)
       cases (Next j) w = inl (w.0, inr w.1)
       cases (Loss j keep) w = inl (w.0, inr w.1)
@@ -91,7 +91,7 @@ module _ (plans : List Plan) (most : ℕ) (sight : Sight) where
       either_at (SeeLoss j q) (inl h) = h
       either_at (SeeLoss j q) (inr h) = absurd h
 
-      left : (s : Move) → IsOpen plans most sight s × (IsOfPeers i s ⊎ IsPlannedOf i s) → IsOpen plans most sight s × IsAt i s
+      left : (s : Move) → IsOpenMove plans most sight s × (IsOfPeers i s ⊎ IsPlannedOf i s) → IsOpenMove plans most sight s × IsAt i s
       left s w = (w.0, either_at s w.1)
 
       retry_at : (s : Move) → IsRetryOf i s → IsAt i s
@@ -102,7 +102,7 @@ module _ (plans : List Plan) (most : ℕ) (sight : Sight) where
       retry_at (SeeLoss j q) h = absurd h
 
   -- whose step it is that can be made
-  pub there : (s : Move) → IsOpen plans most sight s → IsThere sight (node_of s)
+  pub there : (s : Move) → IsOpenMove plans most sight s → IsThere sight (node_of s)
   there (Take i p) h = h.0
   there (Next i) h = h.0
   there (Loss i keep) h = h.0
@@ -111,7 +111,7 @@ module _ (plans : List Plan) (most : ℕ) (sight : Sight) where
 
   -- those of the nodes below a place
   abbrev pub IsBelow : ℕ → Move → Type 0
-  IsBelow count s = IsOpen plans most sight s × (node_of s < count)
+  IsBelow count s = IsOpenMove plans most sight s × (node_of s < count)
 
   low_or_same : (n i : ℕ) → n < i + 1 → (n < i) ⊎ (n ≡ i)
   low_or_same n i l = search arith
@@ -120,11 +120,11 @@ module _ (plans : List Plan) (most : ℕ) (sight : Sight) where
   pub one_more : (i : ℕ) (a b : List Move) → Adds (IsBelow i) [] a → AddsOpen plans most sight (IsAt i) a b → Adds (IsBelow (i + 1)) [] b
   one_more i a b x y = adds_both _ _ _ [] a b cases (λ s p. (p.0, omega (arith, p.1))) (λ s q. (q.0, omega (arith, q.1))) x y
     where
-      pick : (s : Move) → IsOpen plans most sight s → (node_of s < i) ⊎ (node_of s ≡ i) → IsBelow i s ⊎ (IsOpen plans most sight s × IsAt i s)
+      pick : (s : Move) → IsOpenMove plans most sight s → (node_of s < i) ⊎ (node_of s ≡ i) → IsBelow i s ⊎ (IsOpenMove plans most sight s × IsAt i s)
       pick s o (inl l) = inl (o, l)
       pick s o (inr e) = inr (o, e)
 
-      cases : (s : Move) → IsBelow (i + 1) s → IsBelow i s ⊎ (IsOpen plans most sight s × IsAt i s)
+      cases : (s : Move) → IsBelow (i + 1) s → IsBelow i s ⊎ (IsOpenMove plans most sight s × IsAt i s)
       cases s w = pick s w.0 (low_or_same (node_of s) i w.1)
 
   -- a node more that is lost
@@ -135,19 +135,19 @@ module _ (plans : List Plan) (most : ℕ) (sight : Sight) where
   pub all_listed : (count : ℕ) (moves : List Move) → length sight.progress ≤ count → Adds (IsBelow count) [] moves → IsListed plans most sight moves
   all_listed count moves many x = λ s. (back s, λ o. x.all s (o, omega (arith, many, (there s o).place)))
     where
-      pick : (s : Move) → Contains [] s ⊎ IsBelow count s → IsOpen plans most sight s
+      pick : (s : Move) → Contains [] s ⊎ IsBelow count s → IsOpenMove plans most sight s
       pick s (inl h) = absurd (none_in s h)
       pick s (inr w) = w.0
 
-      back : (s : Move) → Contains moves s → IsOpen plans most sight s
+      back : (s : Move) → Contains moves s → IsOpenMove plans most sight s
       back s h = pick s (x.only s h)
 
   -- ---- peers
 
   abbrev pub IsOfBelow : ℕ → ℕ → Move → Type 0
-  IsOfBelow i count s = IsOpen plans most sight s × IsOfPeersBelow i count s
+  IsOfBelow i count s = IsOpenMove plans most sight s × IsOfPeersBelow i count s
 
-  below_cases : (i p : ℕ) (s : Move) → IsOfPeersBelow i (p + 1) s → IsOfPeersBelow i p s ⊎ IsOfPeer i p s
+  below_cases : (i p : ℕ) (s : Move) → IsOfPeersBelow i (p + 1) s → IsOfPeersBelow i p s ⊎ IsMoveOfPeer i p s
   below_cases i p (Take j q) h = go (low_or_same q p h.1)
     where
       go : (q < p) ⊎ (q ≡ p) → ((j ≡ i) × (q < p)) ⊎ ((j ≡ i) × (q ≡ p))
@@ -169,7 +169,7 @@ module _ (plans : List Plan) (most : ℕ) (sight : Sight) where
   below_on i p (Loss j keep) h = absurd h
   below_on i p (Retry j op) h = absurd h
 
-  below_at : (i p : ℕ) (s : Move) → IsOfPeer i p s → IsOfPeersBelow i (p + 1) s
+  below_at : (i p : ℕ) (s : Move) → IsMoveOfPeer i p s → IsOfPeersBelow i (p + 1) s
   below_at i p (Take j q) h = (h.0, omega (arith, h.1))
   below_at i p (SeeLoss j q) h = (h.0, omega (arith, h.1))
   below_at i p (Next j) h = absurd h
@@ -186,12 +186,12 @@ module _ (plans : List Plan) (most : ℕ) (sight : Sight) where
       none (Loss j keep) h = h
       none (Retry j op) h = h
 
-  pub one_peer : (i p : ℕ) (old a b : List Move) → Adds (IsOfBelow i p) old a → AddsOpen plans most sight (IsOfPeer i p) a b → Adds (IsOfBelow i (p + 1)) old b
+  pub one_peer : (i p : ℕ) (old a b : List Move) → Adds (IsOfBelow i p) old a → AddsOpen plans most sight (IsMoveOfPeer i p) a b → Adds (IsOfBelow i (p + 1)) old b
   one_peer i p old a b x y = adds_both _ _ _ old a b cases (λ s w. (w.0, below_on i p s w.1)) (λ s w. (w.0, below_at i p s w.1)) x y
     where
-      pick : (s : Move) → IsOpen plans most sight s → IsOfPeersBelow i p s ⊎ IsOfPeer i p s → IsOfBelow i p s ⊎ (IsOpen plans most sight s × IsOfPeer i p s)
+      pick : (s : Move) → IsOpenMove plans most sight s → IsOfPeersBelow i p s ⊎ IsMoveOfPeer i p s → IsOfBelow i p s ⊎ (IsOpenMove plans most sight s × IsMoveOfPeer i p s)
       pick s o (inl h) = inl (o, h)
       pick s o (inr h) = inr (o, h)
 
-      cases : (s : Move) → IsOfBelow i (p + 1) s → IsOfBelow i p s ⊎ (IsOpen plans most sight s × IsOfPeer i p s)
+      cases : (s : Move) → IsOfBelow i (p + 1) s → IsOfBelow i p s ⊎ (IsOpenMove plans most sight s × IsMoveOfPeer i p s)
       cases s w = pick s w.0 (below_cases i p s w.1)

@@ -22,8 +22,8 @@ use Rattle.pg_explore.specs.declared.plan.Planned.{Planned}
 use Rattle.pg_explore.specs.declared.plan.Planned.TheVariants as planned
 use Rattle.pg_frame_world.specs.declared.step.FrameStep.{FrameStep}
 use Rattle.pg_explore.specs.Keeping.{AreUpTo}
-use Rattle.pg_explore.specs.Listings.{Adds, AddsOpen, IsLossOf, IsOfPeer, IsOfPeers, IsOfPeersBelow}
-use Rattle.pg_explore.specs.Listings.{IsOpen, IsPlannedOf, IsRetryOf, IsThere, MayRetry, waits_at}
+use Rattle.pg_explore.specs.Listings.{Adds, AddsOpen, IsLossOf, IsMoveOfPeer, IsOfPeers, IsOfPeersBelow}
+use Rattle.pg_explore.specs.Listings.{IsOpenMove, IsPlannedOf, IsRetryOf, IsThere, MayRetry, sight_waits_at}
 use Rattle.pg_explore.specs.Moments.{Progress, Sight}
 use Rattle.pg_explore.specs.Moves.{planned_next}
 use Rattle.pg_explore.proofs.Lengthening.{can_stay, stays_up_to}
@@ -32,11 +32,11 @@ use Rattle.pg_explore.proofs.Sized.{no_pair, pair_is}
 
 module _ (plans : List Plan) (most : ℕ) (sight : Sight) where
   abbrev Of : ℕ → ℕ → Move → Type 0
-  Of i p s = IsOpen plans most sight s × IsOfPeer i p s
+  Of i p s = IsOpenMove plans most sight s × IsMoveOfPeer i p s
 
   -- the packet of a peer
   pub take_open : (i p : ℕ) (old : List Move) → IsThere sight i → is_pair (length sight.progress) p i ≡ true → on_the_way sight.view.traffic p i ≢ []
-      → AddsOpen plans most sight (IsOfPeer i p) old (old ++ Take i p ∷ [])
+      → AddsOpen plans most sight (IsMoveOfPeer i p) old (old ++ Take i p ∷ [])
   take_open i p old there pair some = adds_one (Of i p) old (Take i p) ((there, pair, some), (refl, refl)) same
     where
       same : (s : Move) → Of i p s → s ≡ Take i p
@@ -48,7 +48,7 @@ module _ (plans : List Plan) (most : ℕ) (sight : Sight) where
 
   -- the loss of a peer
   pub sight_open : (i p : ℕ) (old : List Move) → IsThere sight i → is_pair (length sight.progress) p i ≡ true → on_the_way sight.view.traffic p i ≡ [] → is_lost sight.lost p ≡ true
-      → seen_at sight.view.traffic.nodes i p ≡ false → AddsOpen plans most sight (IsOfPeer i p) old (old ++ SeeLoss i p ∷ [])
+      → seen_at sight.view.traffic.nodes i p ≡ false → AddsOpen plans most sight (IsMoveOfPeer i p) old (old ++ SeeLoss i p ∷ [])
   sight_open i p old there pair none lost unseen = adds_one (Of i p) old (SeeLoss i p) ((there, pair, none, lost, unseen), (refl, refl)) same
     where
       same : (s : Move) → Of i p s → s ≡ SeeLoss i p
@@ -60,7 +60,7 @@ module _ (plans : List Plan) (most : ℕ) (sight : Sight) where
 
   -- neither
   pub none_open : (i p : ℕ) (old : List Move) → (on_the_way sight.view.traffic p i ≢ [] → ⊥) → (is_lost sight.lost p ≡ true → seen_at sight.view.traffic.nodes i p ≡ false → ⊥)
-      → AddsOpen plans most sight (IsOfPeer i p) old old
+      → AddsOpen plans most sight (IsMoveOfPeer i p) old old
   none_open i p old empty unseen = adds_none (Of i p) old none
     where
       none : (s : Move) → Of i p s → ⊥
@@ -71,7 +71,7 @@ module _ (plans : List Plan) (most : ℕ) (sight : Sight) where
       none (Retry j op) w = w.1
 
   -- a node is no peer of itself
-  pub no_peer_itself : (i : ℕ) (old : List Move) → AddsOpen plans most sight (IsOfPeer i i) old old
+  pub no_peer_itself : (i : ℕ) (old : List Move) → AddsOpen plans most sight (IsMoveOfPeer i i) old old
   no_peer_itself i old = adds_none (Of i i) old none
     where
       none : (s : Move) → Of i i s → ⊥
@@ -85,14 +85,14 @@ module _ (plans : List Plan) (most : ℕ) (sight : Sight) where
   pub all_peers : (i count : ℕ) (old new : List Move) → length sight.progress ≤ count → Adds (IsOfBelow plans most sight i count) old new → AddsOpen plans most sight (IsOfPeers i) old new
   all_peers i count old new many x = adds_same _ _ old new to from x
     where
-      to : (s : Move) → IsOpen plans most sight s × IsOfPeers i s → IsOfBelow plans most sight i count s
+      to : (s : Move) → IsOpenMove plans most sight s × IsOfPeers i s → IsOfBelow plans most sight i count s
       to (Take j q) w = let l = (pair_is (length sight.progress) q j w.0.1).0 in (w.0, (w.1, omega (arith, l, many)))
       to (SeeLoss j q) w = let l = (pair_is (length sight.progress) q j w.0.1).0 in (w.0, (w.1, omega (arith, l, many)))
       to (Next j) w = absurd w.1
       to (Loss j keep) w = absurd w.1
       to (Retry j op) w = absurd w.1
 
-      from : (s : Move) → IsOfBelow plans most sight i count s → IsOpen plans most sight s × IsOfPeers i s
+      from : (s : Move) → IsOfBelow plans most sight i count s → IsOpenMove plans most sight s × IsOfPeers i s
       from (Take j q) w = (w.0, w.1.0)
       from (SeeLoss j q) w = (w.0, w.1.0)
       from (Next j) w = absurd w.1
@@ -102,7 +102,7 @@ module _ (plans : List Plan) (most : ℕ) (sight : Sight) where
   -- ---- what is planned
 
   abbrev Is : ℕ → Move → Type 0
-  Is i s = IsOpen plans most sight s × IsPlannedOf i s
+  Is i s = IsOpenMove plans most sight s × IsPlannedOf i s
 
   not_both : (step : FrameStep) (next : Option Planned) → next ≡ Some (planned.Step step) → next ≡ Some planned.Loss → ⊥
   not_both step next e f = let bad = sym e ∙ f in absurd (cc)
@@ -203,19 +203,19 @@ module _ (plans : List Plan) (most : ℕ) (sight : Sight) where
       to (Take j q) w = absurd w
       to (SeeLoss j q) w = absurd w
 
-  pub all_retries : (i : ℕ) (ops : List OpId) (old new : List Move) → IsThere sight i → ((op : OpId) → Contains ops op ↔ (waits_at sight.view.traffic.nodes i op ≡ true)) → Adds (IsRetryIn i ops) old new
+  pub all_retries : (i : ℕ) (ops : List OpId) (old new : List Move) → IsThere sight i → ((op : OpId) → Contains ops op ↔ (sight_waits_at sight.view.traffic.nodes i op ≡ true)) → Adds (IsRetryIn i ops) old new
       → AddsOpen plans most sight (IsRetryOf i) old new
   all_retries i ops old new there waits x = adds_same _ _ old new to from x
     where
-      to : (s : Move) → IsOpen plans most sight s × IsRetryOf i s → IsRetryIn i ops s
-      to (Retry j op) w = (w.1, (waits op).1 (ap (λ n. waits_at sight.view.traffic.nodes n op) (sym w.1) ∙ w.0.1), subst (λ n. MayRetry most sight.progress n op.number) w.1 w.0.2)
+      to : (s : Move) → IsOpenMove plans most sight s × IsRetryOf i s → IsRetryIn i ops s
+      to (Retry j op) w = (w.1, (waits op).1 (ap (λ n. sight_waits_at sight.view.traffic.nodes n op) (sym w.1) ∙ w.0.1), subst (λ n. MayRetry most sight.progress n op.number) w.1 w.0.2)
       to (Next j) w = absurd w.1
       to (Loss j keep) w = absurd w.1
       to (Take j q) w = absurd w.1
       to (SeeLoss j q) w = absurd w.1
 
-      from : (s : Move) → IsRetryIn i ops s → IsOpen plans most sight s × IsRetryOf i s
-      from (Retry j op) w = ((subst (IsThere sight) (sym w.0) there, ap (λ n. waits_at sight.view.traffic.nodes n op) w.0 ∙ (waits op).0 w.1, subst (λ n. MayRetry most sight.progress n op.number) (sym w.0) w.2), w.0)
+      from : (s : Move) → IsRetryIn i ops s → IsOpenMove plans most sight s × IsRetryOf i s
+      from (Retry j op) w = ((subst (IsThere sight) (sym w.0) there, ap (λ n. sight_waits_at sight.view.traffic.nodes n op) w.0 ∙ (waits op).0 w.1, subst (λ n. MayRetry most sight.progress n op.number) (sym w.0) w.2), w.0)
       from (Next j) w = absurd w
       from (Loss j keep) w = absurd w
       from (Take j q) w = absurd w

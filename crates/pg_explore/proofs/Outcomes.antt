@@ -8,15 +8,15 @@ use Rattle.pg_node_state.specs.declared.state.fault.NodeFault.TheVariants as fau
 use Rattle.pg_frame_world.specs.declared.step.Stepped.{Stepped}
 use Rattle.pg_frame_world.specs.declared.step.Stepped.TheVariants.{Nothing, Moved, Happened, Gone}
 use Rattle.pg_frame_world.specs.Losing.{Telling, LosingComesTo}
-use Rattle.pg_explore.specs.Moves.{Came, IsOutcome}
+use Rattle.pg_explore.specs.Moves.{MoveCame, IsOutcome}
 
 -- what is told of a step came, or not, by whether it happened
 pub came : (config : Config) (u : LosingFrameWorld) (telling : Telling) (stepped : Result Stepped NodeFault) (Shown : LosingFrameWorld → Type 0) (b : Bool)
-    → LosingComesTo config u telling stepped Shown → IsOutcome stepped b → Came config u (Some telling) b Shown
-came config u telling (Ok Nothing) Shown b h o = subst (λ b. Came config u (Some telling) b Shown) (sym o) (inl h.0)
+    → LosingComesTo config u telling stepped Shown → IsOutcome stepped b → MoveCame config u (Some telling) b Shown
+came config u telling (Ok Nothing) Shown b h o = subst (λ b. MoveCame config u (Some telling) b Shown) (sym o) (inl h.0)
 came config u telling (Ok (Moved n)) Shown b h o = absurd h
-came config u telling (Ok (Happened effect)) Shown b (loss, busy, did, led) o = subst (λ b. Came config u (Some telling) b Shown) (sym o) (busy, led)
-came config u telling (Ok Gone) Shown b h o = subst (λ b. Came config u (Some telling) b Shown) (sym o) (h.1, h.2)
+came config u telling (Ok (Happened effect)) Shown b (loss, busy, did, led) o = subst (λ b. MoveCame config u (Some telling) b Shown) (sym o) (busy, led)
+came config u telling (Ok Gone) Shown b h o = subst (λ b. MoveCame config u (Some telling) b Shown) (sym o) (h.1, h.2)
 came config u telling (Err faults.OutOfMemory) Shown b h o = absurd o
-came config u telling (Err (faults.Refused refusal)) Shown b h o = subst (λ b. Came config u (Some telling) b Shown) (sym o) (inr (refusal, h.0))
+came config u telling (Err (faults.Refused refusal)) Shown b h o = subst (λ b. MoveCame config u (Some telling) b Shown) (sym o) (inr (refusal, h.0))
 came config u telling (Err fault) Shown b h o = absurd h

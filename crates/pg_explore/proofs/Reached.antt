@@ -19,7 +19,7 @@ use Rattle.pg_explore.specs.Bins.{spots_of}
 use Rattle.pg_explore.specs.Explorations.{AreFollowed, AreFollowedAt, AreKept, Grows}
 use Rattle.pg_explore.specs.Explorations.{IsAlikeAt, IsFollowed, IsOpenAt, sight_in}
 use Rattle.pg_explore.specs.Lent.{AreLent, IsLent}
-use Rattle.pg_explore.specs.Listings.{IsOpen}
+use Rattle.pg_explore.specs.Listings.{IsOpenMove}
 use Rattle.pg_explore.specs.Moments.{IsOf, Sight}
 use Rattle.pg_explore.specs.Numbers.{number_in}
 use Rattle.pg_explore.proofs.Alike.{same_number}
@@ -73,12 +73,12 @@ followed_still plans most old new count grows many h = λ place met step inside 
     let was = inside_some old place (omega (arith, inside, many)) in
     let same : was.0 ≡ met = some_is was.0 met (sym (grows place was.0 was.1) ∙ at) in
     subst (λ m. IsFollowed plans new (sight_in m) step) same
-    (followed_on plans old new (sight_in was.0) step grows (h place was.0 step inside was.1 (subst (λ m. IsOpen plans most (sight_in m) step) (sym same) can)))
+    (followed_on plans old new (sight_in was.0) step grows (h place was.0 step inside was.1 (subst (λ m. IsOpenMove plans most (sight_in m) step) (sym same) can)))
 
 pub followed_more : (plans : List Plan) (most : ℕ) (mets : List Met) (count : ℕ) → AreFollowed plans most mets count → AreFollowedAt plans most mets count → AreFollowed plans most mets (count + 1)
 followed_more plans most mets count h here = λ place met step inside at can. go place met step at can (low_or_same place count inside)
   where
-    go : (place : ℕ) (met : Met) (step : Move) → slice_get mets place ≡ Some met → IsOpen plans most (sight_in met) step → (place < count) ⊎ (place ≡ count) → IsFollowed plans mets (sight_in met) step
+    go : (place : ℕ) (met : Met) (step : Move) → slice_get mets place ≡ Some met → IsOpenMove plans most (sight_in met) step → (place < count) ⊎ (place ≡ count) → IsFollowed plans mets (sight_in met) step
     go place met step at can (inl l) = h place met step l at can
     go place met step at can (inr e) = here met step (ap (slice_get mets) (sym e) ∙ at) can
 

@@ -13,9 +13,9 @@ use Rattle.pg_explore.specs.Bins.{Keeps, spots_of}
 use Rattle.pg_explore.specs.Explorations.{AreApart, AreFollowed, AreKept, AreOf, AreReached}
 use Rattle.pg_explore.specs.Explorations.{Grows, IsAlikeAt, IsFollowed, IsFound, IsKnown}
 use Rattle.pg_explore.specs.Explorations.{IsOpenAt, IsReached, IsSound, LeadsFrom, sight_in}
-use Rattle.pg_explore.specs.Listings.{IsOpen}
+use Rattle.pg_explore.specs.Listings.{IsOpenMove}
 use Rattle.pg_explore.specs.Moments.{AreAlike, IsFirst, IsOf, Sight}
-use Rattle.pg_explore.specs.Moves.{Leads}
+use Rattle.pg_explore.specs.Moves.{MoveLeads}
 use Rattle.pg_explore.specs.Numbers.{number_in}
 use Rattle.pg_explore.proofs.Alike.{alike_back}
 use Rattle.pg_explore.proofs.Getting.{get_left, get_last, get_push, some_same}

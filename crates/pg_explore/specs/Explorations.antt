@@ -9,10 +9,10 @@ use Rattle.pg_explore.specs.declared.explored.Met.{Met}
 use Rattle.pg_explore.specs.declared.moves.Move.{Move}
 use Rattle.pg_explore.specs.declared.plan.Plan.{Plan}
 use Rattle.pg_explore.specs.Bins.{spots_of}
-use Rattle.pg_explore.specs.Listings.{IsOpen}
+use Rattle.pg_explore.specs.Listings.{IsOpenMove}
 use Rattle.pg_explore.specs.Lent.{IsLent}
 use Rattle.pg_explore.specs.Moments.{AreAlike, IsFirst, IsOf, IsSized, Sight, sight_of}
-use Rattle.pg_explore.specs.Moves.{Leads, Stays}
+use Rattle.pg_explore.specs.Moves.{MoveLeads, Stays}
 use Rattle.pg_explore.specs.Numbers.{number_in}
 
 -- the moments that were met, in the order in which they were
@@ -28,7 +28,7 @@ sight_in met = sight_of met.moment
 abbrev pub IsReached : Config → List Plan → ℕ → List Met → ℕ → Sight → Option Before → Type 0
 IsReached config plans most mets place sight None = (place ≡ 0) × IsFirst config sight
 IsReached config plans most mets place sight (Some before) = (before.place < place) × ((old : Met) × (slice_get mets before.place ≡ Some old)
-    × IsOpen plans most (sight_in old) before.step × Leads plans (sight_in old) before.step sight)
+    × IsOpenMove plans most (sight_in old) before.step × MoveLeads plans (sight_in old) before.step sight)
 
 abbrev pub AreReached : Config → List Plan → ℕ → List Met → Type 0
 AreReached config plans most mets = (place : ℕ) (met : Met) → slice_get mets place ≡ Some met → IsReached config plans most mets place (sight_in met) met.before
@@ -47,12 +47,12 @@ IsKnown mets sight = (place : ℕ) × ((met : Met) × (slice_get mets place ≡ 
 
 -- a step does not happen at a moment, or what it leads to is known
 abbrev pub IsFollowed : List Plan → List Met → Sight → Move → Type 0
-IsFollowed plans mets sight step = Stays plans sight step ⊎ ((new : Sight) × Leads plans sight step new × IsKnown mets new)
+IsFollowed plans mets sight step = Stays plans sight step ⊎ ((new : Sight) × MoveLeads plans sight step new × IsKnown mets new)
 
 -- each step that can be made at one of the first moments, so many, is followed
 abbrev pub AreFollowed : List Plan → ℕ → List Met → ℕ → Type 0
 AreFollowed plans most mets count = (place : ℕ) (met : Met) (step : Move) → place < count → slice_get mets place ≡ Some met
-    → IsOpen plans most (sight_in met) step → IsFollowed plans mets (sight_in met) step
+    → IsOpenMove plans most (sight_in met) step → IsFollowed plans mets (sight_in met) step
 
 -- ---- how the code keeps it
 
@@ -72,8 +72,8 @@ pub record IsSound (config : Config) (plans : List Plan) (most : ℕ) (bins : Bi
   pub distinct : AreApart mets
   pub kept : AreKept bins mets
 
-abbrev pub Holds : Config → List Plan → ℕ → Explored → Type 0
-Holds config plans most explored = IsSound config plans most explored.bins explored.met.items
+abbrev pub ExploredHolds : Config → List Plan → ℕ → Explored → Type 0
+ExploredHolds config plans most explored = IsSound config plans most explored.bins explored.met.items
 
 -- more are met, and the others stand where they stood
 abbrev pub Grows : List Met → List Met → Type 0
@@ -96,11 +96,11 @@ AreSized mets = (place : ℕ) (met : Met) → slice_get mets place ≡ Some met 
 
 -- a step can be made at the moment of a place
 abbrev pub IsOpenAt : List Plan → ℕ → List Met → ℕ → Move → Type 0
-IsOpenAt plans most mets place step = (met : Met) × (slice_get mets place ≡ Some met) × IsOpen plans most (sight_in met) step
+IsOpenAt plans most mets place step = (met : Met) × (slice_get mets place ≡ Some met) × IsOpenMove plans most (sight_in met) step
 
 -- a step leads from the moment of a place
 abbrev pub LeadsFrom : List Plan → List Met → ℕ → Move → Sight → Type 0
-LeadsFrom plans mets place step new = (met : Met) → slice_get mets place ≡ Some met → Leads plans (sight_in met) step new
+LeadsFrom plans mets place step new = (met : Met) → slice_get mets place ≡ Some met → MoveLeads plans (sight_in met) step new
 
 -- a step of the moment of a place is followed
 abbrev pub IsFollowedAt : List Plan → List Met → ℕ → Move → Type 0
@@ -108,7 +108,7 @@ IsFollowedAt plans mets place step = (met : Met) → slice_get mets place ≡ So
 
 -- each that can be made there is
 abbrev pub AreFollowedAt : List Plan → ℕ → List Met → ℕ → Type 0
-AreFollowedAt plans most mets place = (met : Met) (step : Move) → slice_get mets place ≡ Some met → IsOpen plans most (sight_in met) step → IsFollowed plans mets (sight_in met) step
+AreFollowedAt plans most mets place = (met : Met) (step : Move) → slice_get mets place ≡ Some met → IsOpenMove plans most (sight_in met) step → IsFollowed plans mets (sight_in met) step
 
 -- one more was lent, or none
 abbrev pub Lends : Option (List Met) → Option (List Met) → ℕ → ℕ → List Met → Bool → Type 0

@@ -33,8 +33,8 @@ abbrev pub IsStep : Option Planned → Type 0
 IsStep next = (step : FrameStep) × (next ≡ Some (planned.Step step))
 
 -- a command of a node waits
-abbrev pub waits_at : List Seen → ℕ → OpId → Bool
-waits_at nodes i op = option_map_or (λ (node : Seen). waits (live_nodes (whole_in node.names) node.state.state) (node.state.state.stages op) node.state.state) (slice_get nodes i) false
+abbrev pub sight_waits_at : List Seen → ℕ → OpId → Bool
+sight_waits_at nodes i op = option_map_or (λ (node : Seen). waits (live_nodes (whole_in node.names) node.state.state) (node.state.state.stages op) node.state.state) (slice_get nodes i) false
 
 -- a command of this number came in at a node, and was tried again fewer times than this
 abbrev pub MayRetry : ℕ → List Progress → ℕ → ℕ → Type 0
@@ -42,21 +42,21 @@ MayRetry most progress i number = (strand : Progress) × (made : ℕ) × (slice_
 
 -- A step can be made: a packet of a peer is on the way; something is planned next; a node is lost as is planned, and of what is on the way
 -- from it so many packets can stay; a command waits and may be tried again; or the loss of a peer can be seen, of which nothing is on the way.
-abbrev pub IsOpen : List Plan → ℕ → Sight → Move → Type 0
-IsOpen plans most sight (Take i p) = IsThere sight i × (is_pair (length sight.progress) p i ≡ true) × (on_the_way sight.view.traffic p i ≢ [])
-IsOpen plans most sight (Next i) = IsThere sight i × IsStep (planned_next plans sight.progress i)
-IsOpen plans most sight (Loss i keep) = IsThere sight i × (planned_next plans sight.progress i ≡ Some planned.Loss) × CanStay keep (get_or sight.view.traffic.ways i [])
-IsOpen plans most sight (Retry i op) = IsThere sight i × (waits_at sight.view.traffic.nodes i op ≡ true) × MayRetry most sight.progress i op.number
-IsOpen plans most sight (SeeLoss i p) = IsThere sight i × (is_pair (length sight.progress) p i ≡ true) × (on_the_way sight.view.traffic p i ≡ [])
+abbrev pub IsOpenMove : List Plan → ℕ → Sight → Move → Type 0
+IsOpenMove plans most sight (Take i p) = IsThere sight i × (is_pair (length sight.progress) p i ≡ true) × (on_the_way sight.view.traffic p i ≢ [])
+IsOpenMove plans most sight (Next i) = IsThere sight i × IsStep (planned_next plans sight.progress i)
+IsOpenMove plans most sight (Loss i keep) = IsThere sight i × (planned_next plans sight.progress i ≡ Some planned.Loss) × CanStay keep (get_or sight.view.traffic.ways i [])
+IsOpenMove plans most sight (Retry i op) = IsThere sight i × (sight_waits_at sight.view.traffic.nodes i op ≡ true) × MayRetry most sight.progress i op.number
+IsOpenMove plans most sight (SeeLoss i p) = IsThere sight i × (is_pair (length sight.progress) p i ≡ true) × (on_the_way sight.view.traffic p i ≡ [])
     × (is_lost sight.lost p ≡ true) × (seen_at sight.view.traffic.nodes i p ≡ false)
 
 -- ---- which steps are those of a node
 
 -- one that takes of this peer, or sees its loss
-abbrev pub IsOfPeer : ℕ → ℕ → Move → Type 0
-IsOfPeer i p (Take j q) = (j ≡ i) × (q ≡ p)
-IsOfPeer i p (SeeLoss j q) = (j ≡ i) × (q ≡ p)
-IsOfPeer i p step = ⊥
+abbrev pub IsMoveOfPeer : ℕ → ℕ → Move → Type 0
+IsMoveOfPeer i p (Take j q) = (j ≡ i) × (q ≡ p)
+IsMoveOfPeer i p (SeeLoss j q) = (j ≡ i) × (q ≡ p)
+IsMoveOfPeer i p step = ⊥
 
 -- of a peer whose place is below this one
 abbrev pub IsOfPeersBelow : ℕ → ℕ → Move → Type 0
@@ -102,11 +102,11 @@ pub record Adds (Wanted : Move → Type 0) (old new : List Move) : Type 0 where
 
 -- those that can be made, and are of this kind
 abbrev pub AddsOpen : List Plan → ℕ → Sight → (Move → Type 0) → List Move → List Move → Type 0
-AddsOpen plans most sight IsKind old new = Adds (λ step. IsOpen plans most sight step × IsKind step) old new
+AddsOpen plans most sight IsKind old new = Adds (λ step. IsOpenMove plans most sight step × IsKind step) old new
 
 -- those steps that can be made, and no others
 abbrev pub IsListed : List Plan → ℕ → Sight → List Move → Type 0
-IsListed plans most sight moves = (step : Move) → Contains moves step ↔ IsOpen plans most sight step
+IsListed plans most sight moves = (step : Move) → Contains moves step ↔ IsOpenMove plans most sight step
 
 -- the losses of a node, of whose packets on the way so many stay as can
 abbrev pub IsLossOf : ℕ → List (List (Stamped Message)) → Move → Type 0

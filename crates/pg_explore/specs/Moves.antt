@@ -49,7 +49,7 @@ HasHappened config u None Shown = ⊥
 HasHappened config u (Some telling) Shown = (telling.is_idle ≡ false) × LosingLed config u telling.event Shown
 
 -- a step led from one moment to another: whatever world of the machine the one shows, its event happens there, and the other shows what it leaves
-pub record Leads (plans : List Plan) (old : Sight) (step : Move) (new : Sight) : Type 0 where
+pub record MoveLeads (plans : List Plan) (old : Sight) (step : Move) (new : Sight) : Type 0 where
   pub event : (config : Config) (u : LosingFrameWorld) → ShowsLosing config old.view old.lost u
       → HasHappened config u (told config u plans old.progress step) (ShowsLosing config new.view new.lost)
   pub progress : new.progress ≡ progress_after step old.progress
@@ -66,7 +66,7 @@ Stays plans sight step = (config : Config) (u : LosingFrameWorld) → ShowsLosin
 -- what came of a step
 abbrev pub ComesOf : List Plan → Sight → Move → Option Moment → Type 0
 ComesOf plans sight step None = Stays plans sight step
-ComesOf plans sight step (Some moment) = Leads plans sight step (sight_of moment)
+ComesOf plans sight step (Some moment) = MoveLeads plans sight step (sight_of moment)
 
 -- what comes of a step of a world that is seen so, with the plans so far
 abbrev pub ComesFrom : List Plan → View → List ℕ → List Progress → Move → Option Moment → Type 0
@@ -83,13 +83,13 @@ IsOutcome (Err OutOfMemory) b = ⊥
 IsOutcome (Err fault) b = b ≡ false
 
 -- it happened, and led to a world that is shown, or it is barred
-abbrev pub Came : Config → LosingFrameWorld → Option Telling → Bool → (LosingFrameWorld → Type 0) → Type 0
-Came config u telling true Shown = HasHappened config u telling Shown
-Came config u telling false Shown = IsBarred telling
+abbrev pub MoveCame : Config → LosingFrameWorld → Option Telling → Bool → (LosingFrameWorld → Type 0) → Type 0
+MoveCame config u telling true Shown = HasHappened config u telling Shown
+MoveCame config u telling false Shown = IsBarred telling
 
 -- What is told of a world came, or not; from a world that is seen so, to another that is.
 abbrev pub MakesTold : (Config → LosingFrameWorld → Option Telling) → View → List ℕ → View → List ℕ → Bool → Type 0
-MakesTold telling old lost new now b = (config : Config) (u : LosingFrameWorld) → ShowsLosing config old lost u → Came config u (telling config u) b (ShowsLosing config new now)
+MakesTold telling old lost new now b = (config : Config) (u : LosingFrameWorld) → ShowsLosing config old lost u → MoveCame config u (telling config u) b (ShowsLosing config new now)
 
 abbrev pub MakesStep : FrameStep → View → List ℕ → View → List ℕ → Bool → Type 0
 MakesStep step old lost new now b = MakesTold (λ config u. Some (told_of config u step)) old lost new now b

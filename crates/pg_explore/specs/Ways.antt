@@ -9,13 +9,13 @@ use Rattle.pg_explore.specs.declared.moves.Move.{Move}
 use Rattle.pg_explore.specs.declared.plan.Plan.{Plan}
 use Rattle.pg_explore.specs.declared.visitor.Led.{Led}
 use Rattle.pg_explore.specs.Explorations.{IsAlikeAt, sight_in}
-use Rattle.pg_explore.specs.Listings.{IsOpen}
+use Rattle.pg_explore.specs.Listings.{IsOpenMove}
 use Rattle.pg_explore.specs.Moments.{Sight}
-use Rattle.pg_explore.specs.Moves.{Leads, Stays}
+use Rattle.pg_explore.specs.Moves.{MoveLeads, Stays}
 
 -- a step leads to the moment of a place, but for clocks and stamps
 abbrev pub LeadsTo : List Plan → List Met → Sight → Move → ℕ → Type 0
-LeadsTo plans mets sight step place = (new : Sight) × Leads plans sight step new × IsAlikeAt mets place new
+LeadsTo plans mets sight step place = (new : Sight) × MoveLeads plans sight step new × IsAlikeAt mets place new
 
 -- a step is among them
 abbrev pub IsAmong : List Led → Move → Type 0
@@ -24,8 +24,8 @@ IsAmong led step = (way : Led) × Contains led way × (way.step ≡ step)
 -- The steps that happen at a moment, each with the place to which it leads: each can be made there and leads to its place, and a step
 -- that can be made and is not among them does not happen.
 pub record AreLed (plans : List Plan) (most : ℕ) (mets : List Met) (sight : Sight) (led : List Led) : Type 0 where
-  pub lead : (way : Led) → Contains led way → IsOpen plans most sight way.step × LeadsTo plans mets sight way.step way.place
-  pub all : (step : Move) → IsOpen plans most sight step → Stays plans sight step ⊎ IsAmong led step
+  pub lead : (way : Led) → Contains led way → IsOpenMove plans most sight way.step × LeadsTo plans mets sight way.step way.place
+  pub all : (step : Move) → IsOpenMove plans most sight step → Stays plans sight step ⊎ IsAmong led step
 
 -- those of the first moments, so many, by their places
 pub record AreWays (plans : List Plan) (most : ℕ) (mets : List Met) (count : ℕ) (all : List (List Led)) : Type 0 where

@@ -1,7 +1,7 @@
 //! The exploration.
 
 ghost use Rattle.std.specs.Prelude.{◌≡◌, ◌<◌, ◌≤◌, ◌+◌, IfOk, IfErr, OnOk, length, max, take};
-ghost use Rattle.pg_explore.specs.Explorations.{AreApart, AreFollowed, AreReached, Holds, met_of};
+ghost use Rattle.pg_explore.specs.Explorations.{AreApart, AreFollowed, AreReached, ExploredHolds, met_of};
 ghost use Rattle.pg_explore.specs.Faults.{CantExplore};
 ghost use Rattle.pg_explore.specs.Lent.{AreLent};
 ghost use Rattle.pg_explore.specs.Ways.{AreLentWays, AreWays};
@@ -69,10 +69,10 @@ fn lend_all<V: Visitor>(
     limits: Limits,
     visitor: &mut V,
 ) -> Result<(), AllocError>
-    requires holds { Holds config.now.starts.items plans.now limits.retries explored.old }
+    requires holds { ExploredHolds config.now.starts.items plans.now limits.retries explored.old }
     requires first { length (met_of explored.old) ≡ 1 }
     requires lent { explored.old.lent ≡ 0 }
-    ensures holds { Holds config.now.starts.items plans.now limits.retries explored.new }
+    ensures holds { ExploredHolds config.now.starts.items plans.now limits.retries explored.new }
     ensures first { 0 < length (met_of explored.new) }
     ensures few { length (met_of explored.new) ≤ max 1 limits.worlds }
     ensures followed { OnOk result (AreFollowed plans.now limits.retries (met_of explored.new) explored.new.lent) }

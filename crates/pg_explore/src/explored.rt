@@ -7,7 +7,7 @@ ghost use Rattle.std.specs.Option.{ForSome};
 ghost use Rattle.pg_explore.specs.declared.explored.Arrival.TheVariants.{Beyond};
 ghost use Rattle.pg_explore.specs.declared.moves.Move.{Move};
 ghost use Rattle.pg_explore.specs.Bins.{Keeps, spots_of};
-ghost use Rattle.pg_explore.specs.Explorations.{AreFollowed, AreKept, AreSized, Grows, Holds};
+ghost use Rattle.pg_explore.specs.Explorations.{AreFollowed, AreKept, AreSized, Grows, ExploredHolds};
 ghost use Rattle.pg_explore.specs.Explorations.{IsAlikeAt, IsFound, IsOpenAt, LeadsFrom, Lends, met_of};
 ghost use Rattle.pg_explore.specs.Faults.{CantExplore};
 ghost use Rattle.pg_explore.specs.Moments.{IsOf, sight_of};
@@ -70,7 +70,7 @@ impl Explored {
         plans: &[Plan],
         limits: Limits,
     ) -> Result<Explored, ExploreFault>
-        ensures holds { IfOk result (Holds config.now.starts.items plans.now limits.retries) }
+        ensures holds { IfOk result (ExploredHolds config.now.starts.items plans.now limits.retries) }
         ensures first { IfOk result (λ explored. length (met_of explored) ≡ 1) }
         ensures lent { IfOk result (λ explored. explored.lent ≡ 0) }
         ensures fault { IfErr result (CantExplore config.now) }
@@ -130,10 +130,10 @@ impl Explored {
         limits: Limits,
         visitor: &mut V,
     ) -> Result<bool, AllocError>
-        requires holds { Holds config.now.starts.items plans.now limits.retries self.old }
+        requires holds { ExploredHolds config.now.starts.items plans.now limits.retries self.old }
         requires more { self.old.lent < length (met_of self.old) }
         requires followed { AreFollowed plans.now limits.retries (met_of self.old) self.old.lent }
-        ensures holds { Holds config.now.starts.items plans.now limits.retries self.new }
+        ensures holds { ExploredHolds config.now.starts.items plans.now limits.retries self.new }
         ensures grows { Grows (met_of self.old) (met_of self.new) }
         ensures few { length (met_of self.new) ≤ max (length (met_of self.old)) limits.worlds }
         ensures followed { OnOk result (AreFollowed plans.now limits.retries (met_of self.new) self.new.lent) }
@@ -167,9 +167,9 @@ impl Explored {
         limits: Limits,
         place: usize,
     ) -> Result<Option<Vec<Led>>, AllocError>
-        requires holds { Holds config.now.starts.items plans.now limits.retries self.old }
+        requires holds { ExploredHolds config.now.starts.items plans.now limits.retries self.old }
         requires place { place < length (met_of self.old) }
-        ensures holds { Holds config.now.starts.items plans.now limits.retries self.new }
+        ensures holds { ExploredHolds config.now.starts.items plans.now limits.retries self.new }
         ensures grows { Grows (met_of self.old) (met_of self.new) }
         ensures few { length (met_of self.new) ≤ max (length (met_of self.old)) limits.worlds }
         ensures lent { self.new.lent ≡ self.old.lent }
@@ -216,10 +216,10 @@ impl Explored {
         place: usize,
         step: &Move,
     ) -> Result<Arrival, AllocError>
-        requires holds { Holds config.now.starts.items plans.now limits.retries self.old }
+        requires holds { ExploredHolds config.now.starts.items plans.now limits.retries self.old }
         requires can { IsOpenAt plans.now limits.retries (met_of self.old) place step.now }
         requires place { place < length (met_of self.old) }
-        ensures holds { Holds config.now.starts.items plans.now limits.retries self.new }
+        ensures holds { ExploredHolds config.now.starts.items plans.now limits.retries self.new }
         ensures grows { Grows (met_of self.old) (met_of self.new) }
         ensures few { length (met_of self.new) ≤ max (length (met_of self.old)) limits.worlds }
         ensures lent { self.new.lent ≡ self.old.lent }
@@ -246,12 +246,12 @@ impl Explored {
         step: &Move,
         moment: Moment,
     ) -> Result<Arrival, AllocError>
-        requires holds { Holds config.now.starts.items plans.now limits.retries self.old }
+        requires holds { ExploredHolds config.now.starts.items plans.now limits.retries self.old }
         requires can { IsOpenAt plans.now limits.retries (met_of self.old) place step.now }
         requires place { place < length (met_of self.old) }
         requires leads { LeadsFrom plans.now (met_of self.old) place step.now (sight_of moment) }
         requires of { IsOf config.now.starts.items moment }
-        ensures holds { Holds config.now.starts.items plans.now limits.retries self.new }
+        ensures holds { ExploredHolds config.now.starts.items plans.now limits.retries self.new }
         ensures grows { Grows (met_of self.old) (met_of self.new) }
         ensures few { length (met_of self.new) ≤ max (length (met_of self.old)) limits.worlds }
         ensures lent { self.new.lent ≡ self.old.lent }
@@ -285,14 +285,14 @@ impl Explored {
         moment: Moment,
         number: u64,
     ) -> Result<Arrival, AllocError>
-        requires holds { Holds config.now.starts.items plans.now limits.retries self.old }
+        requires holds { ExploredHolds config.now.starts.items plans.now limits.retries self.old }
         requires can { IsOpenAt plans.now limits.retries (met_of self.old) place step.now }
         requires place { place < length (met_of self.old) }
         requires leads { LeadsFrom plans.now (met_of self.old) place step.now (sight_of moment) }
         requires of { IsOf config.now.starts.items moment }
         requires number { number ≡ number_in (sight_of moment) }
         requires new { IsFound (met_of self.old) (sight_of moment) None }
-        ensures holds { Holds config.now.starts.items plans.now limits.retries self.new }
+        ensures holds { ExploredHolds config.now.starts.items plans.now limits.retries self.new }
         ensures grows { Grows (met_of self.old) (met_of self.new) }
         ensures few { length (met_of self.new) ≤ max (length (met_of self.old)) limits.worlds }
         ensures lent { self.new.lent ≡ self.old.lent }

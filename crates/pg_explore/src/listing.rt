@@ -8,8 +8,8 @@ ghost use Rattle.pg_frame_world.specs.FrameWorlds.{lost_of, traffic_of};
 ghost use Rattle.pg_frame_world.specs.Losing.{seen_at};
 ghost use Rattle.pg_account.specs.Losses.{is_lost};
 ghost use Rattle.pg_frame_world.specs.Views.{on_the_way};
-ghost use Rattle.pg_explore.specs.Listings.{AddsOpen, IsAt, IsListed, IsOfPeer, IsOfPeers};
-ghost use Rattle.pg_explore.specs.Listings.{IsPlannedOf, IsRetryOf, IsThere, MayRetry, waits_at};
+ghost use Rattle.pg_explore.specs.Listings.{AddsOpen, IsAt, IsListed, IsMoveOfPeer, IsOfPeers};
+ghost use Rattle.pg_explore.specs.Listings.{IsPlannedOf, IsRetryOf, IsThere, MayRetry, sight_waits_at};
 ghost use Rattle.pg_explore.specs.Moments.{IsSized, sight_of};
 
 use crate::losses::add_losses;
@@ -98,7 +98,7 @@ fn add_peer(
     requires sized { IsSized moment.now }
     requires there { IsThere (sight_of moment.now) node }
     requires pair { is_pair (length moment.now.strands.items) peer node ≡ true }
-    ensures { OnOk result (AddsOpen plans.now limits.retries (sight_of moment.now) (IsOfPeer node peer) moves.old.items moves.new.items) }
+    ensures { OnOk result (AddsOpen plans.now limits.retries (sight_of moment.now) (IsMoveOfPeer node peer) moves.old.items moves.new.items) }
 {
     if has_packet(moment, node, peer) {
         moves.push(Move::Take { node, peer })?;
@@ -199,7 +199,7 @@ fn add_retries(
 fn waiting_at(moment: &Moment, node: usize) -> Result<Vec<OpId>, AllocError>
     requires sized { IsSized moment.now }
     requires there { node < length moment.now.strands.items }
-    ensures { IfOk result (λ ops. (op : OpId) → Contains ops.items op ↔ (waits_at (traffic_of moment.now.world).nodes node op ≡ true)) }
+    ensures { IfOk result (λ ops. (op : OpId) → Contains ops.items op ↔ (sight_waits_at (traffic_of moment.now.world).nodes node op ≡ true)) }
 {
     let state = moment.world.node(node).unwrap();
     state.waiting()

@@ -43,8 +43,8 @@ abbrev pub sent : List ℕ → Bytes → Bytes
 sent more bytes = record bytes { outbox = bytes.outbox ++ more }
 
 -- the first whole frame that came is taken out
-abbrev pub taken : Bytes → Bytes
-taken bytes = record bytes { came = after_front bytes.came }
+abbrev pub piece_taken : Bytes → Bytes
+piece_taken bytes = record bytes { came = after_front bytes.came }
 
 -- ---- what is read
 
@@ -54,7 +54,7 @@ pub record FirstPacket {P : Type 0} (write : P → List ℕ) (packets : List P) 
   pub others : List P
   pub are : packets ≡ first ∷ others
   pub is : body ≡ write first
-  pub left : ArePackets write others (taken bytes)
+  pub left : ArePackets write others (piece_taken bytes)
 
 -- Bodies are those of the first packets, and what follows is the frames of the others.
 pub record FirstPackets {P : Type 0} (write : P → List ℕ) (packets : List P) (bodies : List (List ℕ)) (behind : List ℕ) : Type 0 where
@@ -84,4 +84,4 @@ pub record FirstOfCut {P : Type 0} (write : P → List ℕ) (packets : List P) (
   pub others : List P
   pub are : packets ≡ first ∷ others
   pub is : body ≡ write first
-  pub left : AreCut write others (taken bytes)
+  pub left : AreCut write others (piece_taken bytes)

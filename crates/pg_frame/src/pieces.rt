@@ -5,7 +5,7 @@
 ghost use Rattle.std.specs.Prelude.{◌≡◌, ◌≢◌, ◌∷◌, ◌++◌, ℕ, List, [], Ok, Err, Some};
 ghost use Rattle.std.specs.List.{AllByRecursion, flat_map};
 ghost use Rattle.pg_frame.specs.Frames.{IsBody, frame, front_of, too_long};
-ghost use Rattle.pg_frame.specs.Pieces.{Bytes, ArePackets, AreShort, frames_of, put, pull, sent, taken};
+ghost use Rattle.pg_frame.specs.Pieces.{Bytes, ArePackets, AreShort, frames_of, put, pull, sent, piece_taken};
 ghost use Rattle.pg_frame.specs.Pieces.{FirstPacket, FirstPackets, AreCut, StayWhole, FirstOfCut};
 
 use crate::laws::{pieces_continue, taking_leaves_others, written_is_read};

@@ -34,7 +34,7 @@ use Rattle.pg_step.specs.State.Stage.{Closed, Waiting, Asking, Changing}
 use Rattle.pg_step.specs.Step.{Action, Issue, Retry, TimedTurn, taken, acted, node_takes}
 use Rattle.pg_step.specs.Step.{node_acts, timed, at_clock, CLOCK_LIMIT, step_take, step_act}
 use Rattle.pg_step.specs.Turns.{NodeTurn, Report, and_then, becomes}
-use Rattle.pg_account.specs.Histories.{asked_by, begun_by}
+use Rattle.pg_account.specs.Histories.{update_asked_by, begun_by}
 
 -- what began is what was applied
 abbrev pub Alike : Report → Type 0
@@ -144,7 +144,7 @@ reply_of what.Double false used m p c said s = tt
 reply_of what.Counted true used m p c said s = inr (refl, counted_alike m used p c said s)
 reply_of what.Counted false used m p c said s = tt
 
-taken_of : (m : Nodes) (p : Node) (x : Message) (s : State) → OfTurn (Applies (asked_by x)) (taken m p x s)
+taken_of : (m : Nodes) (p : Node) (x : Message) (s : State) → OfTurn (Applies (update_asked_by x)) (taken m p x s)
 taken_of m p (Call reference (SetLock name)) s = inr (refl, refl)
 taken_of m p (Call reference (Change update)) s = inl (refl, refl)
 taken_of m p (Reply reference said) s = reply_of _ _ (use_of m reference s) m p _ said s
@@ -178,9 +178,9 @@ timed_of Is clock (Ok u) t is e = go (nat_le clock CLOCK_LIMIT) e
     go false f = absurd (cc)
 timed_of Is clock (Err refusal) t is e = absurd (never_ok clock refusal t e)
 
-pub take_applies : (m : Nodes) (p : Node) (x : Stamped Message) (s : Timed State) (t : TimedTurn) → step_take m p x s ≡ Ok t → Applies (asked_by x.packet) t.reported
-take_applies m p x s t e = timed_of (Applies (asked_by x.packet)) (max s.clock x.stamp + 1) (node_takes m p x.packet s.state) t
-    (cond_of (Applies (asked_by x.packet)) (s.state.lost p) (Err NodeLost) (taken (live_nodes m s.state) p x.packet s.state) tt (taken_of (live_nodes m s.state) p x.packet s.state)) e
+pub take_applies : (m : Nodes) (p : Node) (x : Stamped Message) (s : Timed State) (t : TimedTurn) → step_take m p x s ≡ Ok t → Applies (update_asked_by x.packet) t.reported
+take_applies m p x s t e = timed_of (Applies (update_asked_by x.packet)) (max s.clock x.stamp + 1) (node_takes m p x.packet s.state) t
+    (cond_of (Applies (update_asked_by x.packet)) (s.state.lost p) (Err NodeLost) (taken (live_nodes m s.state) p x.packet s.state) tt (taken_of (live_nodes m s.state) p x.packet s.state)) e
 
 pub act_applies : (m : Nodes) (ports : ℕ) (action : Action) (s : Timed State) (t : TimedTurn) → step_act m ports action s ≡ Ok t → Applies None t.reported
 act_applies m ports action s t e = timed_of (Applies None) (s.clock + 1) (node_acts m ports action s.state) t (acted_of m (live_nodes m s.state) ports action s.state) e

@@ -16,7 +16,7 @@ use Rattle.pg_machine.proofs.Steps.{happened}
 use Rattle.pg_step.specs.Config.{Config, names_of, name_at, nodes_at, ports_at}
 use Rattle.pg_step.specs.Faults.{first_that_holds}
 use Rattle.pg_step.specs.FrameMachine.{frame_machine, losing_frame_machine, last_notice, sent_packet}
-use Rattle.pg_step.specs.LossLaws.{LosingFrameWorld, is_drained, clock_after}
+use Rattle.pg_step.specs.LossLaws.{LosingFrameWorld, way_is_drained, clock_after}
 use Rattle.pg_step.specs.Nodes.{Node, Nodes}
 use Rattle.pg_step.specs.State.{State}
 use Rattle.pg_step.specs.Step.{Action, Issue, Retry, step_take, step_act}
@@ -39,7 +39,7 @@ use Rattle.pg_frame_world.specs.Losing.{Telling, told_take, told_own, told_of, L
 use Rattle.pg_account.specs.Losses.{is_lost}
 use Rattle.pg_starts.specs.Seen.{Seen}
 use Rattle.pg_frame_world.specs.Views.{View, peer_place}
-use Rattle.pg_frame_world.specs.Worlds.{TimedFrameWorld, ShowsNodes, ShowsNode, Shows}
+use Rattle.pg_frame_world.specs.Worlds.{TimedFrameWorld, ShowsNodes, ShowsNode, ShowsWorld}
 use Rattle.pg_frame_world.specs.Worlds.{ComesTo, has_port, has_places, told, told_of_first}
 use Rattle.pg_frame_world.proofs.Lossy.{lifted, same_effect, lost_kept}
 use Rattle.pg_frame_world.proofs.Peering.{lt_false, peer_name, named, there_and_back}
@@ -110,7 +110,7 @@ module _ (config : Config) (nodes : List Seen) (w : TimedFrameWorld) (lost : Lis
   unplaced_told (steps.Retry i op) none = own_unplaced i (Retry op) none
   unplaced_told (steps.SeeLoss i p) none = ap (λ b. first_that_holds (
       (not b, NoSuchPlace) ∷ (u.gone i || (w.node i).state.lost (name_at config p), NodeLost) ∷ (not (u.gone p), NotLost)
-      ∷ (not (is_drained (u.world.wire p i)), NotDrained) ∷ (is_full (clock_after (w.node i).clock (u.world.wire p i)), ClockFull) ∷ []))
+      ∷ (not (way_is_drained (u.world.wire p i)), NotDrained) ∷ (is_full (clock_after (w.node i).clock (u.world.wire p i)), ClockFull) ∷ []))
       (sym (pair_here i p) ∙ none)
   unplaced_told (steps.Lose i keep) none = ap (λ b. first_that_holds (
       (not (b && nat_eq (length keep.items) (length config - 1)), NoSuchPlace) ∷ (u.gone i, NodeLost)
@@ -141,7 +141,7 @@ module _ (config : Config) (nodes : List Seen) (w : TimedFrameWorld) (lost : Lis
         let cut : (is_lost lost i || (w.node i).state.lost (name_at config p)) ≡ true = sym (cut_is i p pair) ∙ bars in
         λ j. first_that_holds (
         (not (pair j), NoSuchPlace) ∷ (cut j, NodeLost) ∷ (not (u.gone p), NotLost)
-        ∷ (not (is_drained (u.world.wire p i)), NotDrained) ∷ (is_full (clock_after (w.node i).clock (u.world.wire p i)), ClockFull) ∷ [])
+        ∷ (not (way_is_drained (u.world.wire p i)), NotDrained) ∷ (is_full (clock_after (w.node i).clock (u.world.wire p i)), ClockFull) ∷ [])
     barred_told (steps.Lose i keep) places bars = absurd (cc)
 
 -- ---- what comes of an event
@@ -210,12 +210,12 @@ module _ (config : Config) (nodes : List Seen) (w : TimedFrameWorld) (lost : Lis
       first_true true b e = refl
       first_true false b e = absurd (cc)
 
-module _ (config : Config) (old new : View) (lost lost2 : List ℕ) (w : TimedFrameWorld) (shows : Shows config old w) (seen : SeenAreLost config w lost) (same : lost2 ≡ lost) where
+module _ (config : Config) (old new : View) (lost lost2 : List ℕ) (w : TimedFrameWorld) (shows : ShowsWorld config old w) (seen : SeenAreLost config w lost) (same : lost2 ≡ lost) where
   -- nothing has changed
   pub still : new ≡ old → ShowsLosing config new lost2 (losing_of config w lost)
   still is = record {
     frames = w;
-    shows = subst (λ (v : View). Shows config v w) (sym is) shows;
+    shows = subst (λ (v : View). ShowsWorld config v w) (sym is) shows;
     seen = λ i p pair has. ap (λ (l : List ℕ). is_lost l p) same ∙ seen i p pair has;
     is = ap (losing_of config w) (sym same);
   }
@@ -223,7 +223,7 @@ module _ (config : Config) (old new : View) (lost lost2 : List ℕ) (w : TimedFr
   module _ (e : Event Action) (tells : Telling) (event : tells.event ≡ Step e) (loss : tells.is_loss ≡ false) (stays : is_lost lost (node_of e) ≡ false)
       (refused : (r : Refusal) → told config w e ≡ Some (Err r) → tells.refusal ≡ Some r) (idle : told config w e ≡ None → (tells.is_idle ≡ true) × (tells.refusal ≡ None))
       (busy : (v : TimedFrameWorld) → happens (frame_machine config) w e ≡ Some v → tells.is_idle ≡ false) where
-    led : (v : TimedFrameWorld) → happens (frame_machine config) w e ≡ Some v → Shows config new v → LosingLed config (losing_of config w lost) tells.event (ShowsLosing config new lost2)
+    led : (v : TimedFrameWorld) → happens (frame_machine config) w e ≡ Some v → ShowsWorld config new v → LosingLed config (losing_of config w lost) tells.event (ShowsLosing config new lost2)
     led v is shown =
         let h = happened (frame_machine config) w v e is in (
           losing_of config v lost,
@@ -241,7 +241,7 @@ module _ (config : Config) (old new : View) (lost lost2 : List ℕ) (w : TimedFr
         → losing_effect_in config (losing_of config w lost) tells.event ≡ Some effect
     did_so v effect is did = ap (losing_effect_in config (losing_of config w lost)) event ∙ (same_effect config lost w v e (happened (frame_machine config) w v e is) stays ∙ did)
 
-    pub comes : (result : Result Stepped NodeFault) → ComesTo config w e result (Shows config new) → (result ≡ Ok Nothing → new ≡ old) → OnErr result (new ≡ old)
+    pub comes : (result : Result Stepped NodeFault) → ComesTo config w e result (ShowsWorld config new) → (result ≡ Ok Nothing → new ≡ old) → OnErr result (new ≡ old)
         → LosingComesTo config (losing_of config w lost) tells result (ShowsLosing config new lost2)
     comes (Ok (Happened effect)) (did, (v, is, shown)) nothing err = (loss, busy v is, did_so v effect is did, led v is shown)
     comes (Ok Nothing) c nothing err = ((idle c).0, (idle c).1, still (nothing refl))
@@ -255,7 +255,7 @@ module _ (config : Config) (old new : View) (lost lost2 : List ℕ) (w : TimedFr
 
   -- a packet is taken
   pub take_comes : (i p : ℕ) (result : Result Stepped NodeFault) → is_pair (length old.traffic.nodes) i p ≡ true → is_cut_off old.traffic.nodes lost i p ≡ false
-      → ComesTo config w (Take i p) result (Shows config new) → (result ≡ Ok Nothing → new ≡ old) → OnErr result (new ≡ old)
+      → ComesTo config w (Take i p) result (ShowsWorld config new) → (result ≡ Ok Nothing → new ≡ old) → OnErr result (new ≡ old)
       → LosingComesTo config (losing_of config w lost) (told_take config (losing_of config w lost) i p) result (ShowsLosing config new lost2)
   take_comes i p result places lives came nothing err =
       let nodes = old.traffic.nodes in
@@ -265,7 +265,7 @@ module _ (config : Config) (old new : View) (lost lost2 : List ℕ) (w : TimedFr
 
   -- something of its own
   pub own_comes : (i : ℕ) (action : Action) (result : Result Stepped NodeFault) → has_port old.traffic.nodes i (port_of action) ≡ true → is_lost lost i ≡ false
-      → ComesTo config w (Do i action) result (Shows config new) → (result ≡ Ok Nothing → new ≡ old) → OnErr result (new ≡ old)
+      → ComesTo config w (Do i action) result (ShowsWorld config new) → (result ≡ Ok Nothing → new ≡ old) → OnErr result (new ≡ old)
       → LosingComesTo config (losing_of config w lost) (told_own config (losing_of config w lost) i action) result (ShowsLosing config new lost2)
   own_comes i action result places stays came nothing err =
       comes (Do i action) (told_own config (losing_of config w lost) i action) refl refl stays (own_refused_so config old.traffic.nodes w lost shows.traffic.nodes seen i action places stays)
@@ -276,12 +276,12 @@ module _ (config : Config) (old new : View) (lost lost2 : List ℕ) (w : TimedFr
 module _ (config : Config) (old new : View) (u : LosingFrameWorld) (lost lost2 : List ℕ) (shows : ShowsLosing config old lost u) (same : lost2 ≡ lost) (result : Result Stepped NodeFault)
     (nothing : result ≡ Ok Nothing → new ≡ old) (err : OnErr result (new ≡ old)) where
   pub take_in : (i p : ℕ) → is_pair (length old.traffic.nodes) i p ≡ true → is_cut_off old.traffic.nodes lost i p ≡ false
-      → ComesTo config shows.frames (Take i p) result (Shows config new) → LosingComesTo config u (told_take config u i p) result (ShowsLosing config new lost2)
+      → ComesTo config shows.frames (Take i p) result (ShowsWorld config new) → LosingComesTo config u (told_take config u i p) result (ShowsLosing config new lost2)
   take_in i p places lives came = subst (λ (x : LosingFrameWorld). LosingComesTo config x (told_take config x i p) result (ShowsLosing config new lost2)) (sym shows.is)
       (take_comes config old new lost lost2 shows.frames shows.shows shows.seen same i p result places lives came nothing err)
 
   pub own_in : (i : ℕ) (action : Action) → has_port old.traffic.nodes i (port_of action) ≡ true → is_lost lost i ≡ false
-      → ComesTo config shows.frames (Do i action) result (Shows config new) → LosingComesTo config u (told_own config u i action) result (ShowsLosing config new lost2)
+      → ComesTo config shows.frames (Do i action) result (ShowsWorld config new) → LosingComesTo config u (told_own config u i action) result (ShowsLosing config new lost2)
   own_in i action places stays came = subst (λ (x : LosingFrameWorld). LosingComesTo config x (told_own config x i action) result (ShowsLosing config new lost2)) (sym shows.is)
       (own_comes config old new lost lost2 shows.frames shows.shows shows.seen same i action result places stays came nothing err)
 

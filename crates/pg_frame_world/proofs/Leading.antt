@@ -39,14 +39,14 @@ use Rattle.pg_frame_world.specs.declared.step.Stepped.TheVariants.{Happened, Mov
 use Rattle.pg_frame_world.specs.Losing.{Telling, LosingComesTo, SeenAreLost, ShowsLosing, formed_after, losing_of, seen_at, told_of}
 use Rattle.pg_frame_world.specs.LosingRuns.{LosingKind, LosingGoesTo, packets_past_losses}
 use Rattle.pg_account.specs.Losses.{is_lost}
-use Rattle.pg_frame_world.specs.Past.{HasHeadline, IsPast, HasPast, LedOn, GoesOn, FramesHavePast}
+use Rattle.pg_frame_world.specs.Past.{HasHeadline, IsPast, HasPast, LedOn, PastGoesOn, FramesHavePast}
 use Rattle.pg_frame_world.specs.Past.{FormedFirst, FramesGoOn, FramesRunOn, HistoriesGrow, MissedInRun, RunsOn, missed_in}
 use Rattle.pg_frame_world.specs.Pending.{AgreeOn, has_formed, pending_of, sees_free}
 use Rattle.pg_frame_world.specs.Starts.{Begins, Orders}
 use Rattle.pg_starts.specs.Seen.{Seen}
 use Rattle.pg_frame_world.specs.Views.{View}
 use Rattle.pg_account.specs.Histories.{Account}
-use Rattle.pg_frame_world.specs.Worlds.{TimedFrameWorld, Shows, ShowsNodes, ShowsUpdates}
+use Rattle.pg_frame_world.specs.Worlds.{TimedFrameWorld, ShowsWorld, ShowsNodes, ShowsUpdates}
 use Rattle.pg_frame_world.proofs.AtLosses.{ToldBehind, lost_here, none_told, told_more, told_same}
 use Rattle.pg_frame_world.proofs.FormedSeen.{ToldOf, told_frames}
 use Rattle.pg_frame_world.proofs.Barred.{pair_here, seen_is}
@@ -142,7 +142,7 @@ module _ (given : Config) (New : Config → LosingFrameWorld → Type 0) (apart 
       (mapped : (config : Config) (u : LosingFrameWorld) → Old config u → (((x : ℕ) → u.gone x ≡ false) → (k : ℕ) → NoneLost (u.world.node k).state)
       → (P Q : LosingFrameWorld → Type 0) → ((v : LosingFrameWorld) → NearBy config was now u v → P v → Q v) → Comes config u P → Comes config u Q) where
     pub goes_on : HasPast given was Old → ((config : Config) (u : LosingFrameWorld) (events : List (LosingEvent Action)) → LosingReaches config events u → Old config u → Comes config u (New config))
-        → GoesOn given Old New Comes
+        → PastGoesOn given Old New Comes
     goes_on past came = record {
       config = past.config;
       events = past.events;
@@ -397,7 +397,7 @@ pub frames_formed : (given : Config) (view : View) (lost : List ℕ) (formed : B
 frames_formed given view lost formed told past = record { past = past; is = (λ e. past.at_losses.0 (sym told ∙ e), λ all. told ∙ past.at_losses.1 all) }
 
 -- where no node is lost, whatever world is shown knows of no loss
-pub unseen_there : (given : Config) (view : View) (lost : List ℕ) → lost ≡ [] → FramesHavePast given view lost → (config : Config) (w : TimedFrameWorld) → Shows config view w → SeenAreLost config w []
+pub unseen_there : (given : Config) (view : View) (lost : List ℕ) → lost ≡ [] → FramesHavePast given view lost → (config : Config) (w : TimedFrameWorld) → ShowsWorld config view w → SeenAreLost config w []
 unseen_there given view lost none past config w shows i p pair has =
     let old = past.is.shows in
     let nodes = view.traffic.nodes in

@@ -29,7 +29,7 @@ use Rattle.pg_opens.proofs.Named.{clash}
 use Rattle.pg_step.specs.Config.{Config, groups_at, first_table}
 use Rattle.pg_step.specs.Nodes.{Node}
 use Rattle.pg_frame_world.specs.Fitting.{FitsFrame}
-use Rattle.pg_frame_world.specs.Openings.{Fits, AllFit, SomeIsTooLong, are_few, have_few}
+use Rattle.pg_frame_world.specs.Openings.{FitsOpening, AllFit, SomeIsTooLong, are_few, have_few}
 use Rattle.pg_starts.specs.Firsts.{seen_first}
 use Rattle.pg_frame_world.proofs.Ordered.{first_told}
 use Rattle.pg_frame_world.proofs.OrderedOnce.{fits_once}
@@ -203,7 +203,7 @@ fitting groups own packet is fits =
 
 -- ---- configurations
 
-pub fits_few : (config : Config) (i : ℕ) → Fits (seen_first config i) → are_few (groups_at config i) ≡ true
+pub fits_few : (config : Config) (i : ℕ) → FitsOpening (seen_first config i) → are_few (groups_at config i) ≡ true
 fits_few config i fits = fitting (groups_at config i) (name_at (seen_first config i).names 0) fits.0 fits.1 fits.2
 
 few_all : (config : Config) → ((i : ℕ) → i < length config → are_few (groups_at config i) ≡ true) → have_few config ≡ true

@@ -33,7 +33,7 @@ use Rattle.pg_frame_world.specs.LosingRuns.{LosingRunsTo, LosingGoesTo, RanLosin
 use Rattle.pg_frame_world.specs.Losing.{IsReachedLosing}
 use Rattle.pg_frame_world.specs.Starts.{Begins, Orders}
 use Rattle.pg_frame_world.specs.Views.{View}
-use Rattle.pg_frame_world.specs.Worlds.{TimedFrameWorld, Shows}
+use Rattle.pg_frame_world.specs.Worlds.{TimedFrameWorld, ShowsWorld}
 use Rattle.pg_frame_world.proofs.Lossy.{no_notice}
 
 -- ---- the start
@@ -59,7 +59,7 @@ start_is config = λ j. record {
         ∙ ap (λ (ns : List (Stamped (Noticed Message))). map sent_packet (start.wire x y) ++ ns) (sym (no_notice config start [] x y refl))
 
 -- a world that shows the start of the nodes shows that of nodes that may be lost
-pub start_shown : (config : Config) (view : View) → Shows config view (start_of (frame_machine config)) → ShowsLosing config view [] (nobody_gone (start_of (losing_frame_machine config)))
+pub start_shown : (config : Config) (view : View) → ShowsWorld config view (start_of (frame_machine config)) → ShowsLosing config view [] (nobody_gone (start_of (losing_frame_machine config)))
 start_shown config view shows = record {
   frames = start_of (frame_machine config);
   shows = shows;

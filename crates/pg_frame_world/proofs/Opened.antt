@@ -26,7 +26,7 @@ use Rattle.pg_config.specs.declared.fault.WorldFault.TheVariants.{BadConfig, Nam
 use Rattle.pg_config.specs.declared.fault.WorldFault.TheVariants.{BadCapacity, TooLong, OutOfMemory}
 use Rattle.pg_config.specs.Configs.{is_config, is_capacity, are_names, have_names, refusal_of, IsJudged}
 use Rattle.pg_frame_world.specs.Openings.{AreReady, SomeIsTooLong, are_few, have_few, TellsNames}
-use Rattle.pg_frame_world.specs.Openings.{Fits, IsTooLong, AllFit, SomeCantOpen, CantBegin, CantStart}
+use Rattle.pg_frame_world.specs.Openings.{FitsOpening, IsTooLong, AllFit, SomeCantOpen, CantBegin, CantStart}
 use Rattle.pg_starts.specs.Firsts.{firsts, seen_first}
 use Rattle.pg_frame_world.specs.Starts.{AllOpen}
 use Rattle.pg_starts.specs.Seen.{Seen, seen_of}
@@ -87,10 +87,10 @@ all_name_slice {T} {g} config nodes slice same are names = subst (λ (ns : List 
 
 -- ---- what fits
 
-open_fits : (peers : ℕ) (nodes : List Seen) (rows : List (List (List (Stamped Message)))) (i : ℕ) (node : Seen) → AllOpen peers nodes rows → slice_get nodes i ≡ Some node → Fits node
+open_fits : (peers : ℕ) (nodes : List Seen) (rows : List (List (List (Stamped Message)))) (i : ℕ) (node : Seen) → AllOpen peers nodes rows → slice_get nodes i ≡ Some node → FitsOpening node
 open_fits peers [] rows i node going at = absurd cc
 open_fits peers (first ∷ nodes) [] i node going at = absurd going
-open_fits peers (first ∷ nodes) (row ∷ rows) zero node going at = subst Fits (same_Some first node at) (going.0.0, going.0.1, going.0.3)
+open_fits peers (first ∷ nodes) (row ∷ rows) zero node going at = subst FitsOpening (same_Some first node at) (going.0.0, going.0.1, going.0.3)
 open_fits peers (first ∷ nodes) (row ∷ rows) (suc i) node going at = open_fits peers nodes rows i node going.1 at
 
 pub all_fit : (config : Config) (peers : ℕ) (nodes : List Seen) (rows : List (List (List (Stamped Message)))) → nodes ≡ firsts config (length config) → AllOpen peers nodes rows → AllFit config
@@ -99,7 +99,7 @@ all_fit config peers nodes rows are going i l =
     let size : length nodes ≡ length config = ap length are ∙ firsts_length config (length config) in
     let at : slice_get nodes i ≡ Some (get_or nodes i first) = slice_get-get_or nodes i first (omega (arith, l, size)) in
     let is = firsts_are config (length config) i (get_or nodes i first) (ap (λ (xs : List Seen). slice_get xs i) (sym are) ∙ at) in
-    subst Fits is.1 (open_fits peers nodes rows i (get_or nodes i first) going at)
+    subst FitsOpening is.1 (open_fits peers nodes rows i (get_or nodes i first) going at)
 
 pub cant_start : (config : Config) (nodes : List Seen) (fault : WorldFault) → nodes ≡ firsts config (length config) → SomeCantOpen nodes fault → CantStart config fault
 cant_start config nodes OutOfMemory are cant = tt

@@ -22,7 +22,7 @@ use Rattle.pg_config.specs.declared.fault.WorldFault.TheVariants.{BadConfig, Nam
 use Rattle.pg_config.specs.declared.fault.WorldFault.TheVariants.{BadCapacity, TooLong, OutOfMemory}
 use Rattle.pg_config.specs.Configs.{refusal_of}
 use Rattle.pg_frame_world.specs.Fitting.{FitsFrame, IsOverlong}
-use Rattle.pg_frame_world.specs.Openings.{Fits, IsTooLong, SomeIsTooLong, CanBegin, CantBegin, are_few, have_few}
+use Rattle.pg_frame_world.specs.Openings.{FitsOpening, IsTooLong, SomeIsTooLong, CanBegin, CantBegin, are_few, have_few}
 use Rattle.pg_starts.specs.Firsts.{seen_first}
 use Rattle.pg_frame_world.specs.Starts.{IsOrdered, Orders}
 use Rattle.pg_starts.specs.Seen.{Seen}
@@ -72,7 +72,7 @@ announced_one table own packet other a b =
 both_lengths : (packet other : Packet) → packet ≡ other → IsOverlong packet → FitsFrame other → ⊥
 both_lengths packet other same long fits = absurd (let l : FitsFrame packet = subst FitsFrame (sym same) fits in omega (arith, long, l))
 
-pub fits_once : (node : Seen) → Fits node → IsTooLong node → ⊥
+pub fits_once : (node : Seen) → FitsOpening node → IsTooLong node → ⊥
 fits_once node fits long = both_lengths long.0 fits.0 (announced_one node.state.state.table (name_of node.names 0) long.0 fits.0 long.1 fits.1) long.2 fits.2
 
 few_each : (config : Config) (i : ℕ) → i < length config → have_few config ≡ true → are_few (groups_at config i) ≡ true

@@ -21,10 +21,10 @@ use Rattle.pg_node_state.specs.States.{Comes}
 use Rattle.pg_node_state.specs.Sendable.{AreSendable}
 use Rattle.pg_frame_world.specs.declared.effect.Effect.{Effect}
 use Rattle.pg_frame_world.specs.declared.step.Stepped.TheVariants.{Happened, Nothing}
-use Rattle.pg_account.specs.Histories.{asked_by}
+use Rattle.pg_account.specs.Histories.{update_asked_by}
 use Rattle.pg_starts.specs.Seen.{Seen}
 use Rattle.pg_frame_world.specs.Effects.{effect_by}
-use Rattle.pg_frame_world.specs.Views.{Traffic, peer_place, on_the_way, first_of, packets_to}
+use Rattle.pg_frame_world.specs.Views.{Traffic, peer_place, on_the_way, next_packet_of, packets_to}
 use Rattle.pg_frame_world.specs.Worlds.{ShowsTraffic, TimedFrameWorld, ComesTo}
 use Rattle.pg_frame_world.proofs.Peering.{peers_differ}
 use Rattle.pg_frame_world.proofs.Recording.{Records}
@@ -32,11 +32,11 @@ use Rattle.pg_frame_world.proofs.Turning.{way_at, Left, Passes, pair_is, pair_tu
 use Rattle.pg_frame_world.proofs.Turning.{own_refused as refused_own, own_left, taken_refused, take_left}
 
 -- a list begins with its first packet
-begins_with : (xs : List (Stamped Message)) (x : Stamped Message) → Some x ≡ first_of xs → xs ≡ x ∷ drop 1 xs
+begins_with : (xs : List (Stamped Message)) (x : Stamped Message) → Some x ≡ next_packet_of xs → xs ≡ x ∷ drop 1 xs
 begins_with [] x e = absurd (cc)
 begins_with (y ∷ ys) x e = let same : y ≡ x = cc in ap (λ z. z ∷ ys) same
 
-none_first : (xs : List (Stamped Message)) → None ≡ first_of xs → xs ≡ []
+none_first : (xs : List (Stamped Message)) → None ≡ next_packet_of xs → xs ≡ []
 none_first [] e = refl
 none_first (x ∷ xs) e = absurd (cc)
 
@@ -87,10 +87,10 @@ module _ (config : Config) (traffic : Traffic) (w : TimedFrameWorld) (i p : ℕ)
   wire_is = shows.ways p i (pair_turned (length config) i p there)
 
   -- nothing is on the way
-  pub take_nothing : None ≡ first_of (on_the_way traffic p i) → (Shown : TimedFrameWorld → Type 0) → ComesTo config w (Take i p) (Ok Nothing) Shown
+  pub take_nothing : None ≡ next_packet_of (on_the_way traffic p i) → (Shown : TimedFrameWorld → Type 0) → ComesTo config w (Take i p) (Ok Nothing) Shown
   take_nothing none Shown = none_told config traffic.nodes w i p shows.nodes pair (wire_is ∙ none_first (on_the_way traffic p i) none)
 
-  module _ (node : Seen) (here : slice_get traffic.nodes i ≡ Some node) (x : Stamped Message) (first : Some x ≡ first_of (on_the_way traffic p i)) where
+  module _ (node : Seen) (here : slice_get traffic.nodes i ≡ Some node) (x : Stamped Message) (first : Some x ≡ next_packet_of (on_the_way traffic p i)) where
     begins : w.wire p i ≡ x ∷ drop 1 (on_the_way traffic p i)
     begins = wire_is ∙ begins_with (on_the_way traffic p i) x first
 
@@ -106,9 +106,9 @@ module _ (config : Config) (traffic : Traffic) (w : TimedFrameWorld) (i p : ℕ)
         → way_at traffic2 p (peer_place p i) ≡ drop 1 (way_at traffic p (peer_place p i))
         → ((a k : ℕ) → a ≢ i → ((a ≡ p) × (k ≡ peer_place p i) → ⊥) → way_at traffic2 a k ≡ way_at traffic a k)
         → Comes node.names (step_take (whole_in node.names) (place_name node.names (peer_place i p + 1)) x node.state) (Ok done) after.state node.answers after.answers
-        → ComesTo config w (Take i p) (Ok (Happened (effect_by done))) (λ v. ShowsTraffic config traffic2 v × Records w v i (asked_by x.packet) done.began)
+        → ComesTo config w (Take i p) (Ok (Happened (effect_by done))) (λ v. ShowsTraffic config traffic2 v × Records w v i (update_asked_by x.packet) done.began)
     take_happened traffic2 after done nodes names ports fits sent passed others comes =
-        comes_as config w (Take i p) (effect_by done) _ _ (shown_so config traffic traffic2 w (Take i p) done.sends.items (asked_by x.packet) done.began shows sent ways_so)
+        comes_as config w (Take i p) (effect_by done) _ _ (shown_so config traffic traffic2 w (Take i p) done.sends.items (update_asked_by x.packet) done.began shows sent ways_so)
         (take_left config traffic.nodes w i p shows.nodes pair node here x (drop 1 (on_the_way traffic p i)) begins traffic2.nodes after done nodes names ports fits comes)
       where
         ways_so : (v : TimedFrameWorld) → Passes config (Take i p) done.sends.items w v → (a y : ℕ) → a ≢ i → is_pair (length config) a y ≡ true → v.wire a y ≡ on_the_way traffic2 a y

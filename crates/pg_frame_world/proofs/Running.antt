@@ -29,7 +29,7 @@ use Rattle.pg_frame_world.specs.Worlds.{IsReached}
 use Rattle.pg_frame_world.specs.Losing.{lost_after, losing_of, told_loss, told_of, LosingComesTo}
 use Rattle.pg_step.specs.LossLaws.{LosingFrameWorld}
 use Rattle.pg_frame_world.specs.Views.{View}
-use Rattle.pg_frame_world.specs.Worlds.{TimedFrameWorld, Shows, ComesTo, IsUnseen, StepComesTo, is_loss, event_of}
+use Rattle.pg_frame_world.specs.Worlds.{TimedFrameWorld, ShowsWorld, ComesTo, IsUnseen, StepComesTo, is_loss, event_of}
 use Rattle.pg_frame_world.specs.Runs.{Kind, over_packets, IsTold, IsPassed, IsUnlost}
 use Rattle.pg_frame_world.specs.Runs.{SeesNone, number_told, StepsTo, RunsTo, GoesTo, Ran}
 use Rattle.pg_frame_world.specs.Starts.{Orders}
@@ -146,24 +146,24 @@ module _ {S : Type 0} (kind : Kind S) (config : Config) where
 -- what a step came to, by its number
 module _ (config : Config) (w : TimedFrameWorld) (old new : View) where
   module _ (step : FrameStep) (e : Event Action) (is : event_of step ≡ Some e) (passes : (number : ℕ) → IsTold config w e number → IsPassed config w step number) where
-    event_so : (result : Result Stepped NodeFault) (stepped : Stepped) → result ≡ Ok stepped → Shows config old w
-        → ComesTo config w e result (Shows config new) → (result ≡ Ok Nothing → new ≡ old) → StepsTo over_packets config w step 0 (Shows config new)
+    event_so : (result : Result Stepped NodeFault) (stepped : Stepped) → result ≡ Ok stepped → ShowsWorld config old w
+        → ComesTo config w e result (ShowsWorld config new) → (result ≡ Ok Nothing → new ≡ old) → StepsTo over_packets config w step 0 (ShowsWorld config new)
     event_so (Ok (Happened effect)) stepped r shows (did, (v, happened, shown)) nothing = inl (record { listed = refl; e = e; is = is; left = v; happened = happened; rest = shown })
     event_so (Ok Nothing) stepped r shows comes nothing =
-        inr (passes 0 (inl (sym (ap number_told comes))), subst (λ (view : View). Shows config view w) (sym (nothing refl)) shows)
+        inr (passes 0 (inl (sym (ap number_told comes))), subst (λ (view : View). ShowsWorld config view w) (sym (nothing refl)) shows)
     event_so (Ok (Moved count)) stepped r shows comes nothing = absurd comes
     event_so (Ok Gone) stepped r shows comes nothing = absurd comes
     event_so (Err fault) stepped r shows comes nothing = absurd (cc)
 
-    event_refused : (result : Result Stepped NodeFault) (fault : NodeFault) → result ≡ Err fault → Shows config old w
-        → ComesTo config w e result (Shows config new) → new ≡ old → StepsTo over_packets config w step (node_number_of fault) (Shows config new)
+    event_refused : (result : Result Stepped NodeFault) (fault : NodeFault) → result ≡ Err fault → ShowsWorld config old w
+        → ComesTo config w e result (ShowsWorld config new) → new ≡ old → StepsTo over_packets config w step (node_number_of fault) (ShowsWorld config new)
     event_refused (Ok stepped) fault r shows comes same = absurd (cc)
     event_refused (Err OutOfMemory) fault r shows comes same =
         let one : OutOfMemory ≡ fault = cc in
-        inr (passes (node_number_of fault) (inr (ap node_number_of (sym one))), subst (λ (view : View). Shows config view w) (sym same) shows)
+        inr (passes (node_number_of fault) (inr (ap node_number_of (sym one))), subst (λ (view : View). ShowsWorld config view w) (sym same) shows)
     event_refused (Err (Refused refusal)) fault r shows comes same =
         let one : Refused refusal ≡ fault = cc in
-        inr (passes (node_number_of fault) (inl (ap node_number_of (sym one) ∙ sym (ap number_told comes))), subst (λ (view : View). Shows config view w) (sym same) shows)
+        inr (passes (node_number_of fault) (inl (ap node_number_of (sym one) ∙ sym (ap number_told comes))), subst (λ (view : View). ShowsWorld config view w) (sym same) shows)
     event_refused (Err (BadMessage m)) fault r shows comes same = absurd comes
     event_refused (Err TooLong) fault r shows comes same = absurd comes
     event_refused (Err Damaged) fault r shows comes same = absurd comes
@@ -192,8 +192,8 @@ module _ (config : Config) (w : TimedFrameWorld) (old new : View) where
   unlost_so i keep Shown (Err TooLong) fault r comes = absurd comes
   unlost_so i keep Shown (Err Damaged) fault r comes = absurd comes
 
-  pub happened_so : (step : FrameStep) (lost : List ℕ) (result : Result Stepped NodeFault) (stepped : Stepped) → result ≡ Ok stepped → lost_after step result lost ≡ [] → Shows config old w
-      → StepComesTo config w step result (Shows config new) → (result ≡ Ok Nothing → new ≡ old) → StepsTo over_packets config w step 0 (Shows config new)
+  pub happened_so : (step : FrameStep) (lost : List ℕ) (result : Result Stepped NodeFault) (stepped : Stepped) → result ≡ Ok stepped → lost_after step result lost ≡ [] → ShowsWorld config old w
+      → StepComesTo config w step result (ShowsWorld config new) → (result ≡ Ok Nothing → new ≡ old) → StepsTo over_packets config w step 0 (ShowsWorld config new)
   happened_so (frames.Take i p) lost result stepped r none = event_so (frames.Take i p) (Take i p) refl (λ number told. told) result stepped r
   happened_so (frames.Command i port c) lost result stepped r none = event_so (frames.Command i port c) (Do i (Issue port c)) refl (λ number told. told) result stepped r
   happened_so (frames.Retry i op) lost result stepped r none = event_so (frames.Retry i op) (Do i (Retry op)) refl (λ number told. told) result stepped r
@@ -201,16 +201,16 @@ module _ (config : Config) (w : TimedFrameWorld) (old new : View) where
   happened_so (frames.Lose i keep) lost (Ok other) stepped r none = absurd (one_at_least i lost none)
   happened_so (frames.Lose i keep) lost (Err fault) stepped r none = absurd (cc)
 
-  pub refused_so : (step : FrameStep) (result : Result Stepped NodeFault) (fault : NodeFault) → result ≡ Err fault → Shows config old w
-      → StepComesTo config w step result (Shows config new) → new ≡ old → (Shown : LosingFrameWorld → Type 0) → LosingComesTo config (losing_of config w []) (told_of config (losing_of config w []) step) result Shown
-      → StepsTo over_packets config w step (node_number_of fault) (Shows config new)
+  pub refused_so : (step : FrameStep) (result : Result Stepped NodeFault) (fault : NodeFault) → result ≡ Err fault → ShowsWorld config old w
+      → StepComesTo config w step result (ShowsWorld config new) → new ≡ old → (Shown : LosingFrameWorld → Type 0) → LosingComesTo config (losing_of config w []) (told_of config (losing_of config w []) step) result Shown
+      → StepsTo over_packets config w step (node_number_of fault) (ShowsWorld config new)
   refused_so (frames.Take i p) result fault r shows comes same Shown losing = event_refused (frames.Take i p) (Take i p) refl (λ number told. told) result fault r shows comes same
   refused_so (frames.Command i port c) result fault r shows comes same Shown losing = event_refused (frames.Command i port c) (Do i (Issue port c)) refl (λ number told. told) result fault r shows comes same
   refused_so (frames.Retry i op) result fault r shows comes same Shown losing = event_refused (frames.Retry i op) (Do i (Retry op)) refl (λ number told. told) result fault r shows comes same
   refused_so (frames.SeeLoss i p) result fault r shows comes same Shown losing =
-      inr (unseen_number (is_pair (length config) i p) result fault r comes, subst (λ (view : View). Shows config view w) (sym same) shows)
+      inr (unseen_number (is_pair (length config) i p) result fault r comes, subst (λ (view : View). ShowsWorld config view w) (sym same) shows)
   refused_so (frames.Lose i keep) result fault r shows comes same Shown losing =
-      inr (unlost_so i keep.items Shown result fault r losing, subst (λ (view : View). Shows config view w) (sym same) shows)
+      inr (unlost_so i keep.items Shown result fault r losing, subst (λ (view : View). ShowsWorld config view w) (sym same) shows)
 
 -- a run from the start of a configuration, where one history is known of each world
 pub ran_so : {S : Type 0} (kind : Kind S) (given : Config) (Before Shown : Config → TimedFrameWorld → Type 0) (steps : List S) (numbers : List ℕ)

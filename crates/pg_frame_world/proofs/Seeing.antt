@@ -14,7 +14,7 @@ use Rattle.pg_step.specs.declared.refusal.Refusal.TheVariants.{NoSuchPlace, Node
 use Rattle.pg_step.specs.Config.{Config, names_of, name_at}
 use Rattle.pg_step.specs.Faults.{first_that_holds}
 use Rattle.pg_step.specs.FrameMachine.{last_notice, sent_packet}
-use Rattle.pg_step.specs.LossLaws.{LosingFrameWorld, is_drained, clock_after, see_refusal}
+use Rattle.pg_step.specs.LossLaws.{LosingFrameWorld, way_is_drained, clock_after, see_refusal}
 use Rattle.pg_step.specs.State.{State}
 use Rattle.pg_step.specs.Step.{CLOCK_LIMIT, TimedTurn, at_clock, timed}
 use Rattle.pg_step.specs.StepLaws.{is_full}
@@ -48,7 +48,7 @@ pub seen_whole : {T : Type 0} {g : Ghosts T} (nodes : List (NodeState T g)) (out
 seen_whole nodes outs i state after whole here names = subst IsWhole (λ j. record { nodes = sym (map-set seen_of nodes i after) j; ways = map ways_of outs })
     (whole_node (traffic_in nodes outs) whole i (seen_of state) (seen_of after) here names)
 
-undrained : (xs : List (Stamped Message)) (more : List (Stamped (Noticed Message))) → (xs ≡ [] → ⊥) → is_drained (map sent_packet xs ++ more) ≡ false
+undrained : (xs : List (Stamped Message)) (more : List (Stamped (Noticed Message))) → (xs ≡ [] → ⊥) → way_is_drained (map sent_packet xs ++ more) ≡ false
 undrained [] more some = absurd (some refl)
 undrained (x ∷ xs) more some = refl
 
@@ -84,12 +84,12 @@ module _ (config : Config) (nodes : List Seen) (w : TimedFrameWorld) (i p : ℕ)
   coming = (losing_of config w lost).world.wire p i
 
   pub not_lost : is_lost lost p ≡ false → see_refusal config u i p ≡ Some NotLost
-  not_lost gone = λ j. tests (there j) (cut j) (gone j) (is_drained coming) (is_full (clock_after (w.node i).clock coming))
+  not_lost gone = λ j. tests (there j) (cut j) (gone j) (way_is_drained coming) (is_full (clock_after (w.node i).clock coming))
 
   pub not_drained : is_lost lost p ≡ true → (w.wire p i ≡ [] → ⊥) → see_refusal config u i p ≡ Some NotDrained
   not_drained gone some = λ j. tests (there j) (cut j) (gone j) (left j) (is_full (clock_after (w.node i).clock coming))
     where
-      left : is_drained coming ≡ false
+      left : way_is_drained coming ≡ false
       left = undrained (w.wire p i) (notices config w lost p i) some
 
   module _ (gone : is_lost lost p ≡ true) (none_coming : w.wire p i ≡ []) (node : Seen) (at : slice_get nodes i ≡ Some node)
@@ -114,7 +114,7 @@ module _ (config : Config) (nodes : List Seen) (w : TimedFrameWorld) (i p : ℕ)
 
     full_told : nat_le (sight_clock w i p) CLOCK_LIMIT ≡ false → see_refusal config u i p ≡ Some ClockFull
     full_told full =
-        (λ j. tests (there j) (cut j) (gone j) (is_drained (alone j)) (is_full (clock_after (w.node i).clock (alone j))))
+        (λ j. tests (there j) (cut j) (gone j) (way_is_drained (alone j)) (is_full (clock_after (w.node i).clock (alone j))))
         ∙ ap (λ b. tests true false true true (not b)) full
       where
         alone : coming ≡ last_notice (w.node p) ∷ []

@@ -17,7 +17,7 @@ use Rattle.pg_step.specs.Nodes.{Node}
 use Rattle.pg_node_state.specs.Sendable.{IsSendable, Ascends}
 use Rattle.pg_node_state.specs.States.{stamped_of}
 use Rattle.pg_frame_world.specs.declared.way.Way.{Way}
-use Rattle.pg_frame_world.specs.Views.{packets_of, packets_to, HasRoom, FitWays}
+use Rattle.pg_frame_world.specs.Views.{packets_of, packets_to, HasWayRoom, FitWays}
 use Rattle.pg_frame_world.proofs.Turning.{set_here, set_other}
 
 -- a message that is no exchange tells of no members
@@ -48,13 +48,13 @@ one_way ways k old new change within here is = map-set packets_of ways k new
 
 -- the ways at the places below one have room
 abbrev pub RoomBelow : ℕ → List Way → Type 0
-RoomBelow bound ways = (place : ℕ) (way : Way) → place < bound → slice_get ways place ≡ Some way → HasRoom way
+RoomBelow bound ways = (place : ℕ) (way : Way) → place < bound → slice_get ways place ≡ Some way → HasWayRoom way
 
-pub room_more : (ways : List Way) (k : ℕ) (new : Way) → HasRoom new → RoomBelow k ways → RoomBelow (k + 1) (slice_set ways k new)
+pub room_more : (ways : List Way) (k : ℕ) (new : Way) → HasWayRoom new → RoomBelow k ways → RoomBelow (k + 1) (slice_set ways k new)
 room_more ways k new room below place way l at = go (cases_eq place k)
   where
-    go : (place ≡ k) ⊎ (place ≢ k) → HasRoom way
-    go (inl e) = subst HasRoom (set_here ways k new way (subst (λ j. slice_get (slice_set ways k new) j ≡ Some way) e at)) room
+    go : (place ≡ k) ⊎ (place ≢ k) → HasWayRoom way
+    go (inl e) = subst HasWayRoom (set_here ways k new way (subst (λ j. slice_get (slice_set ways k new) j ≡ Some way) e at)) room
     go (inr n) = let ne : place ≢ k = n in below place way (omega (arith, l, ne)) (sym (set_other ways k place new n) ∙ at)
 
 -- ---- packets that are put on their ways
@@ -67,11 +67,11 @@ pub record Sending (start : List (List (Stamped Message))) (sends : List (ℕ ×
   pub least : ℕ
   pub apart : Ascends least rest
   pub each : AllByRecursion (IsSendable names) rest
-  pub room : (place : ℕ) (way : Way) → least ≤ place → slice_get ways place ≡ Some way → HasRoom way
+  pub room : (place : ℕ) (way : Way) → least ≤ place → slice_get ways place ≡ Some way → HasWayRoom way
   pub sent : (place : ℕ) → get_or (map packets_of ways) place [] ++ packets_to rest place ≡ get_or start place [] ++ packets_to sends place
 
 pub all_left : (ways : List Way) (sends rest : List (ℕ × Packet)) → rest ≡ sends → FitWays (length (map packets_of ways)) sends
-    → ((place : ℕ) (way : Way) → slice_get ways place ≡ Some way → HasRoom way) → Sending (map packets_of ways) sends ways rest
+    → ((place : ℕ) (way : Way) → slice_get ways place ≡ Some way → HasWayRoom way) → Sending (map packets_of ways) sends ways rest
 all_left ways sends rest all fit room = subst (Sending (map packets_of ways) sends ways) (sym all) (record {
   names = fit.0;
   peers = omega (arith, fit.1, length-map ways packets_of);
@@ -92,7 +92,7 @@ module _ (start : List (List (Stamped Message))) (ways : List Way) (sends others
   pub its_place : sent.0 < length ways
   its_place = omega (arith, sending.each.0.place, sending.peers)
 
-  pub its_room : (way : Way) → way ≡ get_or ways sent.0 way → HasRoom way
+  pub its_room : (way : Way) → way ≡ get_or ways sent.0 way → HasWayRoom way
   its_room way here = sending.room sent.0 way sending.apart.0 (slice_get_read ways (length ways) sent.0 way refl its_place here)
 
   pub its_short : IsShort (2 ^ 32) sent.1.message

@@ -24,7 +24,7 @@ use Rattle.pg_account.specs.Losses.{is_lost}
 use Rattle.pg_starts.specs.Seen.{Seen}
 use Rattle.pg_frame_world.specs.Views.{View, CanStay, peer_place, place_of_peer, on_the_way}
 use Rattle.pg_account.specs.Histories.{Account, account_formed}
-use Rattle.pg_frame_world.specs.Worlds.{TimedFrameWorld, Shows, ShowsNodes, ShowsUpdates}
+use Rattle.pg_frame_world.specs.Worlds.{TimedFrameWorld, ShowsWorld, ShowsNodes, ShowsUpdates}
 use Rattle.pg_frame_world.proofs.Lossy.{no_notice}
 use Rattle.pg_frame_world.proofs.Peering.{peer_low, peer_high, place_low, place_high, own_place, place_within}
 use Rattle.pg_frame_world.proofs.Turning.{pair_is, is_pair_so, pair_turned, way_at}
@@ -102,7 +102,7 @@ lost_still xs i x is = lost_more xs i x ∙ ap (λ b. b || nat_eq i x) is
 abbrev LossyWorld : Type 0
 LossyWorld = World (Timed State) (Stamped (Noticed Message)) Report
 
-module _ (config : Config) (old : View) (w : TimedFrameWorld) (lost : List ℕ) (i : ℕ) (keep : List ℕ) (shows : Shows config old w) (within : i < length config) where
+module _ (config : Config) (old : View) (w : TimedFrameWorld) (lost : List ℕ) (i : ℕ) (keep : List ℕ) (shows : ShowsWorld config old w) (within : i < length config) where
   -- the ways from the node
   abbrev ways : List (List (Stamped Message))
   ways = get_or old.traffic.ways i []
@@ -308,7 +308,7 @@ updates_formed formed account w shows = record { history = shows.history; applie
 
 -- ---- over packets
 
-module _ (config : Config) (old : View) (w : TimedFrameWorld) (lost : List ℕ) (i : ℕ) (keep : List ℕ) (shows : Shows config old w) where
+module _ (config : Config) (old : View) (w : TimedFrameWorld) (lost : List ℕ) (i : ℕ) (keep : List ℕ) (shows : ShowsWorld config old w) where
   pub nowhere_from : (y : ℕ) → is_pair (length config) i y ≡ false → w.wire i y ≡ []
   nowhere_from y none = shows.traffic.nodes.nowhere i y none
 
@@ -316,7 +316,7 @@ module _ (config : Config) (old : View) (w : TimedFrameWorld) (lost : List ℕ) 
   packets_cut = cut_off config w lost i (keep_of i keep) nowhere_from
 
   pub shown_cut : (new : View) (formed : Bool) → new.traffic.nodes ≡ old.traffic.nodes → new.account ≡ account_formed formed old.account
-      → ((k : ℕ) → way_at new.traffic i k ≡ take (get_or keep k 0) (way_at old.traffic i k)) → ((x k : ℕ) → x ≢ i → way_at new.traffic x k ≡ way_at old.traffic x k) → Shows config new packets_cut
+      → ((k : ℕ) → way_at new.traffic i k ≡ take (get_or keep k 0) (way_at old.traffic i k)) → ((x k : ℕ) → x ≢ i → way_at new.traffic x k ≡ way_at old.traffic x k) → ShowsWorld config new packets_cut
   shown_cut new formed nodes account here others = record {
     traffic = record {
       nodes = subst (λ ns. ShowsNodes config ns packets_cut) (sym nodes) (nodes_cut config w lost i (keep_of i keep) nowhere_from old.traffic.nodes shows.traffic.nodes);

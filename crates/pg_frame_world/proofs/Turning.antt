@@ -43,7 +43,7 @@ use Rattle.pg_frame_world.specs.Worlds.{AreAnswers, ShowsNodes, ShowsNode}
 use Rattle.pg_frame_world.specs.Worlds.{TimedFrameWorld, told, told_of_first, ComesTo}
 use Rattle.pg_frame_world.proofs.Counted.{sum_same, count_to, count_all}
 use Rattle.pg_frame_world.proofs.Peering.{peer_name, named, known, there_and_back, sent_to, sent_home}
-use Rattle.pg_account.specs.Histories.{asked_by}
+use Rattle.pg_account.specs.Histories.{update_asked_by}
 use Rattle.pg_frame_world.proofs.Applying.{take_applies, act_applies}
 use Rattle.pg_frame_world.proofs.Recording.{Records, records_so}
 use Rattle.pg_frame_world.proofs.Answering.{answers_own, answers_other, answers_given}
@@ -341,7 +341,7 @@ module _ (config : Config) (nodes : List Seen) (w : TimedFrameWorld) (i p : ℕ)
     module _ (nodes2 : List Seen) (after : Seen) (done : Done) (set : nodes2 ≡ slice_set nodes i after) (names : after.names ≡ node.names) (ports : after.ports ≡ node.ports)
         (fits : AreSendable node.names done.sends.items) where
       take_so : (t : TimedTurn) → step_take (whole_in node.names) (place_name node.names (peer_place i p + 1)) x node.state ≡ Ok t
-          → Happens node.names t done after.state node.answers after.answers → ComesTo config w (Take i p) (Ok (HasHappened (effect_by done))) (Left config nodes2 (Take i p) done.sends.items (asked_by x.packet) done.began w)
+          → Happens node.names t done after.state node.answers after.answers → ComesTo config w (Take i p) (Ok (HasHappened (effect_by done))) (Left config nodes2 (Take i p) done.sends.items (update_asked_by x.packet) done.began w)
       take_so t is happened =
           let turn = place_timed config t in
           let v = perform (without_input {C = Action} w (Take i p)) i turn in
@@ -359,7 +359,7 @@ module _ (config : Config) (nodes : List Seen) (w : TimedFrameWorld) (i p : ℕ)
               record {
                 nodes = shown_after config nodes nodes2 w (Take i p) node after t done shows turned fits v changes nowhere_taken;
                 ways = ways_after config nodes nodes2 w (Take i p) node after t done shows turned fits v changes;
-                records = records_so w v i (asked_by x.packet) t.reported done.began refl happened.told.began (take_applies (whole_in node.names) (place_name node.names (peer_place i p + 1)) x node.state t is);
+                records = records_so w v i (update_asked_by x.packet) t.reported done.began refl happened.told.began (take_applies (whole_in node.names) (place_name node.names (peer_place i p + 1)) x node.state t is);
               },
             ),
           )
@@ -369,10 +369,10 @@ module _ (config : Config) (nodes : List Seen) (w : TimedFrameWorld) (i p : ℕ)
 
       -- it happened
       pub take_left : Comes node.names (step_take (whole_in node.names) (place_name node.names (peer_place i p + 1)) x node.state) (Ok done) after.state node.answers after.answers
-          → ComesTo config w (Take i p) (Ok (HasHappened (effect_by done))) (Left config nodes2 (Take i p) done.sends.items (asked_by x.packet) done.began w)
+          → ComesTo config w (Take i p) (Ok (HasHappened (effect_by done))) (Left config nodes2 (Take i p) done.sends.items (update_asked_by x.packet) done.began w)
       take_left comes = go (step_take (whole_in node.names) (place_name node.names (peer_place i p + 1)) x node.state) refl comes
         where
           go : (r : Result TimedTurn Refusal) → step_take (whole_in node.names) (place_name node.names (peer_place i p + 1)) x node.state ≡ r
-              → Comes node.names r (Ok done) after.state node.answers after.answers → ComesTo config w (Take i p) (Ok (HasHappened (effect_by done))) (Left config nodes2 (Take i p) done.sends.items (asked_by x.packet) done.began w)
+              → Comes node.names r (Ok done) after.state node.answers after.answers → ComesTo config w (Take i p) (Ok (HasHappened (effect_by done))) (Left config nodes2 (Take i p) done.sends.items (update_asked_by x.packet) done.began w)
           go (Ok t) is h = take_so t is h
           go (Err refusal) is h = absurd (cc)

@@ -33,7 +33,7 @@ use Rattle.pg_account.specs.Losses.{is_lost, lost_in}
 use Rattle.pg_starts.specs.Seen.{Seen}
 use Rattle.pg_frame_world.specs.Effects.{losing_effect_in}
 use Rattle.pg_frame_world.specs.Views.{View, peer_place}
-use Rattle.pg_frame_world.specs.Worlds.{TimedFrameWorld, Shows}
+use Rattle.pg_frame_world.specs.Worlds.{TimedFrameWorld, ShowsWorld}
 use Rattle.pg_loss.specs.Reached.{LosingReaches}
 
 -- ---- the world with losses that a world shows
@@ -61,7 +61,7 @@ SeenAreLost config w lost = (i p : ℕ) → is_pair (length config) i p ≡ true
 -- Nodes and what is on the way between them, of which these are lost, are those of a world with losses.
 pub record ShowsLosing (config : Config) (view : View) (lost : List ℕ) (u : LosingFrameWorld) : Type 0 where
   pub frames : TimedFrameWorld
-  pub shows : Shows config view frames
+  pub shows : ShowsWorld config view frames
   pub seen : SeenAreLost config frames lost
   pub is : u ≡ losing_of config frames lost
 

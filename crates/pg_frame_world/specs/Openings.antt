@@ -26,8 +26,8 @@ abbrev pub TellsNames : Table → Type 0
 TellsNames table = (groups : GroupList) → IsSnapshot table groups → are_names groups ≡ true
 
 -- what a node tells of its groups as it begins fits into a frame
-abbrev pub Fits : Seen → Type 0
-Fits node = (packet : Packet) × IsAnnouncement node.state.state.table (name_at node.names 0) packet × FitsFrame packet
+abbrev pub FitsOpening : Seen → Type 0
+FitsOpening node = (packet : Packet) × IsAnnouncement node.state.state.table (name_at node.names 0) packet × FitsFrame packet
 
 -- it takes more than one
 abbrev pub IsTooLong : Seen → Type 0
@@ -52,7 +52,7 @@ SomeCantOpen nodes fault = ⊥
 
 -- what each node of a configuration tells as it begins fits into a frame
 abbrev pub AllFit : Config → Type 0
-AllFit config = (i : ℕ) → i < length config → Fits (seen_first config i)
+AllFit config = (i : ℕ) → i < length config → FitsOpening (seen_first config i)
 
 -- The nodes of a configuration can start: they are 16 at most, their names differ, each has made as many processes as a node may
 -- and tells each group once, by a name that can be sent, with at most 2^32 members.

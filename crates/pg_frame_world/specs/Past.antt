@@ -89,7 +89,7 @@ pub record LedOn (given : Config) (Shown : Config → LosingFrameWorld → Type 
 -- What a step made of a world: what came of it in the world u to which its past led, and the past of what it left, which has one event
 -- more at most. Old and New: what the code's world shows before and after; Comes: what comes of the step in a world, which leads to
 -- worlds that are so.
-pub record GoesOn (given : Config) (Old New : Config → LosingFrameWorld → Type 0) (Comes : Config → LosingFrameWorld → (LosingFrameWorld → Type 0) → Type 0) : Type 0 where
+pub record PastGoesOn (given : Config) (Old New : Config → LosingFrameWorld → Type 0) (Comes : Config → LosingFrameWorld → (LosingFrameWorld → Type 0) → Type 0) : Type 0 where
   pub config : Config
   pub events : List (LosingEvent Action)
   pub u : LosingFrameWorld
@@ -117,7 +117,7 @@ HistoriesGrow old new = (name : Term) → take (length (old.histories name)) (ne
 -- what a step made of them
 abbrev pub FramesGoOn : Config → View → List ℕ → FrameStep → Result Stepped NodeFault → View → List ℕ → Type 0
 FramesGoOn given old lost step result new now =
-    GoesOn given (λ config u. ShowsLosing config old lost u) (λ config u. ShowsLosing config new now u) (λ config u Shown. LosingComesTo config u (told_of config u step) result Shown)
+    PastGoesOn given (λ config u. ShowsLosing config old lost u) (λ config u. ShowsLosing config new now u) (λ config u Shown. LosingComesTo config u (told_of config u step) result Shown)
 
 -- what steps made of them, one after another
 abbrev pub FramesRunOn : Config → View → List ℕ → List FrameStep → List ℕ → View → List ℕ → Type 0

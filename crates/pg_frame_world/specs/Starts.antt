@@ -19,7 +19,7 @@ use Rattle.pg_starts.specs.Seen.{Seen}
 use Rattle.pg_frame_world.specs.Fitting.{FitsFrame}
 use Rattle.pg_starts.specs.Seen.{Seen}
 use Rattle.pg_frame_world.specs.Views.{View}
-use Rattle.pg_frame_world.specs.Worlds.{Shows}
+use Rattle.pg_frame_world.specs.Worlds.{ShowsWorld}
 
 -- ---- the packets
 
@@ -61,4 +61,4 @@ Orders given config = ⊥
 
 -- a world shows the start of a configuration, with the groups of each node in order
 abbrev pub Begins : Config → View → Type 0
-Begins given view = (config : Config) × Orders given config × Shows config view (start_of (frame_machine config))
+Begins given view = (config : Config) × Orders given config × ShowsWorld config view (start_of (frame_machine config))

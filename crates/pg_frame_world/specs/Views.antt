@@ -22,21 +22,21 @@ abbrev pub packets_of : Way → List (Stamped Message)
 packets_of way = map stamped_of way.packets.items
 
 -- one more packet needs no memory
-abbrev pub HasRoom : Way → Type 0
-HasRoom way = deque_len way.packets < deque_capacity way.packets
+abbrev pub HasWayRoom : Way → Type 0
+HasWayRoom way = deque_len way.packets < deque_capacity way.packets
 
 -- the packets on the way to each peer, by the places of the peers
 abbrev pub ways_of : Outgoing → List (List (Stamped Message))
 ways_of outgoing = map packets_of outgoing.ways.items
 
 -- one more packet to each peer needs no memory
-abbrev pub HaveRoom : Outgoing → Type 0
-HaveRoom outgoing = (place : ℕ) (way : Way) → slice_get outgoing.ways.items place ≡ Some way → HasRoom way
+abbrev pub HaveWayRoom : Outgoing → Type 0
+HaveWayRoom outgoing = (place : ℕ) (way : Way) → slice_get outgoing.ways.items place ≡ Some way → HasWayRoom way
 
 -- the first of some packets
-abbrev pub first_of : List (Stamped Message) → Option (Stamped Message)
-first_of [] = None
-first_of (x ∷ rest) = Some x
+abbrev pub next_packet_of : List (Stamped Message) → Option (Stamped Message)
+next_packet_of [] = None
+next_packet_of (x ∷ rest) = Some x
 
 -- the packets that go to a place
 abbrev pub packets_to : List (ℕ × Packet) → ℕ → List (Stamped Message)

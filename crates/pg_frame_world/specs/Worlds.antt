@@ -82,7 +82,7 @@ pub record ShowsUpdates (account : Account) (w : TimedFrameWorld) : Type 0 where
   pub marked : (i : ℕ) (name : Term) → i < 16 → account.marked i name ≡ marks i name w.reported
 
 -- a world shows a frame world of a configuration: its nodes, what is on the way, and its updates
-pub record Shows (config : Config) (view : View) (w : TimedFrameWorld) : Type 0 where
+pub record ShowsWorld (config : Config) (view : View) (w : TimedFrameWorld) : Type 0 where
   pub traffic : ShowsTraffic config view.traffic w
   pub updates : ShowsUpdates view.account w
 

@@ -82,7 +82,7 @@ impl<T: GroupTable + Drop> FrameWorld<T> {
     ghost use Rattle.pg_frame_world.specs.Pending.{AgreeOn, pending_of, sees_free};
     ghost use Rattle.pg_starts.specs.Seen.{seen_of};
     ghost use Rattle.pg_frame_world.specs.Views.{on_the_way};
-    ghost use Rattle.pg_frame_world.specs.Worlds.{TimedFrameWorld, Shows, StepComesTo};
+    ghost use Rattle.pg_frame_world.specs.Worlds.{TimedFrameWorld, ShowsWorld, StepComesTo};
 
     /// The same world: it is seen as the same, and the same nodes are lost. The caller lends the configuration from
     /// which it began.
@@ -150,7 +150,7 @@ impl<T: GroupTable + Drop> FrameWorld<T> {
     /// Cost: no memory; O(log n) in the names that have a holder there.
     pub fn lock_free(&self, node: usize, name: &Term) -> bool
         ensures sees { result ≡ sees_free (traffic_of self.now).nodes node name.now }
-        ensures free { node < length (traffic_of self.now).nodes → (config : Configuration) (w : TimedFrameWorld) → Shows config (view_of self.now) w
+        ensures free { node < length (traffic_of self.now).nodes → (config : Configuration) (w : TimedFrameWorld) → ShowsWorld config (view_of self.now) w
             → IsTrue result ↔ LockFree (plain w) node name.now }
         ensures applied { IsTrue result → lost_of self.now ≡ [] → (i : ℕ) → i < length (traffic_of self.now).nodes
             → (view_of self.now).account.applied i name.now ≡ length ((view_of self.now).account.histories name.now) }
@@ -162,7 +162,7 @@ impl<T: GroupTable + Drop> FrameWorld<T> {
     fn sees_free(&self, node: usize, name: &Term) -> bool
         requires place { node < length (traffic_of self.now).nodes }
         ensures sees { result ≡ sees_free (traffic_of self.now).nodes node name.now }
-        ensures free { (config : Configuration) (w : TimedFrameWorld) → Shows config (view_of self.now) w
+        ensures free { (config : Configuration) (w : TimedFrameWorld) → ShowsWorld config (view_of self.now) w
             → IsTrue result ↔ LockFree (plain w) node name.now }
         ensures applied { IsTrue result → lost_of self.now ≡ [] → (i : ℕ) → i < length (traffic_of self.now).nodes
             → (view_of self.now).account.applied i name.now ≡ length ((view_of self.now).account.histories name.now) }
@@ -264,8 +264,8 @@ impl<T: GroupTable + Drop> FrameWorld<T> {
         ensures goes_on { ∥ FramesGoOn (given_of self.old) (view_of self.old) (lost_of self.old) step.now result (view_of self.new) (lost_of self.new) ∥₁ }
         ensures grows { HistoriesGrow (view_of self.old).account (view_of self.new).account }
         ensures given { given_of self.new ≡ given_of self.old }
-        ensures event { (config : Configuration) (w : TimedFrameWorld) → lost_of self.old ≡ [] → Shows config (view_of self.old) w
-            → StepComesTo config w step.now result (Shows config (view_of self.new)) }
+        ensures event { (config : Configuration) (w : TimedFrameWorld) → lost_of self.old ≡ [] → ShowsWorld config (view_of self.old) w
+            → StepComesTo config w step.now result (ShowsWorld config (view_of self.new)) }
         ensures losing { (config : Configuration) (u : LosingFrameWorld) → ShowsLosing config (view_of self.old) (lost_of self.old) u
             → LosingComesTo config u (told_of config u step.now) result (ShowsLosing config (view_of self.new) (lost_of self.new)) }
         ensures lost { lost_of self.new ≡ lost_after step.now result (lost_of self.old) }

@@ -8,7 +8,7 @@ ghost use Rattle.pg_frame_world.specs.Losing.{ShowsLosing as shows_losing};
 ghost use Rattle.pg_frame_world.specs.LosingRuns.{RanLosing, packets_past_losses as over_packets_past};
 ghost use Rattle.pg_frame_world.specs.Openings.{AllFit, CantBegin};
 ghost use Rattle.pg_frame_world.specs.Runs.{Ran, LosesNone as NoneIsLost, over_packets};
-ghost use Rattle.pg_frame_world.specs.Worlds.{Shows as shows_frames};
+ghost use Rattle.pg_frame_world.specs.Worlds.{ShowsWorld as shows_frames};
 
 use crate::frame_world::FrameWorld;
 use crate::step::FrameStep;
@@ -26,7 +26,7 @@ impl<T: GroupTable + Drop> FrameWorld<T> {
     ghost use Rattle.pg_frame_world.specs.Losing.{ShowsLosing};
     ghost use Rattle.pg_frame_world.specs.LosingRuns.{LosingStepsTo, LosingGoesTo, packets_past_losses};
     ghost use Rattle.pg_frame_world.specs.Past.{FramesRunOn, HistoriesGrow};
-    ghost use Rattle.pg_frame_world.specs.Worlds.{is_loss, TimedFrameWorld, Shows};
+    ghost use Rattle.pg_frame_world.specs.Worlds.{is_loss, TimedFrameWorld, ShowsWorld};
 
     /// Makes steps, one after another, and writes the number of each in its place: 0 where it happened, or nothing
     /// was on the way; else that of its fault. A step that is refused changes nothing, and the others follow.
@@ -41,8 +41,8 @@ impl<T: GroupTable + Drop> FrameWorld<T> {
         ensures runs_on { ∥ FramesRunOn (given_of self.old) (view_of self.old) (lost_of self.old) steps.now numbers.new.items (view_of self.new) (lost_of self.new) ∥₁ }
         ensures grows { HistoriesGrow (view_of self.old).account (view_of self.new).account }
         ensures given { given_of self.new ≡ given_of self.old }
-        ensures ran { lost_of self.new ≡ [] → (config : Configuration) (w : TimedFrameWorld) → Shows config (view_of self.old) w
-            → GoesTo over_packets config w steps.now numbers.new.items (Shows config (view_of self.new)) }
+        ensures ran { lost_of self.new ≡ [] → (config : Configuration) (w : TimedFrameWorld) → ShowsWorld config (view_of self.old) w
+            → GoesTo over_packets config w steps.now numbers.new.items (ShowsWorld config (view_of self.new)) }
         ensures lost { LosesNone steps.now → lost_of self.new ≡ lost_of self.old }
         ensures losing { (config : Configuration) (u : LosingFrameWorld) → ShowsLosing config (view_of self.old) (lost_of self.old) u
             → LosingGoesTo packets_past_losses config u steps.now numbers.new.items (ShowsLosing config (view_of self.new) (lost_of self.new)) }
@@ -57,8 +57,8 @@ impl<T: GroupTable + Drop> FrameWorld<T> {
     /// Makes one step, and gives its number.
     fn step_number(&mut self, step: &FrameStep) -> u8
         ensures given { given_of self.new ≡ given_of self.old }
-        ensures steps { lost_of self.new ≡ [] → (config : Configuration) (w : TimedFrameWorld) → Shows config (view_of self.old) w
-            → StepsTo over_packets config w step.now result (Shows config (view_of self.new)) }
+        ensures steps { lost_of self.new ≡ [] → (config : Configuration) (w : TimedFrameWorld) → ShowsWorld config (view_of self.old) w
+            → StepsTo over_packets config w step.now result (ShowsWorld config (view_of self.new)) }
         ensures lost { is_loss step.now ≡ false → lost_of self.new ≡ lost_of self.old }
         ensures unlost { lost_of self.new ≡ [] → lost_of self.old ≡ [] }
         ensures losing { (config : Configuration) (u : LosingFrameWorld) → ShowsLosing config (view_of self.old) (lost_of self.old) u

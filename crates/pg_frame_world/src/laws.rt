@@ -16,7 +16,7 @@ ghost use Rattle.pg_loss.specs.Reached.{LosingReaches};
 ghost use Rattle.pg_config.specs.declared.fault.WorldFault.{WorldFault};
 ghost use Rattle.pg_config.specs.declared.fault.WorldFault.TheVariants.{OutOfMemory};
 ghost use Rattle.pg_frame_world.specs.Losing.{losing_of};
-ghost use Rattle.pg_frame_world.specs.Openings.{AllFit, CanBegin, CantBegin, Fits, SomeIsTooLong, are_few, have_few};
+ghost use Rattle.pg_frame_world.specs.Openings.{AllFit, CanBegin, CantBegin, FitsOpening, SomeIsTooLong, are_few, have_few};
 ghost use Rattle.pg_frame_world.specs.Pending.{IsPending, pending_of};
 ghost use Rattle.pg_starts.specs.Firsts.{seen_first};
 ghost use Rattle.pg_frame_world.specs.Starts.{Orders};
@@ -52,7 +52,7 @@ pub fn refusals_are_exact()
 /// So `FrameWorld::new` and `World::new` give `TooLong` exactly where a configuration has no fault and what a node announces does not fit,
 /// unless memory runs out.
 pub fn long_groups_do_not_fit()
-    ensures each { (config : Config) (i : ℕ) → Fits (seen_first config i) → are_few (groups_at config i) ≡ true }
+    ensures each { (config : Config) (i : ℕ) → FitsOpening (seen_first config i) → are_few (groups_at config i) ≡ true }
     ensures all { (config : Config) → AllFit config → have_few config ≡ true }
     ensures too_long { (config : Config) → SomeIsTooLong config → AllFit config → ⊥ }
 {}

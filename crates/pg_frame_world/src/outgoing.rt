@@ -24,7 +24,7 @@ pub(crate) struct Outgoing {
 
 impl Outgoing {
     ghost use Rattle.pg_frame_world.specs.Alike.{without_stamps};
-    ghost use Rattle.pg_frame_world.specs.Views.{ways_of, first_of, packets_to, CanStay, HaveRoom, FitWays};
+    ghost use Rattle.pg_frame_world.specs.Views.{ways_of, next_packet_of, packets_to, CanStay, HaveWayRoom, FitWays};
 
     /// Nothing is on the way to so many peers. One allocation.
     ///
@@ -98,7 +98,7 @@ impl Outgoing {
     /// Errors: `AllocError`, which changes nothing.
     pub(crate) fn make_room(&mut self) -> Result<(), AllocError>
         ensures same { ways_of self.new ≡ ways_of self.old }
-        ensures room { OnOk result (HaveRoom self.new) }
+        ensures room { OnOk result (HaveWayRoom self.new) }
     {
         for place in 0..self.ways.len() {
             let way = &mut self.ways[place];
@@ -111,7 +111,7 @@ impl Outgoing {
     /// no memory.
     pub(crate) fn send_all(&mut self, done: Done) -> Option<(OpId, Update)>
         requires fit { FitWays (length (ways_of self.old)) done.sends.items }
-        requires room { HaveRoom self.old }
+        requires room { HaveWayRoom self.old }
         ensures len { length (ways_of self.new) ≡ length (ways_of self.old) }
         ensures sent { (place : ℕ) → get_or (ways_of self.new) place []
             ≡ get_or (ways_of self.old) place [] ++ packets_to done.sends.items place }
@@ -129,7 +129,7 @@ impl Outgoing {
     /// Cost: no memory.
     pub(crate) fn first(&self, peer: usize) -> Option<&Packet>
         requires place { peer < length (ways_of self.now) }
-        ensures first { option_map stamped_of (option_copied result) ≡ first_of (get_or (ways_of self.now) peer []) }
+        ensures first { option_map stamped_of (option_copied result) ≡ next_packet_of (get_or (ways_of self.now) peer []) }
         ensures short { (packet : Packet) → option_copied result ≡ Some packet → IsShort (2 ^ 32) packet.message }
     {
         let way = &self.ways[peer];

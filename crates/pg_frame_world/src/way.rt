@@ -20,7 +20,7 @@ pub(crate) struct Way {
 }
 
 impl Way {
-    ghost use Rattle.pg_frame_world.specs.Views.{packets_of, first_of, HasRoom};
+    ghost use Rattle.pg_frame_world.specs.Views.{packets_of, next_packet_of, HasWayRoom};
     ghost use Rattle.pg_machine.specs.Clocked.{packets_of as unstamped};
     ghost use Rattle.pg_node_state.specs.States.{stamped_of};
 
@@ -86,7 +86,7 @@ impl Way {
     /// Errors: `AllocError`, which changes nothing.
     pub(crate) fn reserve(&mut self) -> Result<(), AllocError>
         ensures same { packets_of self.new ≡ packets_of self.old }
-        ensures room { OnOk result (HasRoom self.new) }
+        ensures room { OnOk result (HasWayRoom self.new) }
     {
         self.packets.reserve(1)
     }
@@ -96,7 +96,7 @@ impl Way {
     /// Cost: no memory.
     pub(crate) fn send(&mut self, packet: Packet)
         requires short { IsShort (2 ^ 32) packet.message }
-        requires room { HasRoom self.old }
+        requires room { HasWayRoom self.old }
         ensures { packets_of self.new ≡ packets_of self.old ++ stamped_of packet ∷ [] }
     {
         self.packets.push_back_reserved(packet);
@@ -106,7 +106,7 @@ impl Way {
     ///
     /// Cost: no memory.
     pub(crate) fn first(&self) -> Option<&Packet>
-        ensures first { option_map stamped_of (option_copied result) ≡ first_of (packets_of self.now) }
+        ensures first { option_map stamped_of (option_copied result) ≡ next_packet_of (packets_of self.now) }
         ensures short { (packet : Packet) → option_copied result ≡ Some packet → IsShort (2 ^ 32) packet.message }
     {
         self.packets.front()

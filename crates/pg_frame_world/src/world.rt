@@ -40,7 +40,7 @@ impl<T: GroupTable + Drop> FrameNodes<T> {
     ghost use Rattle.pg_step.specs.Step.{Issue, Retry};
     ghost use Rattle.pg_account.specs.Histories.{IsSettled};
     ghost use Rattle.pg_frame_world.specs.Worlds.{traffic_of, view_of, has_port, has_places};
-    ghost use Rattle.pg_frame_world.specs.Worlds.{TimedFrameWorld, Shows, ComesTo, StepComesTo};
+    ghost use Rattle.pg_frame_world.specs.Worlds.{TimedFrameWorld, ShowsWorld, ComesTo, StepComesTo};
     ghost use Rattle.pg_step.specs.LossLaws.{LosingFrameWorld};
     ghost use Rattle.pg_frame_world.specs.Losing.{lost_of, lost_after, formed_after, told_of, ShowsLosing, LosingComesTo};
 
@@ -78,8 +78,8 @@ impl<T: GroupTable + Drop> FrameNodes<T> {
     /// is on the way; `ClockFull`. `Lose`: `NoSuchPlace`, also where `keep` has not one number for each peer;
     /// `NodeLost`; `NoSuchPlace` where more should stay than are on the way.
     pub(crate) fn step(&mut self, step: &FrameStep) -> Result<Stepped, NodeFault>
-        ensures event { (config : Config) (w : TimedFrameWorld) → lost_of self.old ≡ [] → Shows config (view_of self.old) w
-            → StepComesTo config w step.now result (Shows config (view_of self.new)) }
+        ensures event { (config : Config) (w : TimedFrameWorld) → lost_of self.old ≡ [] → ShowsWorld config (view_of self.old) w
+            → StepComesTo config w step.now result (ShowsWorld config (view_of self.new)) }
         ensures losing { (config : Config) (u : LosingFrameWorld) → ShowsLosing config (view_of self.old) (lost_of self.old) u
             → LosingComesTo config u (told_of config u step.now) result (ShowsLosing config (view_of self.new) (lost_of self.new)) }
         ensures lost { lost_of self.new ≡ lost_after step.now result (lost_of self.old) }
@@ -162,8 +162,8 @@ impl<T: GroupTable + Drop> FrameNodes<T> {
     fn take(&mut self, node: usize, peer: usize) -> Result<Stepped, NodeFault>
         requires settled { IsSettled self.old.histories }
         requires pair { is_pair (length (traffic_of self.old).nodes) node peer ≡ true }
-        ensures event { (config : Config) (w : TimedFrameWorld) → Shows config (view_of self.old) w
-            → ComesTo config w (Take node peer) result (Shows config (view_of self.new)) }
+        ensures event { (config : Config) (w : TimedFrameWorld) → ShowsWorld config (view_of self.old) w
+            → ComesTo config w (Take node peer) result (ShowsWorld config (view_of self.new)) }
         ensures nothing { result ≡ Ok Stepped.Nothing → view_of self.new ≡ view_of self.old }
         ensures err { OnErr result (view_of self.new ≡ view_of self.old) }
         ensures lost { lost_of self.new ≡ lost_of self.old }
@@ -203,8 +203,8 @@ impl<T: GroupTable + Drop> FrameNodes<T> {
     fn command(&mut self, node: usize, port: u16, command: &Command) -> Result<Stepped, NodeFault>
         requires settled { IsSettled self.old.histories }
         requires port { has_port (traffic_of self.old).nodes node port ≡ true }
-        ensures event { (config : Config) (w : TimedFrameWorld) → Shows config (view_of self.old) w
-            → ComesTo config w (Do node (Issue port command.now)) result (Shows config (view_of self.new)) }
+        ensures event { (config : Config) (w : TimedFrameWorld) → ShowsWorld config (view_of self.old) w
+            → ComesTo config w (Do node (Issue port command.now)) result (ShowsWorld config (view_of self.new)) }
         ensures happens { result ≢ Ok Stepped.Nothing }
         ensures err { OnErr result (view_of self.new ≡ view_of self.old) }
         ensures lost { lost_of self.new ≡ lost_of self.old }
@@ -231,8 +231,8 @@ impl<T: GroupTable + Drop> FrameNodes<T> {
     fn retry(&mut self, node: usize, op: OpId) -> Result<Stepped, NodeFault>
         requires settled { IsSettled self.old.histories }
         requires port { has_port (traffic_of self.old).nodes node op.port ≡ true }
-        ensures event { (config : Config) (w : TimedFrameWorld) → Shows config (view_of self.old) w
-            → ComesTo config w (Do node (Retry op)) result (Shows config (view_of self.new)) }
+        ensures event { (config : Config) (w : TimedFrameWorld) → ShowsWorld config (view_of self.old) w
+            → ComesTo config w (Do node (Retry op)) result (ShowsWorld config (view_of self.new)) }
         ensures happens { result ≢ Ok Stepped.Nothing }
         ensures err { OnErr result (view_of self.new ≡ view_of self.old) }
         ensures lost { lost_of self.new ≡ lost_of self.old }

@@ -123,8 +123,8 @@ abbrev pub command_at : ℕ → OpId → List (Event Action) → Option Command
 command_at i op es = cond (nat_eq op.number 0) None (slice_get (issued i op.port es) (op.number - 1))
 
 -- the answers given at the ports of a node, each with the number of its command, the earliest first
-abbrev pub Answers : Type 0
-Answers = ℕ → List (ℕ × Response)
+abbrev pub AnswerList : Type 0
+AnswerList = ℕ → List (ℕ × Response)
 
 -- the answer that a turn gave, where it is one of this port
 abbrev pub answer_at : ℕ → Option (OpId × Response) → List (ℕ × Response)
@@ -136,19 +136,19 @@ abbrev pub answer_by : ℕ → ℕ → ℕ × Report → List (ℕ × Response)
 answer_by i port t = cond (nat_eq t.0 i) (answer_at port t.1.gave) []
 
 -- the answers that node i gave
-abbrev pub answers_by : ℕ → List (ℕ × Report) → Answers
+abbrev pub answers_by : ℕ → List (ℕ × Report) → AnswerList
 answers_by i reported port = all_reported (answer_by i port) reported
 
 -- a command was answered, by whatever reply
-abbrev pub has_answer : OpId → Answers → Bool
+abbrev pub has_answer : OpId → AnswerList → Bool
 has_answer op answers = list_any (λ a. nat_eq a.0 op.number) (answers op.port)
 
 -- how many answers a command has
-abbrev pub answers_to : OpId → Answers → ℕ
+abbrev pub answers_to : OpId → AnswerList → ℕ
 answers_to op answers = count_by (λ a. nat_eq a.0 op.number) (answers op.port)
 
 -- an answer of a command is ok
-abbrev pub IsAnsweredOk : OpId → Answers → Type 0
+abbrev pub IsAnsweredOk : OpId → AnswerList → Type 0
 IsAnsweredOk op answers = Contains (answers op.port) (op.number, Given reply.Ok)
 
 -- What is answered ok behind a lock alone: a delete, a join, a leave. A create may be answered ok by the look, and all

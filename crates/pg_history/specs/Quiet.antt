@@ -55,8 +55,8 @@ abbrev pub peer_count : Config → ℕ
 peer_count config = length config - 1
 
 -- no clock is nearer to its limit than so many events
-abbrev pub HasRoom : Config → TimedFrameWorld → ℕ → Type 0
-HasRoom config w events = (i : ℕ) → is_place (length config) i ≡ true → (w.node i).clock + events ≤ CLOCK_LIMIT
+abbrev pub HasClockRoom : Config → TimedFrameWorld → ℕ → Type 0
+HasClockRoom config w events = (i : ℕ) → is_place (length config) i ≡ true → (w.node i).clock + events ≤ CLOCK_LIMIT
 
 -- What a retry of a command of node i in a quiet world has come to once so many packets were taken behind it.
 pub record RetryGoes (config : Config) (i : ℕ) (op : OpId) (count : ℕ) (v : TimedFrameWorld) : Type 0 where

@@ -22,11 +22,11 @@ pub record ReferencesFit (s : State) : Type 0 where
 
 -- What a reference may be used for after it was used so. It asks for the lock of an update, then owns the lock, or has the
 -- update go out; in the end it is spent, and stays so.
-abbrev pub Follows : Use → Use → Type 0
-Follows Fresh later = Unit {0}
-Follows (Locking op u lead st) (Locking other v next later) = (op ≡ other) × (u ≡ v)
-Follows (Locking op u lead st) (Owning name n) = name ≡ name_of u
-Follows (Owning name n) (Owning other k) = (name ≡ other) × (n ≡ k)
-Follows (Updating op u c replied) (Updating other v d later) = (op ≡ other) × (u ≡ v) × (c ≡ d)
-Follows used Spent = Unit {0}
-Follows used later = ⊥
+abbrev pub UseFollows : Use → Use → Type 0
+UseFollows Fresh later = Unit {0}
+UseFollows (Locking op u lead st) (Locking other v next later) = (op ≡ other) × (u ≡ v)
+UseFollows (Locking op u lead st) (Owning name n) = name ≡ name_of u
+UseFollows (Owning name n) (Owning other k) = (name ≡ other) × (n ≡ k)
+UseFollows (Updating op u c replied) (Updating other v d later) = (op ≡ other) × (u ≡ v) × (c ≡ d)
+UseFollows used Spent = Unit {0}
+UseFollows used later = ⊥

@@ -25,13 +25,13 @@ ghost use Rattle.pg_step.specs.FrameMachine.{node_step, frame_machine, losing_fr
 ghost use Rattle.pg_history.specs.Counted.{is_open};
 ghost use Rattle.pg_history.specs.History.{LockFree, is_formed, history, updates_of, applied_count, applied_by};
 ghost use Rattle.pg_history.specs.Fresh.{MakesFresh};
-ghost use Rattle.pg_history.specs.Quiet.{AllFormed, HasRoom, IsQuiet, NoLockHeld, NoneOpen, NothingUnderWay, OnlyTakes};
+ghost use Rattle.pg_history.specs.Quiet.{AllFormed, HasClockRoom, IsQuiet, NoLockHeld, NoneOpen, NothingUnderWay, OnlyTakes};
 ghost use Rattle.pg_history.specs.Quiet.{OnlyTakesAndRetries, RetryGoes, most_events, most_takes, peer_count};
 ghost use Rattle.pg_history.specs.Headline.{OneHistory, HoldsAnswered, AppliesHistory, HasTables, HarmsNobody, GoesOn};
 ghost use Rattle.pg_history.specs.Exclusive.{ExclusiveLocks};
 ghost use Rattle.pg_history.specs.RealTime.{InRealTime};
 ghost use Rattle.pg_history.specs.Reached.{TimedFrameWorld, Reaches, HasEndedAt, FinishedAt};
-ghost use Rattle.pg_history.specs.ReferencesFit.{ReferencesFit, Follows};
+ghost use Rattle.pg_history.specs.ReferencesFit.{ReferencesFit, UseFollows};
 ghost use Rattle.pg_history.specs.Sent.{ends_in, exchanges_in, is_reply};
 
 /// One history of each group. In every world that the nodes of a configuration with different names come to, whatever
@@ -239,7 +239,7 @@ pub fn references_have_one_use()
         → Reaches config events w → ReferencesFit ((plain w).node i) }
     ensures later { (config : Config) (w v : TimedFrameWorld) (before events : List (Event Action)) (i c : ℕ)
         → Reaches config before w → Leads (frame_machine config) w events v
-        → Follows (((plain w).node i).uses c) (((plain v).node i).uses c) }
+        → UseFollows (((plain w).node i).uses c) (((plain v).node i).uses c) }
 {}
 
 /// A node makes two references at an event at most, so that its clock is full by the time its 2^31 references are made.
@@ -261,12 +261,12 @@ pub fn a_world_comes_to_rest()
         → length takes ≤ most_takes config (plain w) }
     ensures goes_on { (config : Config) (w : TimedFrameWorld) (events : List (Event Action))
         (x y : ℕ) (packet : Stamped Message) (rest : List (Stamped Message))
-        → IsDistinct same_atom (names_of config) → Reaches config events w → HasRoom config w 1
+        → IsDistinct same_atom (names_of config) → Reaches config events w → HasClockRoom config w 1
         → is_pair (length config) x y ≡ true → w.wire x y ≡ packet ∷ rest
         → (v : TimedFrameWorld) × (happens (frame_machine config) w (Take y x) ≡ Some v) }
     ensures rests { (config : Config) (w : TimedFrameWorld) (events : List (Event Action))
         → IsDistinct same_atom (names_of config) → Reaches config events w
-        → HasRoom config w (most_takes config (plain w))
+        → HasClockRoom config w (most_takes config (plain w))
         → (takes : List (Event Action)) × (v : TimedFrameWorld) × OnlyTakes takes
         × Leads (frame_machine config) w takes v × IsQuiet config (plain v) }
 {}
@@ -303,12 +303,12 @@ pub fn a_retry_is_answered()
     ensures begins { (config : Config) (w : TimedFrameWorld) (events : List (Event Action)) (i : ℕ) (op : OpId)
         → IsDistinct same_atom (names_of config) → Reaches config events w → IsQuiet config (plain w)
         → is_place (length config) i ≡ true → is_open (((plain w).node i).stages op) ≡ true
-        → HasRoom config w 1
+        → HasClockRoom config w 1
         → (v : TimedFrameWorld) × (happens (frame_machine config) w (Do i (Retry op)) ≡ Some v) }
     ensures goes { (config : Config) (w v : TimedFrameWorld) (events takes : List (Event Action)) (i : ℕ) (op : OpId)
         → IsDistinct same_atom (names_of config) → Reaches config events w → IsQuiet config (plain w)
         → is_place (length config) i ≡ true → is_open (((plain w).node i).stages op) ≡ true
-        → HasRoom config w (1 + 5 * peer_count config)
+        → HasClockRoom config w (1 + 5 * peer_count config)
         → OnlyTakes takes → Leads (frame_machine config) w (Do i (Retry op) ∷ takes) v
         → RetryGoes config i op (length takes) v }
 {}
@@ -318,7 +318,7 @@ pub fn a_retry_is_answered()
 pub fn every_command_can_be_answered()
     ensures { (config : Config) (w : TimedFrameWorld) (events : List (Event Action))
         → IsDistinct same_atom (names_of config) → Reaches config events w
-        → HasRoom config w (most_events config (plain w))
+        → HasClockRoom config w (most_events config (plain w))
         → (more : List (Event Action)) × (v : TimedFrameWorld) × OnlyTakesAndRetries more
         × Leads (frame_machine config) w more v × NoneOpen config (plain v) × IsQuiet config (plain v) }
 {}

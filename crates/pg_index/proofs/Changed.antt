@@ -16,35 +16,35 @@ use Rattle.pg_group.proofs.Merges.{raised, between_so_far}
 use Rattle.pg_members.specs.declared.row.Row.{Row}
 use Rattle.pg_members.specs.Rows.{counts_of}
 use Rattle.pg_index.specs.Groups.{Numbered, is_used, counts_changed, IsPartlyRaised}
-use Rattle.pg_index.specs.Listings.{marked, AreListed}
+use Rattle.pg_index.specs.Listings.{listed_as, AreListed}
 use Rattle.pg_index.proofs.Numbers.{number_is, number_itself}
 use Rattle.pg_index.proofs.Listed.{marked_same}
 use Rattle.pg_index.proofs.Dropped.{changed_elsewhere, changed_of_others}
 
 module _ (listed : Pid → ℕ → Bool) (pid : Pid) (group : ℕ) (b : Bool) where
-  pub marked_here : marked listed pid group b pid group ≡ b
+  pub marked_here : listed_as listed pid group b pid group ≡ b
   marked_here =
       ap (λ f. f group) (upd_at same_pid listed pid (upd nat_eq (listed pid) group b) (pid_laws.laws-law.refl pid))
       ∙ upd_at nat_eq (listed pid) group b (number_itself group)
 
-  pub marked_of_others : (q : Pid) (n : ℕ) → same_pid pid q ≡ false → marked listed pid group b q n ≡ listed q n
+  pub marked_of_others : (q : Pid) (n : ℕ) → same_pid pid q ≡ false → listed_as listed pid group b q n ≡ listed q n
   marked_of_others q n e = ap (λ f. f n) (upd_other same_pid listed pid (upd nat_eq (listed pid) group b) q e)
 
-  pub marked_elsewhere : (n : ℕ) → nat_eq group n ≡ false → marked listed pid group b pid n ≡ listed pid n
+  pub marked_elsewhere : (n : ℕ) → nat_eq group n ≡ false → listed_as listed pid group b pid n ≡ listed pid n
   marked_elsewhere n e =
       ap (λ f. f n) (upd_at same_pid listed pid (upd nat_eq (listed pid) group b) (pid_laws.laws-law.refl pid))
       ∙ upd_other nat_eq (listed pid) group b n e
 
-pub marked_twice : (listed : Pid → ℕ → Bool) (pid : Pid) (group : ℕ) (a b : Bool) → marked (marked listed pid group a) pid group b ≡ marked listed pid group b
+pub marked_twice : (listed : Pid → ℕ → Bool) (pid : Pid) (group : ℕ) (a b : Bool) → listed_as (listed_as listed pid group a) pid group b ≡ listed_as listed pid group b
 marked_twice listed pid group a b =
     let once = upd_at same_pid listed pid (upd nat_eq (listed pid) group a) (pid_laws.laws-law.refl pid) in
-    ap (λ (f : ℕ → Bool). upd same_pid (marked listed pid group a) pid (upd nat_eq f group b)) once
-    ∙ ap (λ (f : ℕ → Bool). upd same_pid (marked listed pid group a) pid f) (upd_twice nat_eq (listed pid) group a b)
+    ap (λ (f : ℕ → Bool). upd same_pid (listed_as listed pid group a) pid (upd nat_eq f group b)) once
+    ∙ ap (λ (f : ℕ → Bool). upd same_pid (listed_as listed pid group a) pid f) (upd_twice nat_eq (listed pid) group a b)
     ∙ upd_twice same_pid listed pid (upd nat_eq (listed pid) group a) (upd nat_eq (listed pid) group b)
 
 -- a pid is listed by its new count
 pub listed_after : (listed listed' : Pid → ℕ → Bool) (counts counts' : Numbered) (pid : Pid) (group : ℕ) (b : Bool) (k : ℕ)
-    → AreListed listed counts → listed' ≡ marked listed pid group b → counts' ≡ counts_changed counts group pid k → b ≡ nat_lt 0 (counts' group pid) → AreListed listed' counts'
+    → AreListed listed counts → listed' ≡ listed_as listed pid group b → counts' ≡ counts_changed counts group pid k → b ≡ nat_lt 0 (counts' group pid) → AreListed listed' counts'
 listed_after listed listed' counts counts' pid group b k h e f is q n = go (same_pid pid q) refl
   where
     own : (t : Bool) → nat_eq group n ≡ t → listed' pid n ≡ nat_lt 0 (counts' n pid)

@@ -22,7 +22,7 @@ use Rattle.pg_index.specs.declared.listing.Listing.{Listing}
 use Rattle.pg_index.specs.contracts.listing.ListingOrd.TheImpl.Laws as listing_order
 use Rattle.pg_index.specs.contracts.listing.ProcessPartialEq.TheImpl.{ghosts as equal_processes}
 use Rattle.pg_index.specs.contracts.listing.ProcessEq.TheImpl.Laws as process_laws
-use Rattle.pg_index.specs.Listings.{process_of, listing_of, listing_cmp, listed_in, marked}
+use Rattle.pg_index.specs.Listings.{process_of, listing_of, listing_cmp, listed_in, listed_as}
 
 abbrev pub same_process : Process → Process → Bool
 same_process = equal_processes.eq
@@ -79,7 +79,7 @@ pub set_marked : (old new : Nodes) (pid : Pid) (group : ℕ) (b : Bool) (was now
     → ((l : Listing) → has (get atom_cmp old pid.node) l ≡ contains listing_cmp was l)
     → ((l : Listing) → contains listing_cmp now l ≡ cond (is_at (listing_cmp key) l) b (contains listing_cmp was l))
     → ((node : List ℕ) → get atom_cmp new node ≡ cond (is_at (atom_cmp pid.node) node) (Some now) (get atom_cmp old node))
-    → listed_in new ≡ marked (listed_in old) pid group b
+    → listed_in new ≡ listed_as (listed_in old) pid group b
 set_marked old new pid group b was now key is had changing put =
     upd_from same_pid (listed_in old) pid (listed_in new) (upd nat_eq (listed_in old pid) group b) (λ q. go q (same_pid pid q) refl)
   where
@@ -109,7 +109,7 @@ set_marked old new pid group b was now key is had changing put =
     go q false e = fun_ext (λ n. ap (λ f. has f (listing_of q n)) (put q.node) ∙ other q n e (is_at (atom_cmp pid.node) q.node) refl)
 
 -- what is so already stays so
-pub marked_same : (listed : Pid → ℕ → Bool) (pid : Pid) (group : ℕ) (b : Bool) → listed pid group ≡ b → listed ≡ marked listed pid group b
+pub marked_same : (listed : Pid → ℕ → Bool) (pid : Pid) (group : ℕ) (b : Bool) → listed pid group ≡ b → listed ≡ listed_as listed pid group b
 marked_same listed pid group b e =
     sym (upd_same same_pid listed pid (pid_is pid) (upd nat_eq (listed pid) group b) (upd_same nat_eq (listed pid) group (λ n. eqb-true group n) b (sym e)))
 

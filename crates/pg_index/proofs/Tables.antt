@@ -22,7 +22,7 @@ use Rattle.pg_members.specs.declared.row.Row.{Row}
 use Rattle.pg_members.specs.Rows.{counts_of}
 use Rattle.pg_index.specs.Groups.{Numbered, counts_at, counts_changed, counts_raised}
 use Rattle.pg_index.specs.Groups.{without_pid, without_nodes, IsPartlyRaised}
-use Rattle.pg_index.specs.Listings.{marked}
+use Rattle.pg_index.specs.Listings.{listed_as}
 use Rattle.pg_index.specs.Index.{contents_of, HasGroups, AreApart}
 use Rattle.pg_index.proofs.Numbers.{number_is, number_itself}
 use Rattle.pg_index.proofs.Changed.{marked_here, marked_of_others, marked_elsewhere}
@@ -33,7 +33,7 @@ members_at (Some rows) e = refl
 
 -- one listing and one count taken out
 pub row_removed : (listed listed' : Pid → ℕ → Bool) (counts counts' : Counts) (pid : Pid) (group : ℕ)
-    → listed' ≡ marked listed pid group false → counts' ≡ upd same_pid counts pid 0
+    → listed' ≡ listed_as listed pid group false → counts' ≡ upd same_pid counts pid 0
     → (((q : Pid) → listed q group ≡ nat_lt 0 (counts q)) → (q : Pid) → listed' q group ≡ nat_lt 0 (counts' q))
     × ((q : Pid) (n : ℕ) → nat_eq group n ≡ false → listed' q n ≡ listed q n)
 row_removed listed listed' counts counts' pid group e f = (λ h q. mine h q (same_pid pid q) refl, λ q n g. others q n g (same_pid pid q) refl)

@@ -28,8 +28,8 @@ abbrev pub listed_in : BTreeMap (List ℕ) (BTreeSet Listing) → Pid → ℕ �
 listed_in listings pid group = option_map_or (λ set. contains listing_cmp set (listing_of pid group)) (get atom_cmp listings pid.node) false
 
 -- listed or not at one pid and group, and as before elsewhere
-abbrev pub marked : (Pid → ℕ → Bool) → Pid → ℕ → Bool → Pid → ℕ → Bool
-marked listed pid group is = upd same_pid listed pid (upd nat_eq (listed pid) group is)
+abbrev pub listed_as : (Pid → ℕ → Bool) → Pid → ℕ → Bool → Pid → ℕ → Bool
+listed_as listed pid group is = upd same_pid listed pid (upd nat_eq (listed pid) group is)
 
 -- a group that the process is listed in, if there is one
 abbrev pub IsFirstListing : BTreeSet Listing → Process → Option ℕ → Type 0

@@ -6,7 +6,7 @@ ghost use Rattle.pg_group.specs.Scope.{at_node};
 ghost use Rattle.pg_members.specs.Rows.{counts_of};
 ghost use Rattle.pg_index.specs.Groups.{counts_in, is_used, without_pid, without_nodes};
 ghost use Rattle.pg_index.specs.Listings.{process_of, listing_of, listing_cmp, listed_in};
-ghost use Rattle.pg_index.specs.Listings.{marked, IsFirstListing, AreGroupsOf, AreListed};
+ghost use Rattle.pg_index.specs.Listings.{listed_as, IsFirstListing, AreGroupsOf, AreListed};
 
 use crate::groups::{self, Groups};
 use crate::listing::{Listing, Process};
@@ -45,7 +45,7 @@ pub fn listing(pid: &Pid, group: u32) -> Listing
 ///
 /// Cost: memory for a new listing alone.
 pub fn add(listings: &mut Listings, alloc: Global, pid: &Pid, group: u32) -> Result<(), AllocError>
-    ensures ok { OnOk result (listed_in listings.new ≡ marked (listed_in listings.old) pid.now group true) }
+    ensures ok { OnOk result (listed_in listings.new ≡ listed_as (listed_in listings.old) pid.now group true) }
     ensures err { OnErr result (listed_in listings.new ≡ listed_in listings.old) }
     ensures memory { OnErr result (listed_in listings.old pid.now group ≡ false) }
 {
@@ -67,7 +67,7 @@ pub fn add(listings: &mut Listings, alloc: Global, pid: &Pid, group: u32) -> Res
 ///
 /// Cost: no memory.
 pub fn remove(listings: &mut Listings, pid: &Pid, group: u32)
-    ensures { listed_in listings.new ≡ marked (listed_in listings.old) pid.now group false }
+    ensures { listed_in listings.new ≡ listed_as (listed_in listings.old) pid.now group false }
 {
     match listings.get_mut(&pid.node) {
         Some(set) => {

@@ -8,7 +8,7 @@ use Rattle.pg_machine.specs.Places.{is_pair}
 use Rattle.pg_machine.specs.Machine.{Machine}
 use Rattle.pg_machine.specs.Clocked.{Timed, Stamped}
 use Rattle.pg_machine.specs.Timely.{KeepsTime}
-use Rattle.pg_joining.specs.Logs.{Act, NodeLeads, sent_to}
+use Rattle.pg_joining.specs.Logs.{LoggedAct, NodeLeads, sent_to}
 
 pub all_append : {A : Type 0} (Q : A → Type 0) (xs ys : List A) → AllByRecursion Q xs → AllByRecursion Q ys → AllByRecursion Q (xs ++ ys)
 all_append Q [] ys h k = k
@@ -42,22 +42,22 @@ map_cons f (x ∷ xs) y ys e = let same : f x ≡ y = cc in (x, xs, refl, same)
 
 module _ {S P C O : Type 0} (limit : ℕ) (m : Machine (Timed S) (Stamped P) C O) (keeps : KeepsTime limit m) where
   -- none of these turns sets an earlier clock
-  abbrev pub From : ℕ → List (Act (Timed S) (Stamped P) C O) → Type 0
-  From clock acts = AllByRecursion (λ (a : Act (Timed S) (Stamped P) C O). clock ≤ a.turn.state.clock) acts
+  abbrev pub From : ℕ → List (LoggedAct (Timed S) (Stamped P) C O) → Type 0
+  From clock acts = AllByRecursion (λ (a : LoggedAct (Timed S) (Stamped P) C O). clock ≤ a.turn.state.clock) acts
 
-  pub later : (i clock : ℕ) (s t : Timed S) (acts : List (Act (Timed S) (Stamped P) C O)) → clock ≤ s.clock → NodeLeads m i s acts t → From clock acts
+  pub later : (i clock : ℕ) (s t : Timed S) (acts : List (LoggedAct (Timed S) (Stamped P) C O)) → clock ≤ s.clock → NodeLeads m i s acts t → From clock acts
   later i clock s t [] low run = tt
   later i clock s t (a ∷ acts) low run =
       let up : s.clock < a.turn.state.clock = keeps.raises i s a.input a.turn run.1 in
       (omega arith, later i clock a.turn.state t acts (omega arith) run.2)
 
   -- nor any after one that does not
-  pub later_than_first : (i clock : ℕ) (s t : Timed S) (a : Act (Timed S) (Stamped P) C O) (acts : List (Act (Timed S) (Stamped P) C O))
+  pub later_than_first : (i clock : ℕ) (s t : Timed S) (a : LoggedAct (Timed S) (Stamped P) C O) (acts : List (LoggedAct (Timed S) (Stamped P) C O))
       → clock ≤ a.turn.state.clock → NodeLeads m i s (a ∷ acts) t → From clock (a ∷ acts)
   later_than_first i clock s t a acts low run = (low, later i clock a.turn.state t acts low run.2)
 
   -- what they send is stamped no earlier
-  pub stamped_later : (i q clock : ℕ) (s t : Timed S) (acts : List (Act (Timed S) (Stamped P) C O)) → NodeLeads m i s acts t → From clock acts
+  pub stamped_later : (i q clock : ℕ) (s t : Timed S) (acts : List (LoggedAct (Timed S) (Stamped P) C O)) → NodeLeads m i s acts t → From clock acts
       → AllByRecursion (λ (x : Stamped P). clock ≤ x.stamp) (sent_to q acts)
   stamped_later i q clock s t [] run low = tt
   stamped_later i q clock s t (a ∷ acts) run low =

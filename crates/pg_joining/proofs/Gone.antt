@@ -14,8 +14,8 @@ use Rattle.pg_joining.specs.Logs.{packet_from, taken_from}
 use Rattle.pg_opens.specs.Places.{name_at}
 use Rattle.pg_run.specs.declared.log.NodeEvent.{NodeEvent}
 use Rattle.pg_run.specs.declared.log.NodeEvent.TheVariants as entries
-use Rattle.pg_run.specs.Acts.{Act, Given, Took, Saw, Did, IsFromPeer, Standing, Leads}
-use Rattle.pg_run.specs.Acts.{AllLead, entry_of, event_of, loss_of, losses_of, node_step}
+use Rattle.pg_run.specs.Acts.{Act, Given, Took, Saw, Did, IsFromPeer, Standing, ActLeads}
+use Rattle.pg_run.specs.Acts.{AllLead, entry_of, event_of, loss_of, losses_of, act_step}
 use Rattle.pg_step.specs.Config.{Config, name_at as config_name, names_of, nodes_at, ports_at}
 use Rattle.pg_step.specs.FrameMachine.{placed, place_turn, sent_packet}
 use Rattle.pg_step.specs.Losses.{see_loss}
@@ -208,7 +208,7 @@ module _ (config : Config) (i : ℕ) (within : i < length config) where
   MadeBy s (Saw p last) turn = (s.state.lost (peer_at p) ≡ false) × (at_clock (max s.clock last + 1) (see_loss (peer_at p) s.state) ≡ turn)
   MadeBy s (Did action) turn = (t : NodeTurn) × (node_acts (nodes_at config i) ports action s.state ≡ Ok t) × (at_clock (s.clock + 1) t ≡ turn)
 
-  made_by : (s : Timed State) (input : Given) (turn : TimedTurn) → node_step names ports s input ≡ Ok turn → MadeBy s input turn
+  made_by : (s : Timed State) (input : Given) (turn : TimedTurn) → act_step names ports s input ≡ Ok turn → MadeBy s input turn
   made_by s (Took p x) turn made =
       let told : timed (max s.clock x.stamp + 1) (node_takes (nodes_at config i) (config_name config (place_of_peer i p)) x.packet s.state) ≡ Ok turn =
       ap (λ (q : Node). timed (max s.clock x.stamp + 1) (node_takes (nodes_at config i) q x.packet s.state)) (sym (peer_is p)) ∙ made in
@@ -253,7 +253,7 @@ module _ (config : Config) (i : ℕ) (within : i < length config) where
       apart e = clash (sym is ∙ (ap (λ k. s.state.lost (peer_at k)) (sym e) ∙ made.0))
   comes_none s (Did action) turn place made is = (refl, refl)
 
-  lost_on : (a m : Standing) (act : Act) (q : Node) → Leads names ports a act m → a.state.state.lost q ≡ true → m.state.state.lost q ≡ true
+  lost_on : (a m : Standing) (act : Act) (q : Node) → ActLeads names ports a act m → a.state.state.lost q ≡ true → m.state.state.lost q ≡ true
   lost_on a m act q lead is =
       ap (λ (s : Timed State). s.state.lost q) lead.state ∙ lost_stays a.state act.input act.turn q (made_by a.state act.input act.turn lead.made) is
 
@@ -287,7 +287,7 @@ module _ (config : Config) (i : ℕ) (within : i < length config) where
               ap (λ b. cond b (notice_at last ∷ []) [] ++ come_in place acts) (ne_eqb p place apart)
               ∙ (rest ∙ ap (λ b. map sent_packet (packets_taken place acts) ++ map notice_at (cond b (last ∷ []) [] ++ losses_of place acts)) (sym (ne_eqb p place apart)))
           one (inl same) =
-              let made : MadeBy a.state (Saw p last) act.turn = made_by a.state (Saw p last) act.turn (ap (node_step names ports a.state) (sym is) ∙ lead.made) in
+              let made : MadeBy a.state (Saw p last) act.turn = made_by a.state (Saw p last) act.turn (ap (act_step names ports a.state) (sym is) ∙ lead.made) in
               let gone : m.state.state.lost (peer_at place) ≡ true =
               ap (λ (s : Timed State). s.state.lost (peer_at place)) lead.state ∙ subst (λ k. act.turn.state.state.lost (peer_at k) ≡ true) same (seen_is_lost a.state p last act.turn made) in
               let none = none_after place m acts b later gone in
@@ -312,7 +312,7 @@ module _ (config : Config) (i : ℕ) (within : i < length config) where
           one (inr apart) =
               subst (λ b. (cond b (last ∷ []) [] ++ losses_of place acts ≡ []) ⊎ ((other : ℕ) × (cond b (last ∷ []) [] ++ losses_of place acts ≡ other ∷ []))) (sym (ne_eqb p place apart)) rest
           one (inl same) =
-              let made : MadeBy a.state (Saw p last) act.turn = made_by a.state (Saw p last) act.turn (ap (node_step names ports a.state) (sym is) ∙ lead.made) in
+              let made : MadeBy a.state (Saw p last) act.turn = made_by a.state (Saw p last) act.turn (ap (act_step names ports a.state) (sym is) ∙ lead.made) in
               let gone : m.state.state.lost (peer_at place) ≡ true =
               ap (λ (s : Timed State). s.state.lost (peer_at place)) lead.state ∙ subst (λ k. act.turn.state.state.lost (peer_at k) ≡ true) same (seen_is_lost a.state p last act.turn made) in
               let none = none_after place m acts b later gone in
@@ -361,7 +361,7 @@ module _ (config : Config) (i : ℕ) (within : i < length config) where
       gone (Did (Retry op)) is event = absurd (cc)
       gone (Saw p last) is event =
           let same : p ≡ peer = peer_is_one p peer event in
-          let made : MadeBy a.state (Saw p last) act.turn = made_by a.state (Saw p last) act.turn (ap (node_step names ports a.state) (sym is) ∙ lead.made) in
+          let made : MadeBy a.state (Saw p last) act.turn = made_by a.state (Saw p last) act.turn (ap (act_step names ports a.state) (sym is) ∙ lead.made) in
           ap (λ (s : Timed State). s.state.lost (peer_at peer)) lead.state ∙ subst (λ k. act.turn.state.state.lost (peer_at k) ≡ true) same (seen_is_lost a.state p last act.turn made)
 
   -- ---- what is sent
@@ -405,7 +405,7 @@ module _ (config : Config) (i : ℕ) (within : i < length config) where
         (lost_left s.state.lost q (nodes_at config i).peers is))
 
     -- by one act, where its turn sends nothing there
-    one_silent : (a m : Standing) (act : Act) (y : ℕ) → y < length config → y ≢ i → Leads names ports a act m → act.turn.sends (config_name config y) ≡ [] → packets_to act.sends (peer_place i y) ≡ []
+    one_silent : (a m : Standing) (act : Act) (y : ℕ) → y < length config → y ≢ i → ActLeads names ports a act m → act.turn.sends (config_name config y) ≡ [] → packets_to act.sends (peer_place i y) ≡ []
     one_silent a m act y low other lead none =
         sym (sent_to config i within apart act.sends y lead.fits.each low other) ∙ (ap (λ (sends : Node → List (Stamped Message)). sends (config_name config y)) lead.sends ∙ none)
 
@@ -422,7 +422,7 @@ module _ (config : Config) (i : ℕ) (within : i < length config) where
         → packets_sent (peer_place i y) (saw ∷ acts) ≡ []
     silent_from y last low other a saw acts b (m, lead, later) is =
         let place = peer_place i y in
-        let made : MadeBy a.state (Saw place last) saw.turn = made_by a.state (Saw place last) saw.turn (ap (node_step names ports a.state) (sym is) ∙ lead.made) in
+        let made : MadeBy a.state (Saw place last) saw.turn = made_by a.state (Saw place last) saw.turn (ap (act_step names ports a.state) (sym is) ∙ lead.made) in
         let name : peer_at place ≡ config_name config y = peer_is place ∙ ap (config_name config) (there_and_back i y other) in
         let gone : m.state.state.lost (config_name config y) ≡ true =
         ap (λ (s : Timed State). s.state.lost (config_name config y)) lead.state ∙ subst (λ q. saw.turn.state.state.lost q ≡ true) name (seen_is_lost a.state place last saw.turn made) in

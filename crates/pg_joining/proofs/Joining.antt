@@ -12,9 +12,9 @@ use Rattle.pg_machine.specs.Timely.{KeepsTime}
 use Rattle.pg_machine.proofs.Places.{set_at_here, set_at_other}
 use Rattle.pg_machine.proofs.Sequences.{told_by_append}
 use Rattle.pg_machine.proofs.Steps.{pair_apart}
-use Rattle.pg_joining.specs.Logs.{Act, event_of, NodeLeads, sent_to, packet_from}
+use Rattle.pg_joining.specs.Logs.{LoggedAct, event_of, NodeLeads, sent_to, packet_from}
 use Rattle.pg_joining.specs.Logs.{taken_from, entry_of, reports_of, AreLogs}
-use Rattle.pg_joining.specs.Merge.{ComesFirst, IsNext, rest_of, MergesRest, Merges, clocks_of, entry_at, merged}
+use Rattle.pg_joining.specs.Merge.{ComesFirst, IsNext, rest_of, MergesRest, Merges, clocks_of, entry_at, merged_logs}
 use Rattle.pg_joining.specs.Joined.{Joined, Passes}
 use Rattle.pg_joining.proofs.Acts.{pair_places, drop_next, map_nil, map_cons, From, later_than_first, stamped_later}
 use Rattle.pg_joining.proofs.Moved.{Moved, own_moved, take_moved}
@@ -22,13 +22,13 @@ use Rattle.pg_joining.proofs.Moved.{Moved, own_moved, take_moved}
 module _ {S P C O : Type 0} (limit : ℕ) (m : Machine (Timed S) (Stamped P) C O) (keeps : KeepsTime limit m)
     (ends : ℕ → Timed S) (left : ℕ → ℕ → List (Stamped P)) where
   -- What each node has still to do leads it to its end. What is on the way and still sent is what is still taken, and what is left.
-  record Ahead (w : TimedWorld S P O) (rest : ℕ → List (Act (Timed S) (Stamped P) C O)) : Type 0 where
+  record Ahead (w : TimedWorld S P O) (rest : ℕ → List (LoggedAct (Timed S) (Stamped P) C O)) : Type 0 where
     runs : (i : ℕ) → i < m.size → NodeLeads m i (w.node i) (rest i) (ends i)
     ways : (p q : ℕ) → p < m.size → q < m.size → p ≢ q → w.wire p q ++ sent_to q (rest p) ≡ taken_from p (rest q) ++ left p q
 
   -- one turn, and what is still ahead
-  module _ (w v : TimedWorld S P O) (i : ℕ) (a : Act (Timed S) (Stamped P) C O) (acts : List (Act (Timed S) (Stamped P) C O))
-      (rest next : ℕ → List (Act (Timed S) (Stamped P) C O)) (here : rest i ≡ a ∷ acts) (then_ : next i ≡ acts) (others : (j : ℕ) → j ≢ i → next j ≡ rest j)
+  module _ (w v : TimedWorld S P O) (i : ℕ) (a : LoggedAct (Timed S) (Stamped P) C O) (acts : List (LoggedAct (Timed S) (Stamped P) C O))
+      (rest next : ℕ → List (LoggedAct (Timed S) (Stamped P) C O)) (here : rest i ≡ a ∷ acts) (then_ : next i ≡ acts) (others : (j : ℕ) → j ≢ i → next j ≡ rest j)
       (old : Ahead w rest) (moved : Moved m w v i a.input a.turn) (there : i < m.size) where
     new_runs : (j : ℕ) → j < m.size → (j ≡ i) ⊎ (j ≡ i → ⊥) → NodeLeads m j (v.node j) (next j) (ends j)
     new_runs j low (inl same) =
@@ -80,12 +80,12 @@ module _ {S P C O : Type 0} (limit : ℕ) (m : Machine (Timed S) (Stamped P) C O
     }
 
   -- The turn of the first entry happens: what it takes is on the way, since what others have still to send is stamped later.
-  record Happens (w : TimedWorld S P O) (i : ℕ) (a : Act (Timed S) (Stamped P) C O) : Type 0 where
+  record Happens (w : TimedWorld S P O) (i : ℕ) (a : LoggedAct (Timed S) (Stamped P) C O) : Type 0 where
     world : TimedWorld S P O
     moved : Moved m w world i a.input a.turn
 
-  module _ (w : TimedWorld S P O) (i : ℕ) (rest : ℕ → List (Act (Timed S) (Stamped P) C O)) (old : Ahead w rest) (there : i < m.size)
-      (a : Act (Timed S) (Stamped P) C O) (acts : List (Act (Timed S) (Stamped P) C O)) (here : rest i ≡ a ∷ acts)
+  module _ (w : TimedWorld S P O) (i : ℕ) (rest : ℕ → List (LoggedAct (Timed S) (Stamped P) C O)) (old : Ahead w rest) (there : i < m.size)
+      (a : LoggedAct (Timed S) (Stamped P) C O) (acts : List (LoggedAct (Timed S) (Stamped P) C O)) (here : rest i ≡ a ∷ acts)
       (first : (p : ℕ) → p < m.size → From limit m keeps a.turn.state.clock (rest p)) where
     run : NodeLeads m i (w.node i) (a ∷ acts) (ends i)
     run = subst (λ r. NodeLeads m i (w.node i) r (ends i)) here (old.runs i there)
@@ -123,14 +123,14 @@ module _ {S P C O : Type 0} (limit : ℕ) (m : Machine (Timed S) (Stamped P) C O
     happens_next = let h = happens_now a.input refl in record { world = h.0; moved = h.1 }
 
   -- The rest of the merge happens, and leads each node to its end.
-  record Reached (w : TimedWorld S P O) (rest : ℕ → List (Act (Timed S) (Stamped P) C O)) (events : List (Event C)) : Type 0 where
+  record Reached (w : TimedWorld S P O) (rest : ℕ → List (LoggedAct (Timed S) (Stamped P) C O)) (events : List (Event C)) : Type 0 where
     world : TimedWorld S P O
     leads : Leads m w events world
     nodes : (i : ℕ) → i < m.size → world.node i ≡ ends i
     ways : (p q : ℕ) → p < m.size → q < m.size → p ≢ q → world.wire p q ≡ left p q
     reported : (i : ℕ) → i < m.size → reported_by i world.reported ≡ reported_by i w.reported ++ reports_of (rest i)
     events_of_each : (i : ℕ) → i < m.size → events_of i events ≡ map (λ a. event_of i a.input) (rest i)
-    passes : (i : ℕ) → i < m.size → (first others : List (Act (Timed S) (Stamped P) C O)) (s : Timed S) → rest i ≡ first ++ others → NodeLeads m i (w.node i) first s → Passes m w events world i s
+    passes : (i : ℕ) → i < m.size → (first others : List (LoggedAct (Timed S) (Stamped P) C O)) (s : Timed S) → rest i ≡ first ++ others → NodeLeads m i (w.node i) first s → Passes m w events world i s
 
   -- the first world of a run
   passes_first : (w v : TimedWorld S P O) (events : List (Event C)) (i : ℕ) (s : Timed S) → Leads m w events v → w.node i ≡ s → Passes m w events v i s
@@ -140,7 +140,7 @@ module _ {S P C O : Type 0} (limit : ℕ) (m : Machine (Timed S) (Stamped P) C O
   passes_behind : (w u v : TimedWorld S P O) (e : Event C) (events : List (Event C)) (i : ℕ) (s : Timed S) → happens m w e ≡ Some u → Passes m u events v i s → Passes m w (e ∷ events) v i s
   passes_behind w u v e events i s now p = record { before = e ∷ p.before; after = p.after; are = ap (λ es. e ∷ es) p.are; world = p.world; led = (u, now, p.led); goes_on = p.goes_on; state = p.state }
 
-  reached_nothing : (w : TimedWorld S P O) (rest : ℕ → List (Act (Timed S) (Stamped P) C O)) → Ahead w rest → ((i : ℕ) → i < m.size → rest i ≡ []) → Reached w rest []
+  reached_nothing : (w : TimedWorld S P O) (rest : ℕ → List (LoggedAct (Timed S) (Stamped P) C O)) → Ahead w rest → ((i : ℕ) → i < m.size → rest i ≡ []) → Reached w rest []
   reached_nothing w rest old none = record {
     world = w;
     leads = refl;
@@ -152,7 +152,7 @@ module _ {S P C O : Type 0} (limit : ℕ) (m : Machine (Timed S) (Stamped P) C O
     passes = λ i low first others s is run. no_turn i first others s (sym (none i low) ∙ is) run;
   }
     where
-      no_turn : (i : ℕ) (first others : List (Act (Timed S) (Stamped P) C O)) (s : Timed S) → [] ≡ first ++ others → NodeLeads m i (w.node i) first s → Passes m w [] w i s
+      no_turn : (i : ℕ) (first others : List (LoggedAct (Timed S) (Stamped P) C O)) (s : Timed S) → [] ≡ first ++ others → NodeLeads m i (w.node i) first s → Passes m w [] w i s
       no_turn i [] others s is run = passes_first w w [] i s refl run
       no_turn i (a ∷ first) others s is run = absurd (cc)
 
@@ -161,8 +161,8 @@ module _ {S P C O : Type 0} (limit : ℕ) (m : Machine (Timed S) (Stamped P) C O
   whose i (Own c) = refl
 
   -- one more entry before them
-  module _ (w : TimedWorld S P O) (i : ℕ) (a : Act (Timed S) (Stamped P) C O) (acts : List (Act (Timed S) (Stamped P) C O))
-      (rest next : ℕ → List (Act (Timed S) (Stamped P) C O)) (here : rest i ≡ a ∷ acts) (then_ : next i ≡ acts) (others : (j : ℕ) → j ≢ i → next j ≡ rest j)
+  module _ (w : TimedWorld S P O) (i : ℕ) (a : LoggedAct (Timed S) (Stamped P) C O) (acts : List (LoggedAct (Timed S) (Stamped P) C O))
+      (rest next : ℕ → List (LoggedAct (Timed S) (Stamped P) C O)) (here : rest i ≡ a ∷ acts) (then_ : next i ≡ acts) (others : (j : ℕ) → j ≢ i → next j ≡ rest j)
       (h : Happens w i a) (events : List (Event C)) (more : Reached h.world next events) where
     reports : (j : ℕ) → reported_by j h.world.reported ≡ reported_by j w.reported ++ cond (nat_eq i j) (a.turn.reported ∷ []) []
     reports j = ap (reported_by j) h.moved.reported ∙ told_by_append j w.reported ((i, a.turn.reported) ∷ [])
@@ -187,14 +187,14 @@ module _ {S P C O : Type 0} (limit : ℕ) (m : Machine (Timed S) (Stamped P) C O
         ap (λ b. cond b (event_of i a.input ∷ events_of j events) (events_of j events)) (ne_eqb (node_of (event_of {P = Stamped P} {C = C} i a.input)) j (λ e. apart (sym e ∙ whose i a.input)))
         ∙ (more.events_of_each j low ∙ ap (map (λ b. event_of j b.input)) (others j apart))
 
-    new_passes : (j : ℕ) → j < m.size → (first later : List (Act (Timed S) (Stamped P) C O)) (s : Timed S) → rest j ≡ first ++ later → NodeLeads m j (w.node j) first s
+    new_passes : (j : ℕ) → j < m.size → (first later : List (LoggedAct (Timed S) (Stamped P) C O)) (s : Timed S) → rest j ≡ first ++ later → NodeLeads m j (w.node j) first s
         → (j ≡ i) ⊎ (j ≡ i → ⊥) → Passes m w (event_of i a.input ∷ events) more.world j s
     new_passes j low [] later s is run _ = passes_first w more.world (event_of i a.input ∷ events) j s (h.world, h.moved.happens_, more.leads) run
     new_passes j low (b ∷ first) later s is run (inl same) =
         let all : a ∷ acts ≡ b ∷ (first ++ later) = sym here ∙ (ap rest (sym same) ∙ is) in
         let turn : a ≡ b = cc in
         let tail : acts ≡ first ++ later = cc in
-        let state : h.world.node j ≡ b.turn.state = ap h.world.node same ∙ (h.moved.state ∙ ap (λ (z : Act (Timed S) (Stamped P) C O). z.turn.state) turn) in
+        let state : h.world.node j ≡ b.turn.state = ap h.world.node same ∙ (h.moved.state ∙ ap (λ (z : LoggedAct (Timed S) (Stamped P) C O). z.turn.state) turn) in
         passes_behind w h.world more.world (event_of i a.input) events j s h.moved.happens_
         (more.passes j low first later s (ap next same ∙ (then_ ∙ tail)) (subst (λ z. NodeLeads m j z first s) (sym state) run.2))
     new_passes j low (b ∷ first) later s is run (inr apart) =
@@ -214,21 +214,21 @@ module _ {S P C O : Type 0} (limit : ℕ) (m : Machine (Timed S) (Stamped P) C O
       passes = λ j low first later s is run. new_passes j low first later s is run (cases_eq j i);
     }
 
-  abbrev clock_of : Act (Timed S) (Stamped P) C O → ℕ
+  abbrev clock_of : LoggedAct (Timed S) (Stamped P) C O → ℕ
   clock_of a = a.turn.state.clock
 
-  clocks_seen : (i : ℕ) (acts : List (Act (Timed S) (Stamped P) C O)) → clocks_of (map (entry_of i) acts) ≡ map clock_of acts
+  clocks_seen : (i : ℕ) (acts : List (LoggedAct (Timed S) (Stamped P) C O)) → clocks_of (map (entry_of i) acts) ≡ map clock_of acts
   clocks_seen i [] = refl
   clocks_seen i (a ∷ acts) = ap (λ xs. clock_of a ∷ xs) (clocks_seen i acts)
 
-  events_seen : (i : ℕ) (acts : List (Act (Timed S) (Stamped P) C O)) → map (λ a. event_of i a.input) acts ≡ map (λ (x : ℕ × Event C). x.1) (map (entry_of i) acts)
+  events_seen : (i : ℕ) (acts : List (LoggedAct (Timed S) (Stamped P) C O)) → map (λ a. event_of i a.input) acts ≡ map (λ (x : ℕ × Event C). x.1) (map (entry_of i) acts)
   events_seen i [] = refl
   events_seen i (a ∷ acts) = ap (λ xs. event_of i a.input ∷ xs) (events_seen i acts)
 
-  module _ (acts : ℕ → List (Act (Timed S) (Stamped P) C O)) (logs : ℕ → List (ℕ × Event C))
+  module _ (acts : ℕ → List (LoggedAct (Timed S) (Stamped P) C O)) (logs : ℕ → List (ℕ × Event C))
       (entries : (i : ℕ) → i < m.size → logs i ≡ map (entry_of i) (acts i)) where
     -- what is still to be done where so much is done
-    abbrev rest : (ℕ → ℕ) → ℕ → List (Act (Timed S) (Stamped P) C O)
+    abbrev rest : (ℕ → ℕ) → ℕ → List (LoggedAct (Timed S) (Stamped P) C O)
     rest read i = drop (read i) (acts i)
 
     abbrev clocks : ℕ → List ℕ
@@ -237,7 +237,7 @@ module _ {S P C O : Type 0} (limit : ℕ) (m : Machine (Timed S) (Stamped P) C O
     seen : (read : ℕ → ℕ) (i : ℕ) → i < m.size → rest_of clocks read i ≡ map clock_of (rest read i)
     seen read i low = ap (λ log. drop (read i) (clocks_of log)) (entries i low) ∙ (ap (drop (read i)) (clocks_seen i (acts i)) ∙ drop-map clock_of (read i) (acts i))
 
-    entry : (i n : ℕ) → i < m.size → (a : Act (Timed S) (Stamped P) C O) (more : List (Act (Timed S) (Stamped P) C O)) → drop n (acts i) ≡ a ∷ more
+    entry : (i n : ℕ) → i < m.size → (a : LoggedAct (Timed S) (Stamped P) C O) (more : List (LoggedAct (Timed S) (Stamped P) C O)) → drop n (acts i) ≡ a ∷ more
         → entry_at (logs i) n ≡ event_of i a.input ∷ []
     entry i n low a more is =
         ap (λ log. entry_at log n) (entries i low)
@@ -247,14 +247,14 @@ module _ {S P C O : Type 0} (limit : ℕ) (m : Machine (Timed S) (Stamped P) C O
       earliest : (p : ℕ) → p < m.size → From limit m keeps next.clock (rest read p)
       earliest p low = go (rest read p) refl
         where
-          go : (r : List (Act (Timed S) (Stamped P) C O)) → rest read p ≡ r → From limit m keeps next.clock r
+          go : (r : List (LoggedAct (Timed S) (Stamped P) C O)) → rest read p ≡ r → From limit m keeps next.clock r
           go [] is = tt
           go (b ∷ bs) is =
               let o : ComesFirst next.clock i (clock_of b) p = next.first p (clock_of b) (map clock_of bs) low (seen read p low ∙ ap (map clock_of) is) in
               let no_earlier : next.clock ≤ b.turn.state.clock = o.clocks in
               later_than_first limit m keeps p next.clock (w.node p) (ends p) b bs no_earlier (subst (λ r. NodeLeads m p (w.node p) r (ends p)) is (old.runs p low))
 
-    reached : (order : List (ℕ × ℕ)) (read : ℕ → ℕ) (w : TimedWorld S P O) → Ahead w (rest read) → MergesRest m.size clocks read order → Reached w (rest read) (merged logs order)
+    reached : (order : List (ℕ × ℕ)) (read : ℕ → ℕ) (w : TimedWorld S P O) → Ahead w (rest read) → MergesRest m.size clocks read order → Reached w (rest read) (merged_logs logs order)
     reached [] read w old none = reached_nothing w (rest read) old (λ i low. map_nil clock_of (rest read i) (sym (seen read i low) ∙ none i low))
     reached (x ∷ order) read w old merges =
         let i : ℕ = x.0 in
@@ -268,15 +268,15 @@ module _ {S P C O : Type 0} (limit : ℕ) (m : Machine (Timed S) (Stamped P) C O
         let read_on : ℕ → ℕ = set_at read i (x.1 + 1) in
         let then_ : rest read_on i ≡ more = ap (λ n. drop n (acts i)) (set_at_here read i (x.1 + 1) i refl ∙ ap (λ n. n + 1) merges.0) ∙ drop_next (read i) (acts i) a more here in
         let others : (j : ℕ) → j ≢ i → rest read_on j ≡ rest read j = λ j apart. ap (λ n. drop n (acts j)) (set_at_other read i (x.1 + 1) j apart) in
-        let after : Reached h.world (rest read_on) (merged logs order) =
+        let after : Reached h.world (rest read_on) (merged_logs logs order) =
         reached order read_on h.world (goes_on w h.world i a more (rest read) (rest read_on) here then_ others old h.moved next.there) merges.2 in
-        subst (λ es. Reached w (rest read) (es ++ merged logs order))
+        subst (λ es. Reached w (rest read) (es ++ merged_logs logs order))
         (sym (ap (entry_at (logs i)) merges.0 ∙ entry i (read i) next.there a more here))
-        (reached_one w i a more (rest read) (rest read_on) here then_ others h (merged logs order) after)
+        (reached_one w i a more (rest read) (rest read_on) here then_ others h (merged_logs logs order) after)
 
-pub joined : {S P C O : Type 0} (limit : ℕ) (m : Machine (Timed S) (Stamped P) C O) (logs : ℕ → List (ℕ × Event C)) (acts : ℕ → List (Act (Timed S) (Stamped P) C O))
+pub joined : {S P C O : Type 0} (limit : ℕ) (m : Machine (Timed S) (Stamped P) C O) (logs : ℕ → List (ℕ × Event C)) (acts : ℕ → List (LoggedAct (Timed S) (Stamped P) C O))
     (ends : ℕ → Timed S) (left : ℕ → ℕ → List (Stamped P)) (order : List (ℕ × ℕ))
-    → KeepsTime limit m → AreLogs m logs acts ends left → Merges m.size (λ i. clocks_of (logs i)) order → Joined m logs acts ends left (merged logs order)
+    → KeepsTime limit m → AreLogs m logs acts ends left → Merges m.size (λ i. clocks_of (logs i)) order → Joined m logs acts ends left (merged_logs logs order)
 joined limit m logs acts ends left order keeps are merges =
     let start : Ahead limit m keeps ends left (start_of m) acts = record { runs = are.runs; ways = are.ways } in
     let all = reached limit m keeps ends left acts logs are.entries order (λ i. 0) (start_of m) start merges in

@@ -10,7 +10,7 @@ use Rattle.pg_history.specs.Headline.{OneHistory}
 use Rattle.pg_history.specs.History.{all_reported, answers_by}
 use Rattle.pg_joining.specs.Joined.{Joined}
 use Rattle.pg_joining.specs.Logs.{AreLogs, NodeLeads, event_of as machine_event, entry_of as machine_entry}
-use Rattle.pg_joining.specs.Merge.{Merges, clocks_of, merged, seen_log}
+use Rattle.pg_joining.specs.Merge.{Merges, clocks_of, merged_logs, seen_log}
 use Rattle.pg_node.specs.declared.node.Node.{Node}
 use Rattle.pg_node.specs.Nodes.{held_by, links_of}
 use Rattle.pg_node_state.specs.States.{answers_of, state_of}
@@ -85,7 +85,7 @@ module _ {T : Type 0} {g : Ghosts T} (config : Config) (nodes : List (Node T g))
 
   -- ---- the run
 
-  module _ (order : List (ℕ × ℕ)) (run : Joined (frame_machine config) logs_on acts_on ends_on (left_on config nodes begun ended ran) (merged logs_on order)) where
+  module _ (order : List (ℕ × ℕ)) (run : Joined (frame_machine config) logs_on acts_on ends_on (left_on config nodes begun ended ran) (merged_logs logs_on order)) where
     answers_shown : (i : ℕ) → i < length config → (port : ℕ) → AreAnswers (name_at config i) (answers_by i run.world.reported port) (answers_of (held_by (node_of (ended i))) port)
     answers_shown i within port =
         subst (λ (zs : List (ℕ × Response)). AreAnswers (name_at config i) zs (answers_of (held_by (node_of (ended i))) port))
@@ -101,7 +101,7 @@ module _ {T : Type 0} {g : Ghosts T} (config : Config) (nodes : List (Node T g))
       answers = answers_shown i within;
     }
 
-    pub ran_together : OneHistory config (merged logs_on order) (plain run.world)
+    pub ran_together : OneHistory config (merged_logs logs_on order) (plain run.world)
         → ((x y : ℕ) → is_pair (length config) x y ≡ true → (links_of (node_of (ended x)) (peer_place x y)).damaged ≡ false)
         → RanTogether config ended (events_in ended order)
     ran_together history sound = record {

@@ -15,8 +15,8 @@ use Rattle.pg_machine.specs.Losing.{LosingWorld, Step, Lose, nobody_gone, each_p
 use Rattle.pg_machine.proofs.Places.{set_at_here, set_at_other}
 use Rattle.pg_machine.proofs.Sequences.{told_by_append}
 use Rattle.pg_machine.proofs.Steps.{pair_apart}
-use Rattle.pg_joining.specs.Logs.{Act, event_of, NodeLeads, sent_to, packet_from, taken_from, reports_of}
-use Rattle.pg_joining.specs.Merge.{ComesFirst, IsNext, rest_of, MergesRest, Merges, clocks_of, entry_at, merged}
+use Rattle.pg_joining.specs.Logs.{LoggedAct, event_of, NodeLeads, sent_to, packet_from, taken_from, reports_of}
+use Rattle.pg_joining.specs.Merge.{ComesFirst, IsNext, rest_of, MergesRest, Merges, clocks_of, entry_at, merged_logs}
 use Rattle.pg_joining.specs.Losses.{Logged, Turned, Stopped, still_kept, events_told, turn_entry, losing_log, arriving}
 use Rattle.pg_joining.specs.Losses.{AreLosingLogs, IsMarked, LosingJoined, MarkedLeads, is_first_last, is_sight}
 use Rattle.pg_joining.proofs.Acts.{pair_places, drop_next, From, later_than_first, stamped_later}
@@ -50,7 +50,7 @@ arrives_on true k notice first sent taken left low e =
 
 module _ {S P C O : Type 0} (limit : ℕ) (m : Machine (Timed S) (Stamped P) C O) (keeps : KeepsTime limit m) where
   -- the clock of the end is no earlier
-  end_later : (i clock : ℕ) (s t : Timed S) (acts : List (Act (Timed S) (Stamped P) C O)) → NodeLeads m i s acts t → clock ≤ s.clock → clock ≤ t.clock
+  end_later : (i clock : ℕ) (s t : Timed S) (acts : List (LoggedAct (Timed S) (Stamped P) C O)) → NodeLeads m i s acts t → clock ≤ s.clock → clock ≤ t.clock
   end_later i clock s t [] run low = subst (λ (u : Timed S). clock ≤ u.clock) run low
   end_later i clock s t (a ∷ acts) run low =
       let up : s.clock < a.turn.state.clock = keeps.raises i s a.input a.turn run.1 in
@@ -63,7 +63,7 @@ module _ {S P C O : Type 0} (limit : ℕ) (m : Machine (Timed S) (Stamped P) C O
       gone : w.gone i ≡ false
       is : pending ≡ lost i
 
-    record Over (w : LosingWorld (Timed S) (Stamped P) O) (i : ℕ) (pending : Bool) (acts : List (Act (Timed S) (Stamped P) C O)) : Type 0 where
+    record Over (w : LosingWorld (Timed S) (Stamped P) O) (i : ℕ) (pending : Bool) (acts : List (LoggedAct (Timed S) (Stamped P) C O)) : Type 0 where
       gone : w.gone i ≡ true
       is : pending ≡ false
       was : lost i ≡ true
@@ -71,7 +71,7 @@ module _ {S P C O : Type 0} (limit : ℕ) (m : Machine (Timed S) (Stamped P) C O
 
     -- What each node has still to do leads it to its end, and perhaps it is lost then. What is on the way and still sent, of a node that
     -- is still to be lost the first of it and a last notice, is what is still taken, and what is left.
-    record Ahead (w : LosingWorld (Timed S) (Stamped P) O) (acts : ℕ → List (Act (Timed S) (Stamped P) C O)) (pending : ℕ → Bool) (kept : ℕ → ℕ → ℕ) : Type 0 where
+    record Ahead (w : LosingWorld (Timed S) (Stamped P) O) (acts : ℕ → List (LoggedAct (Timed S) (Stamped P) C O)) (pending : ℕ → Bool) (kept : ℕ → ℕ → ℕ) : Type 0 where
       runs : (i : ℕ) → i < m.size → NodeLeads m i (w.world.node i) (acts i) (ends i)
       losses : (i : ℕ) → i < m.size → Still w i (pending i) ⊎ Over w i (pending i) (acts i)
       few : (p q : ℕ) → p < m.size → q < m.size → p ≢ q → pending p ≡ true → kept p q ≤ length (w.world.wire p q ++ sent_to q (acts p))
@@ -79,8 +79,8 @@ module _ {S P C O : Type 0} (limit : ℕ) (m : Machine (Timed S) (Stamped P) C O
           → arriving (pending p) (kept p q) (last (ends p)) (w.world.wire p q ++ sent_to q (acts p)) ≡ taken_from p (acts q) ++ left p q
 
     -- ---- one turn
-    module _ (w : LosingWorld (Timed S) (Stamped P) O) (v : TimedWorld S P O) (i : ℕ) (a : Act (Timed S) (Stamped P) C O) (more : List (Act (Timed S) (Stamped P) C O))
-        (acts next : ℕ → List (Act (Timed S) (Stamped P) C O)) (pending : ℕ → Bool) (kept : ℕ → ℕ → ℕ)
+    module _ (w : LosingWorld (Timed S) (Stamped P) O) (v : TimedWorld S P O) (i : ℕ) (a : LoggedAct (Timed S) (Stamped P) C O) (more : List (LoggedAct (Timed S) (Stamped P) C O))
+        (acts next : ℕ → List (LoggedAct (Timed S) (Stamped P) C O)) (pending : ℕ → Bool) (kept : ℕ → ℕ → ℕ)
         (here : acts i ≡ a ∷ more) (then_ : next i ≡ more) (others : (j : ℕ) → j ≢ i → next j ≡ acts j)
         (old : Ahead w acts pending kept) (moved : Moved m w.world v i a.input a.turn) (there : i < m.size)
         (enough : (p : ℕ) → p < m.size → p ≢ i → pending p ≡ true → length (packet_from p a.input) ≤ kept p i) where
@@ -181,13 +181,13 @@ module _ {S P C O : Type 0} (limit : ℕ) (m : Machine (Timed S) (Stamped P) C O
       }
 
     -- ---- the turn happens
-    record Happens (w : LosingWorld (Timed S) (Stamped P) O) (i : ℕ) (a : Act (Timed S) (Stamped P) C O) (pending : ℕ → Bool) (kept : ℕ → ℕ → ℕ) : Type 0 where
+    record Happens (w : LosingWorld (Timed S) (Stamped P) O) (i : ℕ) (a : LoggedAct (Timed S) (Stamped P) C O) (pending : ℕ → Bool) (kept : ℕ → ℕ → ℕ) : Type 0 where
       world : TimedWorld S P O
       moved : Moved m w.world world i a.input a.turn
       enough : (p : ℕ) → p < m.size → p ≢ i → pending p ≡ true → length (packet_from p a.input) ≤ kept p i
 
-    module _ (w : LosingWorld (Timed S) (Stamped P) O) (i : ℕ) (acts : ℕ → List (Act (Timed S) (Stamped P) C O)) (pending : ℕ → Bool) (kept : ℕ → ℕ → ℕ)
-        (old : Ahead w acts pending kept) (there : i < m.size) (a : Act (Timed S) (Stamped P) C O) (more : List (Act (Timed S) (Stamped P) C O)) (here : acts i ≡ a ∷ more)
+    module _ (w : LosingWorld (Timed S) (Stamped P) O) (i : ℕ) (acts : ℕ → List (LoggedAct (Timed S) (Stamped P) C O)) (pending : ℕ → Bool) (kept : ℕ → ℕ → ℕ)
+        (old : Ahead w acts pending kept) (there : i < m.size) (a : LoggedAct (Timed S) (Stamped P) C O) (more : List (LoggedAct (Timed S) (Stamped P) C O)) (here : acts i ≡ a ∷ more)
         (first : (p : ℕ) → p < m.size → From limit m keeps a.turn.state.clock (acts p))
         (first_loss : (p : ℕ) → p < m.size → pending p ≡ true → a.turn.state.clock ≤ (ends p).clock) where
       run : NodeLeads m i (w.world.node i) (a ∷ more) (ends i)
@@ -300,7 +300,7 @@ module _ {S P C O : Type 0} (limit : ℕ) (m : Machine (Timed S) (Stamped P) C O
           ∙ ap (option_map (λ (u : TimedWorld S P O). record { world = u; gone = w.gone })) moved.happens_
 
     -- ---- the loss happens
-    module _ (w : LosingWorld (Timed S) (Stamped P) O) (i : ℕ) (acts : ℕ → List (Act (Timed S) (Stamped P) C O)) (pending : ℕ → Bool) (kept : ℕ → ℕ → ℕ)
+    module _ (w : LosingWorld (Timed S) (Stamped P) O) (i : ℕ) (acts : ℕ → List (LoggedAct (Timed S) (Stamped P) C O)) (pending : ℕ → Bool) (kept : ℕ → ℕ → ℕ)
         (old : Ahead w acts pending kept) (there : i < m.size) (here : acts i ≡ []) (is : pending i ≡ true) where
       abbrev lost_world : LosingWorld (Timed S) (Stamped P) O
       lost_world = record { world = stopped m.size last w.world i (kept i); gone = set_at w.gone i true }
@@ -395,7 +395,7 @@ module _ {S P C O : Type 0} (limit : ℕ) (m : Machine (Timed S) (Stamped P) C O
       }
 
     -- ---- the rest of the merge
-    record Reached (w : LosingWorld (Timed S) (Stamped P) O) (acts : ℕ → List (Act (Timed S) (Stamped P) C O)) (kept : ℕ → ℕ → ℕ) (entries : List (Logged C)) : Type 0 where
+    record Reached (w : LosingWorld (Timed S) (Stamped P) O) (acts : ℕ → List (LoggedAct (Timed S) (Stamped P) C O)) (kept : ℕ → ℕ → ℕ) (entries : List (Logged C)) : Type 0 where
       world : LosingWorld (Timed S) (Stamped P) O
       leads : MarkedLeads m last is_last w (events_told kept entries) world
       gone : (i : ℕ) → i < m.size → world.gone i ≡ lost i
@@ -403,7 +403,7 @@ module _ {S P C O : Type 0} (limit : ℕ) (m : Machine (Timed S) (Stamped P) C O
       ways : (p q : ℕ) → p < m.size → q < m.size → p ≢ q → world.world.wire p q ≡ left p q
       reported : (i : ℕ) → i < m.size → reported_by i world.world.reported ≡ reported_by i w.world.reported ++ reports_of (acts i)
 
-    reached_nothing : (w : LosingWorld (Timed S) (Stamped P) O) (acts : ℕ → List (Act (Timed S) (Stamped P) C O)) (pending : ℕ → Bool) (kept : ℕ → ℕ → ℕ) → Ahead w acts pending kept
+    reached_nothing : (w : LosingWorld (Timed S) (Stamped P) O) (acts : ℕ → List (LoggedAct (Timed S) (Stamped P) C O)) (pending : ℕ → Bool) (kept : ℕ → ℕ → ℕ) → Ahead w acts pending kept
         → ((i : ℕ) → i < m.size → acts i ≡ []) → ((i : ℕ) → i < m.size → pending i ≡ false) → Reached w acts kept []
     reached_nothing w acts pending kept old none no_loss = record {
       world = w;
@@ -421,8 +421,8 @@ module _ {S P C O : Type 0} (limit : ℕ) (m : Machine (Timed S) (Stamped P) C O
         gone i low (inr over) = over.gone ∙ sym over.was
 
     -- one more turn before them
-    module _ (w : LosingWorld (Timed S) (Stamped P) O) (v : TimedWorld S P O) (i : ℕ) (a : Act (Timed S) (Stamped P) C O) (more : List (Act (Timed S) (Stamped P) C O))
-        (acts next : ℕ → List (Act (Timed S) (Stamped P) C O)) (here : acts i ≡ a ∷ more) (then_ : next i ≡ more) (others : (j : ℕ) → j ≢ i → next j ≡ acts j)
+    module _ (w : LosingWorld (Timed S) (Stamped P) O) (v : TimedWorld S P O) (i : ℕ) (a : LoggedAct (Timed S) (Stamped P) C O) (more : List (LoggedAct (Timed S) (Stamped P) C O))
+        (acts next : ℕ → List (LoggedAct (Timed S) (Stamped P) C O)) (here : acts i ≡ a ∷ more) (then_ : next i ≡ more) (others : (j : ℕ) → j ≢ i → next j ≡ acts j)
         (moved : Moved m w.world v i a.input a.turn) (does : losing_happens m last w (Step (event_of i a.input)) ≡ Some (record { world = v; gone = w.gone }))
         (there : is_there m.size (event_of i a.input) ≡ true) (kept : ℕ → ℕ → ℕ) (entries : List (Logged C)) (after : Reached (record { world = v; gone = w.gone }) next (still_kept (event_of i a.input) kept) entries) where
       reports : (j : ℕ) → reported_by j v.reported ≡ reported_by j w.world.reported ++ cond (nat_eq i j) (a.turn.reported ∷ []) []
@@ -456,7 +456,7 @@ module _ {S P C O : Type 0} (limit : ℕ) (m : Machine (Timed S) (Stamped P) C O
       }
 
     -- one more loss
-    reached_loss : (w u : LosingWorld (Timed S) (Stamped P) O) (i : ℕ) (kept : ℕ → ℕ → ℕ) (acts : ℕ → List (Act (Timed S) (Stamped P) C O)) (entries : List (Logged C))
+    reached_loss : (w u : LosingWorld (Timed S) (Stamped P) O) (i : ℕ) (kept : ℕ → ℕ → ℕ) (acts : ℕ → List (LoggedAct (Timed S) (Stamped P) C O)) (entries : List (Logged C))
         → losing_happens m last w (Lose i (kept i)) ≡ Some u → u.world.reported ≡ w.world.reported → Reached u acts kept entries → Reached w acts kept (Stopped i ∷ entries)
     reached_loss w u i kept acts entries does same after = record {
       world = after.world;
@@ -475,10 +475,10 @@ module _ {S P C O : Type 0} (limit : ℕ) (m : Machine (Timed S) (Stamped P) C O
       clocks i = clocks_of (logs i)
 
       -- so far the logs were read as far as their nodes are
-      record Read (read : ℕ → ℕ) (acts : ℕ → List (Act (Timed S) (Stamped P) C O)) (pending : ℕ → Bool) : Type 0 where
+      record Read (read : ℕ → ℕ) (acts : ℕ → List (LoggedAct (Timed S) (Stamped P) C O)) (pending : ℕ → Bool) : Type 0 where
         rest : (i : ℕ) → i < m.size → drop (read i) (logs i) ≡ losing_log is_last i (pending i) (ends i) (acts i)
 
-      seen : (read : ℕ → ℕ) (acts : ℕ → List (Act (Timed S) (Stamped P) C O)) (pending : ℕ → Bool) → Read read acts pending → (i : ℕ) → i < m.size
+      seen : (read : ℕ → ℕ) (acts : ℕ → List (LoggedAct (Timed S) (Stamped P) C O)) (pending : ℕ → Bool) → Read read acts pending → (i : ℕ) → i < m.size
           → rest_of clocks read i ≡ clocks_of (losing_log is_last i (pending i) (ends i) (acts i))
       seen read acts pending far i low = clocks_cut (logs i) (read i) ∙ ap (λ (log : List (ℕ × Logged C)). clocks_of log) (far.rest i low)
 
@@ -495,12 +495,12 @@ module _ {S P C O : Type 0} (limit : ℕ) (m : Machine (Timed S) (Stamped P) C O
       not_read read i place j apart = ap (λ n. drop n (logs j)) (set_at_other read i (place + 1) j apart)
 
       -- no turn and no loss that is still to come has an earlier clock
-      module _ (read : ℕ → ℕ) (w : LosingWorld (Timed S) (Stamped P) O) (acts : ℕ → List (Act (Timed S) (Stamped P) C O)) (pending : ℕ → Bool) (kept : ℕ → ℕ → ℕ)
+      module _ (read : ℕ → ℕ) (w : LosingWorld (Timed S) (Stamped P) O) (acts : ℕ → List (LoggedAct (Timed S) (Stamped P) C O)) (pending : ℕ → Bool) (kept : ℕ → ℕ → ℕ)
           (old : Ahead w acts pending kept) (far : Read read acts pending) (i : ℕ) (next : IsNext m.size (rest_of clocks read) i) where
         earliest : (p : ℕ) → p < m.size → From limit m keeps next.clock (acts p) × (pending p ≡ true → next.clock ≤ (ends p).clock)
         earliest p low = go (acts p) refl (pending p) refl
           where
-            go : (r : List (Act (Timed S) (Stamped P) C O)) → acts p ≡ r → (b : Bool) → pending p ≡ b → From limit m keeps next.clock r × (pending p ≡ true → next.clock ≤ (ends p).clock)
+            go : (r : List (LoggedAct (Timed S) (Stamped P) C O)) → acts p ≡ r → (b : Bool) → pending p ≡ b → From limit m keeps next.clock r × (pending p ≡ true → next.clock ≤ (ends p).clock)
             go [] is false is_b = (tt, λ t. let no : false ≡ true = sym is_b ∙ t in absurd (cc))
             go [] is true is_b =
                 let o : ComesFirst next.clock i (ends p).clock p = next.first p (ends p).clock [] low
@@ -513,15 +513,15 @@ module _ {S P C O : Type 0} (limit : ℕ) (m : Machine (Timed S) (Stamped P) C O
                 let no_earlier : next.clock ≤ a.turn.state.clock = o.clocks in
                 (later_than_first limit m keeps p next.clock (w.world.node p) (ends p) a more no_earlier run, λ t. end_later p next.clock a.turn.state (ends p) more run.2 no_earlier)
 
-      nothing_left : (i : ℕ) (b : Bool) (acts : List (Act (Timed S) (Stamped P) C O)) → clocks_of (losing_log is_last i b (ends i) acts) ≡ [] → (acts ≡ []) × (b ≡ false)
+      nothing_left : (i : ℕ) (b : Bool) (acts : List (LoggedAct (Timed S) (Stamped P) C O)) → clocks_of (losing_log is_last i b (ends i) acts) ≡ [] → (acts ≡ []) × (b ≡ false)
       nothing_left i false [] e = (refl, refl)
       nothing_left i true [] e = absurd (cc)
       nothing_left i b (a ∷ acts) e = absurd (cc)
 
       -- the rest of the merge, from wherever
       abbrev Rest : List (ℕ × ℕ) → Type 0
-      Rest order = (read : ℕ → ℕ) (w : LosingWorld (Timed S) (Stamped P) O) (acts : ℕ → List (Act (Timed S) (Stamped P) C O)) (pending : ℕ → Bool) (kept : ℕ → ℕ → ℕ)
-          → Ahead w acts pending kept → Read read acts pending → MergesRest m.size clocks read order → Reached w acts kept (merged logs order)
+      Rest order = (read : ℕ → ℕ) (w : LosingWorld (Timed S) (Stamped P) O) (acts : ℕ → List (LoggedAct (Timed S) (Stamped P) C O)) (pending : ℕ → Bool) (kept : ℕ → ℕ → ℕ)
+          → Ahead w acts pending kept → Read read acts pending → MergesRest m.size clocks read order → Reached w acts kept (merged_logs logs order)
 
       one_entry : (x : ℕ × ℕ) (order : List (ℕ × ℕ)) → Rest order → Rest (x ∷ order)
       one_entry x order again read w acts pending kept old far merges = go (acts x.0) refl (pending x.0) refl
@@ -529,7 +529,7 @@ module _ {S P C O : Type 0} (limit : ℕ) (m : Machine (Timed S) (Stamped P) C O
           next : IsNext m.size (rest_of clocks read) x.0
           next = merges.1
 
-          go : (r : List (Act (Timed S) (Stamped P) C O)) → acts x.0 ≡ r → (b : Bool) → pending x.0 ≡ b → Reached w acts kept (merged logs (x ∷ order))
+          go : (r : List (LoggedAct (Timed S) (Stamped P) C O)) → acts x.0 ≡ r → (b : Bool) → pending x.0 ≡ b → Reached w acts kept (merged_logs logs (x ∷ order))
           go [] is false is_b =
               let no : next.clock ∷ next.later ≡ [] = sym next.next ∙ (seen read acts pending far x.0 next.there
               ∙ (ap (λ b. clocks_of (losing_log is_last x.0 b (ends x.0) (acts x.0))) is_b ∙ ap (λ r. clocks_of (losing_log is_last x.0 false (ends x.0) r)) is)) in
@@ -540,11 +540,11 @@ module _ {S P C O : Type 0} (limit : ℕ) (m : Machine (Timed S) (Stamped P) C O
               let far_on : Read (set_at read x.0 (x.1 + 1)) acts (set_at pending x.0 false) = record {
                 rest = λ j low. loss_read j low (cases_eq j x.0) left_here is;
               } in
-              let after : Reached (lost_world w x.0 acts pending kept old next.there is is_b) acts kept (merged logs order) =
+              let after : Reached (lost_world w x.0 acts pending kept old next.there is is_b) acts kept (merged_logs logs order) =
               again (set_at read x.0 (x.1 + 1)) (lost_world w x.0 acts pending kept old next.there is is_b) acts (set_at pending x.0 false) kept
               (loss_ahead w x.0 acts pending kept old next.there is is_b) far_on merges.2 in
-              subst (λ es. Reached w acts kept (es ++ merged logs order)) (sym (entry x.0 (read x.0) x.1 merges.0 ((ends x.0).clock, Stopped x.0) [] left_here))
-              (reached_loss w (lost_world w x.0 acts pending kept old next.there is is_b) x.0 kept acts (merged logs order) (loss_happens w x.0 acts pending kept old next.there is is_b) refl after)
+              subst (λ es. Reached w acts kept (es ++ merged_logs logs order)) (sym (entry x.0 (read x.0) x.1 merges.0 ((ends x.0).clock, Stopped x.0) [] left_here))
+              (reached_loss w (lost_world w x.0 acts pending kept old next.there is is_b) x.0 kept acts (merged_logs logs order) (loss_happens w x.0 acts pending kept old next.there is is_b) refl after)
             where
               loss_read : (j : ℕ) → j < m.size → (j ≡ x.0) ⊎ (j ≡ x.0 → ⊥) → drop (read x.0) (logs x.0) ≡ ((ends x.0).clock, Stopped x.0) ∷ [] → acts x.0 ≡ []
                   → drop (set_at read x.0 (x.1 + 1) j) (logs j) ≡ losing_log is_last j (set_at pending x.0 false j) (ends j) (acts j)
@@ -562,20 +562,20 @@ module _ {S P C O : Type 0} (limit : ℕ) (m : Machine (Timed S) (Stamped P) C O
               let h : Happens w x.0 a pending kept = happens_next w x.0 acts pending kept old next.there a more is
               (λ p low. subst (λ c. From limit m keeps c (acts p)) clock (earliest read w acts pending kept old far x.0 next p low).0)
               (λ p low still. subst (λ c. c ≤ (ends p).clock) clock ((earliest read w acts pending kept old far x.0 next p low).1 still)) in
-              let acts_on : ℕ → List (Act (Timed S) (Stamped P) C O) = set_at acts x.0 more in
+              let acts_on : ℕ → List (LoggedAct (Timed S) (Stamped P) C O) = set_at acts x.0 more in
               let then_ : acts_on x.0 ≡ more = set_at_here acts x.0 more x.0 refl in
               let others : (j : ℕ) → j ≢ x.0 → acts_on j ≡ acts j = λ j apart. set_at_other acts x.0 more j apart in
               let far_on : Read (set_at read x.0 (x.1 + 1)) acts_on pending = record { rest = λ j low. turn_read j low (cases_eq j x.0) left_here } in
-              let after : Reached (record { world = h.world; gone = w.gone }) acts_on (still_kept (event_of x.0 a.input) kept) (merged logs order) =
+              let after : Reached (record { world = h.world; gone = w.gone }) acts_on (still_kept (event_of x.0 a.input) kept) (merged_logs logs order) =
               again (set_at read x.0 (x.1 + 1)) (record { world = h.world; gone = w.gone }) acts_on pending
               (kept_on w h.world x.0 a more acts acts_on pending kept is then_ others old h.moved next.there h.enough)
               (turn_ahead w h.world x.0 a more acts acts_on pending kept is then_ others old h.moved next.there h.enough) far_on merges.2 in
-              subst (λ es. Reached w acts kept (es ++ merged logs order)) (sym (entry x.0 (read x.0) x.1 merges.0 (turn_entry is_last x.0 a) (losing_log is_last x.0 (pending x.0) (ends x.0) more) left_here))
+              subst (λ es. Reached w acts kept (es ++ merged_logs logs order)) (sym (entry x.0 (read x.0) x.1 merges.0 (turn_entry is_last x.0 a) (losing_log is_last x.0 (pending x.0) (ends x.0) more) left_here))
               (reached_turn w h.world x.0 a more acts acts_on is then_ others h.moved
               (turn_happens w x.0 acts pending kept old next.there a more is
               (λ p low. subst (λ c. From limit m keeps c (acts p)) clock (earliest read w acts pending kept old far x.0 next p low).0)
               (λ p low still. subst (λ c. c ≤ (ends p).clock) clock ((earliest read w acts pending kept old far x.0 next p low).1 still)) h.world h.moved)
-              (subst (λ r. NodeLeads m x.0 (w.world.node x.0) r (ends x.0)) is (old.runs x.0 next.there)).0 kept (merged logs order) after)
+              (subst (λ r. NodeLeads m x.0 (w.world.node x.0) r (ends x.0)) is (old.runs x.0 next.there)).0 kept (merged_logs logs order) after)
             where
               turn_read : (j : ℕ) → j < m.size → (j ≡ x.0) ⊎ (j ≡ x.0 → ⊥) → drop (read x.0) (logs x.0) ≡ turn_entry is_last x.0 a ∷ losing_log is_last x.0 (pending x.0) (ends x.0) more
                   → drop (set_at read x.0 (x.1 + 1) j) (logs j) ≡ losing_log is_last j (pending j) (ends j) (set_at acts x.0 more j)
@@ -594,9 +594,9 @@ module _ {S P C O : Type 0} (limit : ℕ) (m : Machine (Timed S) (Stamped P) C O
       reached (x ∷ order) read w acts pending kept old far merges = one_entry x order (reached order) read w acts pending kept old far merges
 
 pub losing_joined : {S P C O : Type 0} (limit : ℕ) (m : Machine (Timed S) (Stamped P) C O) (last : Timed S → Stamped P) (is_last : Stamped P → Bool) (lost : ℕ → Bool) (kept : ℕ → ℕ → ℕ)
-    (logs : ℕ → List (ℕ × Logged C)) (acts : ℕ → List (Act (Timed S) (Stamped P) C O)) (ends : ℕ → Timed S) (left : ℕ → ℕ → List (Stamped P)) (order : List (ℕ × ℕ))
+    (logs : ℕ → List (ℕ × Logged C)) (acts : ℕ → List (LoggedAct (Timed S) (Stamped P) C O)) (ends : ℕ → Timed S) (left : ℕ → ℕ → List (Stamped P)) (order : List (ℕ × ℕ))
     → KeepsTime limit m → ((s : Timed S) → (last s).stamp ≡ s.clock) → AreLosingLogs m last is_last lost kept logs acts ends left → Merges m.size (λ i. clocks_of (logs i)) order
-    → LosingJoined m last is_last lost kept acts ends left (merged logs order)
+    → LosingJoined m last is_last lost kept acts ends left (merged_logs logs order)
 losing_joined {S} {P} {C} {O} limit m last is_last lost kept logs acts ends left order keeps notice are merges =
     let start : Ahead limit m keeps last is_last notice lost ends left (nobody_gone (start_of m)) acts lost kept = record {
       runs = are.runs;

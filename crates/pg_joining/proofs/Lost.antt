@@ -9,9 +9,9 @@ use Rattle.pg_frame.specs.Laws.{PiecesContinue, WrittenIsRead}
 use Rattle.pg_group.specs.declared.table.GroupTable.{Ghosts}
 use Rattle.pg_history.specs.History.{all_reported, answers_by}
 use Rattle.pg_joining.specs.Logs.{NodeLeads, event_of as machine_event, reports_of, sent_to, taken_from}
-use Rattle.pg_joining.specs.Losses.{AreLosingLogs, Logged, LosingJoined, Marked, MarkedLeads, Stopped, Turned}
+use Rattle.pg_joining.specs.Losses.{AreLosingLogs, Logged, LosingJoined, MarkedEvent, MarkedLeads, Stopped, Turned}
 use Rattle.pg_joining.specs.Losses.{arriving, is_sight, last_from, losing_log, turn_entry, with_loss, with_losses}
-use Rattle.pg_joining.specs.Merge.{IsNext, Merges, MergesRest, clocks_of, merged, rest_of, seen_log}
+use Rattle.pg_joining.specs.Merge.{IsNext, Merges, MergesRest, clocks_of, merged_logs, rest_of, seen_log}
 use Rattle.pg_joining.proofs.Behind.{merges_with_losses}
 use Rattle.pg_joining.proofs.Losing.{losing_joined}
 use Rattle.pg_joining.proofs.Seen.{same_clocks}
@@ -138,7 +138,7 @@ clocks_rise config i keeps s t (act ∷ acts) run =
     (omega (arith, up), clocks_rise config i keeps act.turn.state t acts run.2)
 
 -- events that happen as they are marked happen
-leads_bare : {S P C O : Type 0} (m : Machine S P C O) (last : S → P) (is_last : P → Bool) (w : LosingWorld S P O) (events : List (Marked C)) (v : LosingWorld S P O)
+leads_bare : {S P C O : Type 0} (m : Machine S P C O) (last : S → P) (is_last : P → Bool) (w : LosingWorld S P O) (events : List (MarkedEvent C)) (v : LosingWorld S P O)
     → MarkedLeads m last is_last w events v → LosingLeads m last w (map (λ x. x.0) events) v
 leads_bare m last is_last w [] v leads = leads
 leads_bare m last is_last w (x ∷ events) v (u, happened, marked, leads) = (u, happened, leads_bare m last is_last u events v leads)
@@ -296,12 +296,12 @@ module _ {T : Type 0} {g : Ghosts T} (config : Config) (nodes : List (Node T g))
   merges_full = merges_alike (length config) (λ i. with_loss (lost i) (clocks_of (logs i))) (λ i. clocks_of (full i)) (with_losses (length config) lost (λ i. clocks_of (logs i)) order) (λ i. 0) clocks_full
       (merges_with_losses (length config) lost (λ i. clocks_of (logs i)) order merges rise)
 
-  joined : LosingJoined (losing_frame_machine config) last_notice is_last_notice lost kept acts ends left (merged full (with_losses (length config) lost (λ i. clocks_of (logs i)) order))
+  joined : LosingJoined (losing_frame_machine config) last_notice is_last_notice lost kept acts ends left (merged_logs full (with_losses (length config) lost (λ i. clocks_of (logs i)) order))
   joined = losing_joined CLOCK_LIMIT (losing_frame_machine config) last_notice is_last_notice lost kept full acts ends left (with_losses (length config) lost (λ i. clocks_of (logs i)) order) keeps (λ s. refl) are_logs merges_full
 
   -- ---- the run
 
-  abbrev events : List (Marked Action)
+  abbrev events : List (MarkedEvent Action)
   events = losing_events (length config) logs lost order
 
   marked : MarkedReaches config events joined.world

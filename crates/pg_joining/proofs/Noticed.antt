@@ -8,9 +8,9 @@ use Rattle.pg_message.specs.declared.message.Message.{Message}
 use Rattle.pg_machine.specs.Clocked.{Timed, Stamped, stamped, timed as machine_timed, timed_turn}
 use Rattle.pg_machine.specs.Losing.{Noticed, Sent, Last, mapped_turn}
 use Rattle.pg_machine.specs.Machine.{Input, Turn, Taken, Own, is_there}
-use Rattle.pg_joining.specs.Logs.{Act as MachineAct, NodeLeads, event_of as machine_event}
+use Rattle.pg_joining.specs.Logs.{LoggedAct as MachineAct, NodeLeads, event_of as machine_event}
 use Rattle.pg_opens.specs.Places.{name_at}
-use Rattle.pg_run.specs.Acts.{Act, Given, Took, Saw, Did, IsFromPeer, Standing, AllLead, node_step}
+use Rattle.pg_run.specs.Acts.{Act, Given, Took, Saw, Did, IsFromPeer, Standing, AllLead, act_step}
 use Rattle.pg_step.specs.Config.{Config, name_at as config_name, nodes_at, ports_at}
 use Rattle.pg_step.specs.FrameMachine.{losing_frame_machine, placed, place_turn, sent_packet}
 use Rattle.pg_step.specs.Losses.{see_loss}
@@ -76,7 +76,7 @@ module _ (config : Config) (i : ℕ) (within : i < length config) where
       is_pair_so (length config) i (place_of_peer i p) within (omega (arith, low, count)) (own_place i p)
   losing_there (Did action) there = inputs_there config i within (Did action) there
 
-  pub losing_steps : (s : Timed State) (input : Given) (turn : TimedTurn) → node_step (all_of (nodes_at config i)) (ports_at config i) s input ≡ Ok turn
+  pub losing_steps : (s : Timed State) (input : Given) (turn : TimedTurn) → act_step (all_of (nodes_at config i)) (ports_at config i) s input ≡ Ok turn
       → (losing_frame_machine config).step i s (losing_input i input) ≡ Some (losing_turn config turn)
   losing_steps s (Took p x) turn made =
       (frames_embed config).taken i (place_of_peer i p) s x ∙ ap (option_map (mapped_turn sent_packet)) (steps_alike config i within s (Took p x) turn (λ place. refl) made)

@@ -9,7 +9,7 @@ use Rattle.pg_message.specs.declared.packet.Packet.{Packet}
 use Rattle.pg_machine.specs.Clocked.{Stamped}
 use Rattle.pg_frame.specs.Pieces.{frames_of}
 use Rattle.pg_joining.specs.Logs.{sent_to}
-use Rattle.pg_run.specs.Acts.{Act, Standing, Leads, AllLead, frames_sent}
+use Rattle.pg_run.specs.Acts.{Act, Standing, ActLeads, AllLead, frames_sent}
 use Rattle.pg_step.specs.Config.{Config, names_of, name_at, nodes_at, ports_at}
 use Rattle.pg_step.specs.Nodes.{Node, all_of}
 use Rattle.pg_term.specs.Same.{same_atom}
@@ -53,7 +53,7 @@ sent_can_cross names ports place a (act ∷ acts) b (m, lead, rest) =
     cross_join (packets_to act.sends place) (packets_sent place acts) (sent_cross act.sends place lead.small) (sent_can_cross names ports place m acts b rest)
 
 module _ (config : Config) (x y : ℕ) (from : x < length config) (to : y < length config) (other : y ≢ x) (apart : IsDistinct same_atom (names_of config)) where
-  one_sent : (a b : Standing) (act : Act) → Leads (all_of (nodes_at config x)) (ports_at config x) a act b
+  one_sent : (a b : Standing) (act : Act) → ActLeads (all_of (nodes_at config x)) (ports_at config x) a act b
       → (act_at config x act).turn.sends y ≡ packets_to act.sends (peer_place x y)
   one_sent a b act lead =
       ap (λ t. cond t (act.turn.sends (name_at config y)) []) (lt-ltb y (length config) to)

@@ -11,7 +11,7 @@ use Rattle.pg_machine.specs.Places.{set_at}
 use Rattle.pg_machine.proofs.Places.{set_at_here, set_at_other}
 use Rattle.pg_joining.specs.Losses.{Logged, Turned, Stopped, events_told, loss_alone}
 use Rattle.pg_joining.specs.Losses.{losses_alone, loss_behind, still_kept, with_losses}
-use Rattle.pg_joining.specs.Merge.{IsNext, Merges, MergesRest, clocks_of, entry_at, merged, rest_of, seen_log}
+use Rattle.pg_joining.specs.Merge.{IsNext, Merges, MergesRest, clocks_of, entry_at, merged_logs, rest_of, seen_log}
 use Rattle.pg_joining.proofs.Acts.{drop_next, map_cons, map_nil}
 use Rattle.pg_run.specs.declared.log.NodeEvent.{NodeEvent}
 use Rattle.pg_run.specs.declared.log.NodeEvent.TheVariants as entries
@@ -194,7 +194,7 @@ module _ (size : ℕ) (lost : ℕ → Bool) (last : ℕ → ℕ) (logs : Logs) (
   abbrev blocks : List (ℕ × ℕ) → List (ℕ × ℕ)
   blocks order = flat_map (λ x. x ∷ loss_behind lost clocks x) order
 
-  behind_told : (order : List (ℕ × ℕ)) (read : ℕ → ℕ) → MergesRest size clocks read order → events_told (kept_in order) (merged full (blocks order)) ≡ events_behind logs lost order
+  behind_told : (order : List (ℕ × ℕ)) (read : ℕ → ℕ) → MergesRest size clocks read order → events_told (kept_in order) (merged_logs full (blocks order)) ≡ events_behind logs lost order
   behind_told [] read merges = refl
   behind_told (x ∷ order) read merges = step (behind_told order (set_at read x.0 (x.1 + 1)) merges.2)
     where
@@ -204,57 +204,57 @@ module _ (size : ℕ) (lost : ℕ → Bool) (last : ℕ → ℕ) (logs : Logs) (
       e : NodeEvent
       e = event x order read merges.0 next merges.2
 
-      step : events_told (kept_in order) (merged full (blocks order)) ≡ events_behind logs lost order → events_told (kept_in (x ∷ order)) (merged full (blocks (x ∷ order))) ≡ events_behind logs lost (x ∷ order)
+      step : events_told (kept_in order) (merged_logs full (blocks order)) ≡ events_behind logs lost order → events_told (kept_in (x ∷ order)) (merged_logs full (blocks (x ∷ order))) ≡ events_behind logs lost (x ∷ order)
       step later =
-          ap (λ es. events_told (kept_in (x ∷ order)) (es ++ merged full (loss_behind lost clocks x ++ blocks order))) (full_entry x order read merges.0 next merges.2)
-          ∙ (ap (λ kept. marked_at x.0 e ∷ events_told kept (merged full (loss_behind lost clocks x ++ blocks order))) (kept_on x order read merges.0 next merges.2)
+          ap (λ es. events_told (kept_in (x ∷ order)) (es ++ merged_logs full (loss_behind lost clocks x ++ blocks order))) (full_entry x order read merges.0 next merges.2)
+          ∙ (ap (λ kept. marked_at x.0 e ∷ events_told kept (merged_logs full (loss_behind lost clocks x ++ blocks order))) (kept_on x order read merges.0 next merges.2)
           ∙ (ap (λ es. marked_at x.0 e ∷ es) (loss (lost x.0 && nat_eq (x.1 + 1) (length (clocks x.0))) refl)
           ∙ (ap (λ n. marked_at x.0 e ∷ (cond (lost x.0 && nat_eq (x.1 + 1) n) (loss_before logs x.0 order ∷ []) [] ++ events_behind logs lost order)) (length-map (logs x.0) (λ (y : ℕ × NodeEvent). y.0))
           ∙ ap (λ es. (map (marked_at x.0) es ++ cond (lost x.0 && nat_eq (x.1 + 1) (length (logs x.0))) (loss_before logs x.0 order ∷ []) []) ++ events_behind logs lost order)
           (sym (one_entry x order read merges.0 next merges.2)))))
         where
           loss : (b : Bool) → (lost x.0 && nat_eq (x.1 + 1) (length (clocks x.0))) ≡ b
-              → events_told (kept_in order) (merged full (loss_behind lost clocks x ++ blocks order))
+              → events_told (kept_in order) (merged_logs full (loss_behind lost clocks x ++ blocks order))
               ≡ cond (lost x.0 && nat_eq (x.1 + 1) (length (clocks x.0))) (loss_before logs x.0 order ∷ []) [] ++ events_behind logs lost order
           loss true is =
               let both = both_so (lost x.0) (nat_eq (x.1 + 1) (length (clocks x.0))) is in
               let place : x.1 + 1 ≡ length (logs x.0) = eqb-true (x.1 + 1) (length (clocks x.0)) both.1 ∙ length-map (logs x.0) (λ (y : ℕ × NodeEvent). y.0) in
-              ap (λ b. events_told (kept_in order) (merged full (cond b ((x.0, x.1 + 1) ∷ []) [] ++ blocks order))) is
-              ∙ (ap (λ es. events_told (kept_in order) (es ++ merged full (blocks order))) (loss_entry x.0 (x.1 + 1) both.0 place)
+              ap (λ b. events_told (kept_in order) (merged_logs full (cond b ((x.0, x.1 + 1) ∷ []) [] ++ blocks order))) is
+              ∙ (ap (λ es. events_told (kept_in order) (es ++ merged_logs full (blocks order))) (loss_entry x.0 (x.1 + 1) both.0 place)
               ∙ (ap (λ es. loss_before logs x.0 order ∷ es) later ∙ ap (λ b. cond b (loss_before logs x.0 order ∷ []) [] ++ events_behind logs lost order) (sym is)))
           loss false is =
-              ap (λ b. events_told (kept_in order) (merged full (cond b ((x.0, x.1 + 1) ∷ []) [] ++ blocks order))) is
+              ap (λ b. events_told (kept_in order) (merged_logs full (cond b ((x.0, x.1 + 1) ∷ []) [] ++ blocks order))) is
               ∙ (later ∙ ap (λ b. cond b (loss_before logs x.0 order ∷ []) [] ++ events_behind logs lost order) (sym is))
 
   -- ---- nodes that did nothing
 
   alone_told : (order : List (ℕ × ℕ)) (n : ℕ) (more : List (Logged Action)) → n ≤ size
-      → events_told (kept_in order) (merged full (losses_alone lost clocks n) ++ more) ≡ losses_first logs lost order n ++ events_told (kept_in order) more
+      → events_told (kept_in order) (merged_logs full (losses_alone lost clocks n) ++ more) ≡ losses_first logs lost order n ++ events_told (kept_in order) more
   alone_told order zero more low = refl
   alone_told order (suc n) more low =
       ap (λ es. events_told (kept_in order) (es ++ more)) (flat_map-append (λ (y : ℕ × ℕ). entry_at (full y.0) y.1) (losses_alone lost clocks n) (loss_alone lost clocks n))
-      ∙ (ap (events_told (kept_in order)) (append_assoc (merged full (losses_alone lost clocks n)) (merged full (loss_alone lost clocks n)) more)
-      ∙ (alone_told order n (merged full (loss_alone lost clocks n) ++ more) (omega (arith, low))
+      ∙ (ap (events_told (kept_in order)) (append_assoc (merged_logs full (losses_alone lost clocks n)) (merged_logs full (loss_alone lost clocks n)) more)
+      ∙ (alone_told order n (merged_logs full (loss_alone lost clocks n) ++ more) (omega (arith, low))
       ∙ (ap (λ es. losses_first logs lost order n ++ es) (one (lost n && nat_eq (length (clocks n)) 0) refl)
       ∙ (sym (append_assoc (losses_first logs lost order n) (cond (lost n && nat_eq (length (clocks n)) 0) (loss_before logs n order ∷ []) []) (events_told (kept_in order) more))
       ∙ ap (λ k. (losses_first logs lost order n ++ cond (lost n && nat_eq k 0) (loss_before logs n order ∷ []) []) ++ events_told (kept_in order) more) (length-map (logs n) (λ (y : ℕ × NodeEvent). y.0))))))
     where
-      one : (b : Bool) → (lost n && nat_eq (length (clocks n)) 0) ≡ b → events_told (kept_in order) (merged full (loss_alone lost clocks n) ++ more)
+      one : (b : Bool) → (lost n && nat_eq (length (clocks n)) 0) ≡ b → events_told (kept_in order) (merged_logs full (loss_alone lost clocks n) ++ more)
           ≡ cond (lost n && nat_eq (length (clocks n)) 0) (loss_before logs n order ∷ []) [] ++ events_told (kept_in order) more
       one true is =
           let both = both_so (lost n) (nat_eq (length (clocks n)) 0) is in
           let none : 0 ≡ length (logs n) = sym (eqb-true (length (clocks n)) 0 both.1) ∙ length-map (logs n) (λ (y : ℕ × NodeEvent). y.0) in
-          ap (λ b. events_told (kept_in order) (merged full (cond b ((n, 0) ∷ []) []) ++ more)) is
+          ap (λ b. events_told (kept_in order) (merged_logs full (cond b ((n, 0) ∷ []) []) ++ more)) is
           ∙ (ap (λ es. events_told (kept_in order) ((es ++ []) ++ more)) (loss_entry n 0 both.0 none)
           ∙ ap (λ b. cond b (loss_before logs n order ∷ []) [] ++ events_told (kept_in order) more) (sym is))
       one false is =
-          ap (λ b. events_told (kept_in order) (merged full (cond b ((n, 0) ∷ []) []) ++ more)) is
+          ap (λ b. events_told (kept_in order) (merged_logs full (cond b ((n, 0) ∷ []) []) ++ more)) is
           ∙ ap (λ b. cond b (loss_before logs n order ∷ []) [] ++ events_told (kept_in order) more) (sym is)
 
-  pub all_told : (order : List (ℕ × ℕ)) → Merges size clocks order → events_told (λ p q. takes_in logs p q order) (merged full (with_losses size lost clocks order)) ≡ losing_events size logs lost order
+  pub all_told : (order : List (ℕ × ℕ)) → Merges size clocks order → events_told (λ p q. takes_in logs p q order) (merged_logs full (with_losses size lost clocks order)) ≡ losing_events size logs lost order
   all_told order merges =
       ap (events_told (kept_in order)) (flat_map-append (λ (y : ℕ × ℕ). entry_at (full y.0) y.1) (losses_alone lost clocks size) (blocks order))
-      ∙ (alone_told order size (merged full (blocks order)) (omega arith) ∙ ap (λ es. losses_first logs lost order size ++ es) (behind_told order (λ i. 0) merges))
+      ∙ (alone_told order size (merged_logs full (blocks order)) (omega arith) ∙ ap (λ es. losses_first logs lost order size ++ es) (behind_told order (λ i. 0) merges))
 
   -- how many packets a node takes of another in all
   pub takes_all : (p q : ℕ) → q < size → (order : List (ℕ × ℕ)) → Merges size clocks order → takes_in logs p q order ≡ takes_of p q (map (λ x. x.1) (logs q))

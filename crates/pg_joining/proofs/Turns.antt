@@ -7,10 +7,10 @@ use Rattle.std.proofs.lemmas.List.{length-map}
 use Rattle.pg_message.specs.declared.message.Message.{Message}
 use Rattle.pg_machine.specs.Machine.{Input, Taken, Own, is_there}
 use Rattle.pg_machine.specs.Clocked.{Timed, Stamped}
-use Rattle.pg_joining.specs.Logs.{Act as MachineAct, NodeLeads, event_of as machine_event}
+use Rattle.pg_joining.specs.Logs.{LoggedAct as MachineAct, NodeLeads, event_of as machine_event}
 use Rattle.pg_opens.specs.Places.{name_at}
 use Rattle.pg_run.specs.Acts.{Act, Given, Took, Saw, Did, IsFromPeer, SawNone}
-use Rattle.pg_run.specs.Acts.{Standing, AllLead, loss_of, losses_of, node_step}
+use Rattle.pg_run.specs.Acts.{Standing, AllLead, loss_of, losses_of, act_step}
 use Rattle.pg_run.proofs.Moving.{nil_first, nil_second}
 use Rattle.pg_step.specs.Config.{Config, name_at as config_name, nodes_at, ports_at}
 use Rattle.pg_step.specs.FrameMachine.{frame_machine}
@@ -65,7 +65,7 @@ module _ (config : Config) (i : ℕ) (within : i < length config) where
   inputs_there (Did action) there = lt-ltb i (length config) within
 
   -- what the step of the node makes of an input is what the machine's makes of it
-  pub steps_alike : (s : Timed State) (input : Given) (turn : TimedTurn) → SeesNone input → node_step (all_of (nodes_at config i)) (ports_at config i) s input ≡ Ok turn
+  pub steps_alike : (s : Timed State) (input : Given) (turn : TimedTurn) → SeesNone input → act_step (all_of (nodes_at config i)) (ports_at config i) s input ≡ Ok turn
       → (frame_machine config).step i s (input_at i input) ≡ Some (place_timed config turn)
   steps_alike s (Took p x) turn none made =
       let peer = config_name config (place_of_peer i p) in

@@ -9,7 +9,7 @@ use Rattle.pg_step.specs.Config.{Config}
 use Rattle.pg_step.specs.FrameMachine.{frame_machine}
 use Rattle.pg_step.specs.Step.{Action, Issue, Retry}
 use Rattle.pg_history.specs.Headline.{OneHistory}
-use Rattle.pg_joining.specs.Merge.{merged, seen_log}
+use Rattle.pg_joining.specs.Merge.{merged_logs, seen_log}
 use Rattle.pg_node.specs.declared.node.Node.{Node}
 use Rattle.pg_node.specs.Nodes.{links_of}
 use Rattle.pg_ring.specs.declared.ring_out.RingOut.{RingOut}
@@ -77,7 +77,7 @@ module _ {T : Type 0} {g : Ghosts T} where
 
   -- the events of all logs, merged in an order
   abbrev pub events_in : (ℕ → Linked T g) → List (ℕ × ℕ) → List (Event Action)
-  events_in ended order = merged (λ i. seen_log (event_at i) (log_of (ended i))) order
+  events_in ended order = merged_logs (λ i. seen_log (event_at i) (log_of (ended i))) order
 
   -- These events are one run of the configuration from its start, in which each node does what its log tells. It leads to a world that
   -- shows each node as it ended, and of which the headline holds. No node has told of what came to it a fault that damages a link.

@@ -3,7 +3,7 @@ use Rattle.std.specs.Prelude.{◌≡◌, ℕ, zero, suc, ◌+◌, ◌<◌, Bool,
 use Rattle.std.specs.Prelude.{cond, nat_eq, length, map, List, [], ◌∷◌, ◌++◌}
 use Rattle.std.specs.List.{AllByRecursion}
 use Rattle.pg_group.specs.declared.table.GroupTable.{Ghosts}
-use Rattle.pg_joining.specs.Losses.{Marked, MarkedLeads}
+use Rattle.pg_joining.specs.Losses.{MarkedEvent, MarkedLeads}
 use Rattle.pg_joining.specs.Merge.{entry_at}
 use Rattle.pg_loss.specs.Reached.{LosingReaches}
 use Rattle.pg_retries.specs.Survived.{LossesSurvived}
@@ -55,7 +55,7 @@ takes_in logs p q [] = 0
 takes_in logs p q (x ∷ order) = takes_one logs p q x + takes_in logs p q order
 
 -- The loss of a node: of what is on the way from it as many packets stay as are taken by the entries that follow.
-abbrev pub loss_before : Logs → ℕ → List (ℕ × ℕ) → Marked Action
+abbrev pub loss_before : Logs → ℕ → List (ℕ × ℕ) → MarkedEvent Action
 loss_before logs i order = (Lose i (λ q. takes_in logs i q order), false)
 
 -- the event of node i is that it saw a loss
@@ -66,16 +66,16 @@ sees_loss (events.Retry op) = false
 sees_loss (events.SeeLoss peer) = true
 
 -- the event of all nodes that an entry in the log of node i tells, which takes a last notice where a loss was seen
-abbrev pub marked_at : ℕ → NodeEvent → Marked Action
+abbrev pub marked_at : ℕ → NodeEvent → MarkedEvent Action
 marked_at i e = (Step (event_at i e), sees_loss e)
 
 -- the losses of those of the first so many nodes that did nothing, before all entries
-abbrev pub losses_first : Logs → (ℕ → Bool) → List (ℕ × ℕ) → ℕ → List (Marked Action)
+abbrev pub losses_first : Logs → (ℕ → Bool) → List (ℕ × ℕ) → ℕ → List (MarkedEvent Action)
 losses_first logs lost order zero = []
 losses_first logs lost order (suc n) = losses_first logs lost order n ++ cond (lost n && nat_eq (length (logs n)) 0) (loss_before logs n order ∷ []) []
 
 -- the events that the entries at these places tell, and behind the last entry of a node that is lost its loss
-abbrev pub events_behind : Logs → (ℕ → Bool) → List (ℕ × ℕ) → List (Marked Action)
+abbrev pub events_behind : Logs → (ℕ → Bool) → List (ℕ × ℕ) → List (MarkedEvent Action)
 events_behind logs lost [] = []
 events_behind logs lost (x ∷ order) =
     (map (marked_at x.0) (entry_at (logs x.0) x.1) ++ cond (lost x.0 && nat_eq (x.1 + 1) (length (logs x.0))) (loss_before logs x.0 order ∷ []) [])
@@ -83,7 +83,7 @@ events_behind logs lost (x ∷ order) =
 
 -- The events that the logs of so many nodes tell, merged in an order, with the losses of those that are lost; with each goes whether a
 -- last notice is taken by it.
-abbrev pub losing_events : ℕ → Logs → (ℕ → Bool) → List (ℕ × ℕ) → List (Marked Action)
+abbrev pub losing_events : ℕ → Logs → (ℕ → Bool) → List (ℕ × ℕ) → List (MarkedEvent Action)
 losing_events size logs lost order = losses_first logs lost order size ++ events_behind logs lost order
 
 -- ---- the nodes
@@ -93,7 +93,7 @@ abbrev pub nodes_in : LosingFrameWorld → TimedFrameWorld
 nodes_in u = record { node = u.world.node; wire = λ x y. []; reported = u.world.reported }
 
 -- the events without their marks
-abbrev pub bare : List (Marked Action) → List (LosingEvent Action)
+abbrev pub bare : List (MarkedEvent Action) → List (LosingEvent Action)
 bare events = map (λ x. x.0) events
 
 -- a packet on the way is a last notice
@@ -101,7 +101,7 @@ abbrev pub is_last_notice : Stamped (Noticed Message) → Bool
 is_last_notice x = is_notice x.packet
 
 -- from the start these events happen as they are marked, and lead to a world
-abbrev pub MarkedReaches : Config → List (Marked Action) → LosingFrameWorld → Type 0
+abbrev pub MarkedReaches : Config → List (MarkedEvent Action) → LosingFrameWorld → Type 0
 MarkedReaches config events u =
     MarkedLeads (losing_frame_machine config) last_notice is_last_notice (nobody_gone (start_of (losing_frame_machine config))) events u
 
@@ -122,7 +122,7 @@ module _ {T : Type 0} {g : Ghosts T} where
 
   -- These events are one run of the configuration, in which these nodes are lost. It leads to a world that shows each node as it
   -- ended, and of which all holds that survives losses. A last notice is taken where a loss was seen, and nowhere else.
-  pub record RanPastLosses (config : Config) (lost : ℕ → Bool) (ended : ℕ → Linked T g) (events : List (Marked Action)) : Type 0 where
+  pub record RanPastLosses (config : Config) (lost : ℕ → Bool) (ended : ℕ → Linked T g) (events : List (MarkedEvent Action)) : Type 0 where
     pub u : LosingFrameWorld
     pub reached : LosingReaches config (bare events) u
     pub marked : MarkedReaches config events u

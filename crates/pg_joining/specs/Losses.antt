@@ -6,7 +6,7 @@ use Rattle.pg_machine.specs.Machine.{Input, Machine, World, Event, Taken, Own, T
 use Rattle.pg_machine.specs.Clocked.{Timed, Stamped}
 use Rattle.pg_machine.specs.Runs.{reported_by}
 use Rattle.pg_machine.specs.Losing.{LosingWorld, LosingEvent, Step, Lose, losing_happens, nobody_gone}
-use Rattle.pg_joining.specs.Logs.{Act, NodeLeads, event_of, sent_to, taken_from, reports_of}
+use Rattle.pg_joining.specs.Logs.{LoggedAct, NodeLeads, event_of, sent_to, taken_from, reports_of}
 
 -- what an entry says: an event of its node, and whether a last notice is taken by it; or that its node stopped
 pub data Logged (Command : Type 0) : Type 0 where
@@ -14,8 +14,8 @@ pub data Logged (Command : Type 0) : Type 0 where
   Stopped : (node : ℕ) → Logged Command
 
 -- an event of the machine with losses, and whether a last notice is taken by it
-abbrev pub Marked : Type 0 → Type 0
-Marked Command = LosingEvent Command × Bool
+abbrev pub MarkedEvent : Type 0 → Type 0
+MarkedEvent Command = LosingEvent Command × Bool
 
 -- a node was given a last notice
 abbrev pub is_sight : {P C : Type 0} → (P → Bool) → Input P C → Bool
@@ -29,17 +29,17 @@ still_kept (Do i c) kept p q = kept p q
 
 -- The events that entries tell, one after another, where of each way so many packets are still to be taken: as many stay of what a
 -- lost node had sent.
-abbrev pub events_told : {C : Type 0} → (ℕ → ℕ → ℕ) → List (Logged C) → List (Marked C)
+abbrev pub events_told : {C : Type 0} → (ℕ → ℕ → ℕ) → List (Logged C) → List (MarkedEvent C)
 events_told kept [] = []
 events_told kept (Turned e sight ∷ entries) = (Step e, sight) ∷ events_told (still_kept e kept) entries
 events_told kept (Stopped i ∷ entries) = (Lose i (kept i), false) ∷ events_told kept entries
 
 -- the entry of a turn; `is_last`: a packet is a last notice
-abbrev pub turn_entry : {S P C O : Type 0} → (Stamped P → Bool) → ℕ → Act (Timed S) (Stamped P) C O → ℕ × Logged C
+abbrev pub turn_entry : {S P C O : Type 0} → (Stamped P → Bool) → ℕ → LoggedAct (Timed S) (Stamped P) C O → ℕ × Logged C
 turn_entry is_last i a = (a.turn.state.clock, Turned (event_of i a.input) (is_sight is_last a.input))
 
 -- The log of node i: an entry for each turn, and where the node is lost a last one, at the clock at which it stopped.
-abbrev pub losing_log : {S P C O : Type 0} → (Stamped P → Bool) → ℕ → Bool → Timed S → List (Act (Timed S) (Stamped P) C O) → List (ℕ × Logged C)
+abbrev pub losing_log : {S P C O : Type 0} → (Stamped P → Bool) → ℕ → Bool → Timed S → List (LoggedAct (Timed S) (Stamped P) C O) → List (ℕ × Logged C)
 losing_log is_last i lost end acts = map (turn_entry is_last i) acts ++ cond lost ((end.clock, Stopped i) ∷ []) []
 
 -- What comes of the packets that were sent on a way from a node: all, or of a lost node the first ones, and its last notice.
@@ -48,7 +48,7 @@ arriving lost kept notice sent = cond lost (take kept sent ++ notice ∷ []) sen
 
 -- As `AreLogs`; `lost i`: node i was lost where its log ends, and of what it had sent to q the first `kept i q` packets stayed.
 pub record AreLosingLogs {S P C O : Type 0} (m : Machine (Timed S) (Stamped P) C O) (last : Timed S → Stamped P) (is_last : Stamped P → Bool) (lost : ℕ → Bool)
-    (kept : ℕ → ℕ → ℕ) (logs : ℕ → List (ℕ × Logged C)) (acts : ℕ → List (Act (Timed S) (Stamped P) C O)) (ends : ℕ → Timed S)
+    (kept : ℕ → ℕ → ℕ) (logs : ℕ → List (ℕ × Logged C)) (acts : ℕ → List (LoggedAct (Timed S) (Stamped P) C O)) (ends : ℕ → Timed S)
     (left : ℕ → ℕ → List (Stamped P)) : Type 0 where
   pub runs : (i : ℕ) → i < m.size → NodeLeads m i (m.first i) (acts i) (ends i)
   pub entries : (i : ℕ) → i < m.size → logs i ≡ losing_log is_last i (lost i) (ends i) (acts i)
@@ -69,14 +69,14 @@ IsMarked is_last w (Step (Do i c)) sight = sight ≡ false
 IsMarked is_last w (Lose i keep) sight = sight ≡ false
 
 -- From the world w each of these events happens as it is marked, one after another, and leaves the world v.
-abbrev pub MarkedLeads : {S P C O : Type 0} → Machine S P C O → (S → P) → (P → Bool) → LosingWorld S P O → List (Marked C) → LosingWorld S P O → Type 0
+abbrev pub MarkedLeads : {S P C O : Type 0} → Machine S P C O → (S → P) → (P → Bool) → LosingWorld S P O → List (MarkedEvent C) → LosingWorld S P O → Type 0
 MarkedLeads m last is_last w [] v = w ≡ v
 MarkedLeads {S} {P} {C} {O} m last is_last w (x ∷ xs) v =
     (u : LosingWorld S P O) × (losing_happens m last w x.0 ≡ Some u) × IsMarked is_last w.world x.0 x.1 × MarkedLeads m last is_last u xs v
 
 -- As `Joined`: the events are those that the entries tell, each loss with as many packets as are taken later.
 pub record LosingJoined {S P C O : Type 0} (m : Machine (Timed S) (Stamped P) C O) (last : Timed S → Stamped P) (is_last : Stamped P → Bool) (lost : ℕ → Bool)
-    (kept : ℕ → ℕ → ℕ) (acts : ℕ → List (Act (Timed S) (Stamped P) C O)) (ends : ℕ → Timed S) (left : ℕ → ℕ → List (Stamped P))
+    (kept : ℕ → ℕ → ℕ) (acts : ℕ → List (LoggedAct (Timed S) (Stamped P) C O)) (ends : ℕ → Timed S) (left : ℕ → ℕ → List (Stamped P))
     (entries : List (Logged C)) : Type 0 where
   pub world : LosingWorld (Timed S) (Stamped P) O
   pub leads : MarkedLeads m last is_last (nobody_gone (start_of m)) (events_told kept entries) world

@@ -68,8 +68,8 @@ abbrev pub entry_at : {E : Type 0} → List (ℕ × E) → ℕ → List E
 entry_at log place = map (λ x. x.1) (take 1 (drop place log))
 
 -- what stands at these places of these logs, in this order
-abbrev pub merged : {E : Type 0} → (ℕ → List (ℕ × E)) → List (ℕ × ℕ) → List E
-merged logs order = flat_map (λ x. entry_at (logs x.0) x.1) order
+abbrev pub merged_logs : {E : Type 0} → (ℕ → List (ℕ × E)) → List (ℕ × ℕ) → List E
+merged_logs logs order = flat_map (λ x. entry_at (logs x.0) x.1) order
 
 -- a log, with what its entries are seen as beside their clocks
 abbrev pub seen_log : {E F : Type 0} → (E → F) → List (ℕ × E) → List (ℕ × F)

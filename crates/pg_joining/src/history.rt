@@ -10,8 +10,8 @@ ghost use Rattle.pg_step.specs.Step.{Action};
 ghost use Rattle.pg_step.specs.Config.{Config, names_of};
 ghost use Rattle.pg_step.specs.FrameMachine.{frame_machine};
 ghost use Rattle.pg_history.specs.Headline.{OneHistory};
-ghost use Rattle.pg_joining.specs.Logs.{Act, AreLogs};
-ghost use Rattle.pg_joining.specs.Merge.{Merges, clocks_of, merged};
+ghost use Rattle.pg_joining.specs.Logs.{LoggedAct, AreLogs};
+ghost use Rattle.pg_joining.specs.Merge.{Merges, clocks_of, merged_logs};
 ghost use Rattle.pg_joining.specs.Joined.{Joined};
 
 use pg_history::one_history;
@@ -21,12 +21,12 @@ use pg_step::nodes_keep_time;
 /// leads to, which shows each node as its log ended, everything holds that `one_history` says.
 pub fn joined_history()
     ensures { (config : Config) (logs : ℕ → List (ℕ × Event Action))
-        (acts : ℕ → List (Act (Timed State) (Stamped Message) Action Report)) (ends : ℕ → Timed State)
+        (acts : ℕ → List (LoggedAct (Timed State) (Stamped Message) Action Report)) (ends : ℕ → Timed State)
         (left : ℕ → ℕ → List (Stamped Message)) (order : List (ℕ × ℕ))
         → IsDistinct same_atom (names_of config) → AreLogs (frame_machine config) logs acts ends left
         → Merges (length config) (λ i. clocks_of (logs i)) order
-        → (run : Joined (frame_machine config) logs acts ends left (merged logs order))
-        × OneHistory config (merged logs order) (plain run.world) }
+        → (run : Joined (frame_machine config) logs acts ends left (merged_logs logs order))
+        × OneHistory config (merged_logs logs order) (plain run.world) }
 {
     nodes_keep_time();
     one_history();

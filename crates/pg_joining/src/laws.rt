@@ -3,8 +3,8 @@ ghost use Rattle.std.specs.List.{AllByRecursion, range_with_len};
 ghost use Rattle.pg_machine.specs.Machine.{Machine, Event};
 ghost use Rattle.pg_machine.specs.Clocked.{Timed, Stamped};
 ghost use Rattle.pg_machine.specs.Timely.{KeepsTime};
-ghost use Rattle.pg_joining.specs.Logs.{Act, AreLogs};
-ghost use Rattle.pg_joining.specs.Merge.{Merges, IsRising, IsSorted, places_of, clocks_of, merged, seen_log};
+ghost use Rattle.pg_joining.specs.Logs.{LoggedAct, AreLogs};
+ghost use Rattle.pg_joining.specs.Merge.{Merges, IsRising, IsSorted, places_of, clocks_of, merged_logs, seen_log};
 ghost use Rattle.pg_joining.specs.Joined.{Joined};
 ghost use Rattle.pg_joining.specs.Losses.{Logged, AreLosingLogs, LosingJoined, with_loss, with_losses};
 
@@ -12,10 +12,10 @@ ghost use Rattle.pg_joining.specs.Losses.{Logged, AreLosingLogs, LosingJoined, w
 /// from the start, and lead each node to where its log ended. So it is for every machine that keeps time.
 pub fn logs_join<S, P, C, O>()
     ensures { (limit : ℕ) (m : Machine (Timed S) (Stamped P) C O) (logs : ℕ → List (ℕ × Event C))
-        (acts : ℕ → List (Act (Timed S) (Stamped P) C O)) (ends : ℕ → Timed S)
+        (acts : ℕ → List (LoggedAct (Timed S) (Stamped P) C O)) (ends : ℕ → Timed S)
         (left : ℕ → ℕ → List (Stamped P)) (order : List (ℕ × ℕ)) → KeepsTime limit m
         → AreLogs m logs acts ends left → Merges m.size (λ i. clocks_of (logs i)) order
-        → Joined m logs acts ends left (merged logs order) }
+        → Joined m logs acts ends left (merged_logs logs order) }
 {}
 
 /// The same where nodes are lost. A loss is in the log of the lost node as its last entry, at the clock at which it stopped. Its
@@ -24,11 +24,11 @@ pub fn logs_join<S, P, C, O>()
 pub fn losing_logs_join<S, P, C, O>()
     ensures { (limit : ℕ) (m : Machine (Timed S) (Stamped P) C O) (last : Timed S → Stamped P) (is_last : Stamped P → Bool)
         (lost : ℕ → Bool) (kept : ℕ → ℕ → ℕ) (logs : ℕ → List (ℕ × Logged C))
-        (acts : ℕ → List (Act (Timed S) (Stamped P) C O)) (ends : ℕ → Timed S)
+        (acts : ℕ → List (LoggedAct (Timed S) (Stamped P) C O)) (ends : ℕ → Timed S)
         (left : ℕ → ℕ → List (Stamped P)) (order : List (ℕ × ℕ)) → KeepsTime limit m
         → ((s : Timed S) → (last s).stamp ≡ s.clock) → AreLosingLogs m last is_last lost kept logs acts ends left
         → Merges m.size (λ i. clocks_of (logs i)) order
-        → LosingJoined m last is_last lost kept acts ends left (merged logs order) }
+        → LosingJoined m last is_last lost kept acts ends left (merged_logs logs order) }
 {}
 
 /// Where losses are in a merge: each right after the last entry of its node, at whose clock it is, and those of nodes that did
@@ -49,8 +49,8 @@ pub fn merge_is_one()
 /// and what is in that order is seen so.
 pub fn seen_logs_merge_alike<E, F>()
     ensures clocks { (view : E → F) (log : List (ℕ × E)) → clocks_of (seen_log view log) ≡ clocks_of log }
-    ensures merged { (view : E → F) (logs : ℕ → List (ℕ × E)) (order : List (ℕ × ℕ))
-        → merged (λ i. seen_log view (logs i)) order ≡ map view (merged logs order) }
+    ensures merged_logs { (view : E → F) (logs : ℕ → List (ℕ × E)) (order : List (ℕ × ℕ))
+        → merged_logs (λ i. seen_log view (logs i)) order ≡ map view (merged_logs logs order) }
 {}
 
 /// A merge has each entry of each log once, those of a log in their order. Where the clocks of no log fall, it is sorted by clock,

@@ -4,8 +4,8 @@ use Rattle.pg_lock.specs.declared.attempt.Attempt.{Attempt}
 use Rattle.pg_lock.specs.declared.attempt.Attempt.TheVariants.{Waiting, AskingFirst, AskingRest, Held}
 
 -- the greatest node is asked first
-abbrev pub first_of : Attempt
-first_of = AskingFirst
+abbrev pub first_attempt : Attempt
+first_attempt = AskingFirst
 
 -- what follows a round in which all have answered; the second argument tells whether each of them has granted
 abbrev pub after_round : Attempt → Bool → Attempt
@@ -26,5 +26,5 @@ does_wait _ = false
 
 -- only a command that waits is tried again
 abbrev pub retry_of : Attempt → Option Attempt
-retry_of Waiting = Some first_of
+retry_of Waiting = Some first_attempt
 retry_of _ = None

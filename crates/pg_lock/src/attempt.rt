@@ -15,13 +15,13 @@ pub enum Attempt {
 }
 
 impl Attempt {
-    ghost use Rattle.pg_lock.specs.Attempts.{first_of, after_round, retry_of, does_wait};
+    ghost use Rattle.pg_lock.specs.Attempts.{first_attempt, after_round, retry_of, does_wait};
 
     /// The attempt of a new command.
     ///
     /// Cost: no memory.
     pub fn new() -> Attempt
-        ensures { result ≡ first_of }
+        ensures { result ≡ first_attempt }
     {
         Self::AskingFirst
     }

@@ -14,7 +14,7 @@ use Rattle.pg_group.specs.Functions.{upd}
 use Rattle.pg_group.specs.Members.{IsInOrder, IsMemberList}
 use Rattle.pg_group.proofs.Put.{all-put, ordered-put, count-put}
 use Rattle.pg_members.specs.declared.row.Row.{Row}
-use Rattle.pg_members.specs.Rows.{counts_of, spread, AreRows, added, added_by, taken, taken_by}
+use Rattle.pg_members.specs.Rows.{counts_of, spread, AreRows, added, added_by, one_taken, taken_by}
 use Rattle.pg_members.proofs.Order.{same_is, same_if, same_self, symm, turned, other_turned, other_if_less}
 use Rattle.pg_members.proofs.Flat.{none_greater, later_greater}
 
@@ -50,7 +50,7 @@ counts-added pid n rows = fun_ext (λ q. go q (same_pid pid q) refl)
     go q true e = subst (λ (x : Pid). counts_of (added rows pid n) x ≡ counts_of rows pid + n) (same_is pid q e) (added_self pid n rows)
     go q false e = added_other pid q n rows e
 
-taken_self : (pid : Pid) (n : ℕ) (rows : List Row) → AreRows rows → counts_of (taken rows pid n) pid ≡ counts_of rows pid - n
+taken_self : (pid : Pid) (n : ℕ) (rows : List Row) → AreRows rows → counts_of (one_taken rows pid n) pid ≡ counts_of rows pid - n
 taken_self pid n [] h = omega arith
 taken_self pid n (r ∷ rs) h = go (pid_cmp r.pid pid) refl (taken_self pid n rs h.2)
   where
@@ -58,7 +58,7 @@ taken_self pid n (r ∷ rs) h = go (pid_cmp r.pid pid) refl (taken_self pid n rs
     some true e f g = let few : r.count ≤ n = grind (arith, nat_tests) in omega arith
     some false e f g = let i : cond (same_pid pid r.pid) (r.count - n) 0 ≡ r.count - n = ap (λ b. cond b (r.count - n) 0) f in omega arith
 
-    go : (o : Ordering) → pid_cmp r.pid pid ≡ o → counts_of (taken rs pid n) pid ≡ counts_of rs pid - n → counts_of (taken_by o r rs (taken rs pid n) n) pid ≡ counts_of (r ∷ rs) pid - n
+    go : (o : Ordering) → pid_cmp r.pid pid ≡ o → counts_of (one_taken rs pid n) pid ≡ counts_of rs pid - n → counts_of (taken_by o r rs (one_taken rs pid n) n) pid ≡ counts_of (r ∷ rs) pid - n
     go Less e i = let f : cond (same_pid pid r.pid) r.count 0 ≡ 0 = ap (λ b. cond b r.count 0) (other_turned r.pid pid (other_if_less r.pid pid e)) in omega arith
     go Equal e i =
         let f : same_pid pid r.pid ≡ true = symm pid r.pid ∙ same_if r.pid pid e in
@@ -68,7 +68,7 @@ taken_self pid n (r ∷ rs) h = go (pid_cmp r.pid pid) refl (taken_self pid n rs
         l ∙ omega arith
     go Greater e i = let f : counts_of (r ∷ rs) pid ≡ 0 = none_greater pid (r ∷ rs) (turned r.pid pid e, later_greater pid r rs h (ap is_lt e)) in omega arith
 
-taken_other : (pid q : Pid) (n : ℕ) (rows : List Row) → same_pid pid q ≡ false → counts_of (taken rows pid n) q ≡ counts_of rows q
+taken_other : (pid q : Pid) (n : ℕ) (rows : List Row) → same_pid pid q ≡ false → counts_of (one_taken rows pid n) q ≡ counts_of rows q
 taken_other pid q n [] h = refl
 taken_other pid q n (r ∷ rs) h = go (pid_cmp r.pid pid) refl (taken_other pid q n rs h)
   where
@@ -76,7 +76,7 @@ taken_other pid q n (r ∷ rs) h = go (pid_cmp r.pid pid) refl (taken_other pid 
     some true f = refl
     some false f = let i : cond (same_pid q r.pid) (r.count - n) 0 ≡ 0 = ap (λ b. cond b (r.count - n) 0) f in omega arith
 
-    go : (o : Ordering) → pid_cmp r.pid pid ≡ o → counts_of (taken rs pid n) q ≡ counts_of rs q → counts_of (taken_by o r rs (taken rs pid n) n) q ≡ counts_of (r ∷ rs) q
+    go : (o : Ordering) → pid_cmp r.pid pid ≡ o → counts_of (one_taken rs pid n) q ≡ counts_of rs q → counts_of (taken_by o r rs (one_taken rs pid n) n) q ≡ counts_of (r ∷ rs) q
     go Less e i = omega arith
     go Equal e i =
         let f : same_pid q r.pid ≡ false = ap (same_pid q) (same_is r.pid pid (same_if r.pid pid e)) ∙ symm q pid ∙ h in
@@ -85,12 +85,12 @@ taken_other pid q n (r ∷ rs) h = go (pid_cmp r.pid pid) refl (taken_other pid 
         k ∙ omega arith
     go Greater e i = refl
 
-pub counts-taken : (pid : Pid) (n : ℕ) (rows : List Row) → AreRows rows → counts_of (taken rows pid n) ≡ upd same_pid (counts_of rows) pid (counts_of rows pid - n)
+pub counts-taken : (pid : Pid) (n : ℕ) (rows : List Row) → AreRows rows → counts_of (one_taken rows pid n) ≡ upd same_pid (counts_of rows) pid (counts_of rows pid - n)
 unfolding upd
 counts-taken pid n rows h = fun_ext (λ q. go q (same_pid pid q) refl)
   where
-    go : (q : Pid) (b : Bool) → same_pid pid q ≡ b → counts_of (taken rows pid n) q ≡ cond b (counts_of rows pid - n) (counts_of rows q)
-    go q true e = subst (λ (x : Pid). counts_of (taken rows pid n) x ≡ counts_of rows pid - n) (same_is pid q e) (taken_self pid n rows h)
+    go : (q : Pid) (b : Bool) → same_pid pid q ≡ b → counts_of (one_taken rows pid n) q ≡ cond b (counts_of rows pid - n) (counts_of rows q)
+    go q true e = subst (λ (x : Pid). counts_of (one_taken rows pid n) x ≡ counts_of rows pid - n) (same_is pid q e) (taken_self pid n rows h)
     go q false e = taken_other pid q n rows e
 
 -- ---- the list of members

@@ -11,7 +11,7 @@ use Rattle.pg_term.specs.declared.pid.Pid.{Pid}
 use Rattle.pg_term.specs.Same.{same_pid, pid_cmp}
 use Rattle.pg_members.specs.declared.row.Row.{Row}
 use Rattle.pg_members.specs.Rows.{counts_of, total_of, AreRows, all_before, IsCut}
-use Rattle.pg_members.specs.Rows.{is_here, added, added_by, taken, taken_by}
+use Rattle.pg_members.specs.Rows.{is_here, added, added_by, one_taken, taken_by}
 use Rattle.pg_members.specs.Edges.{IsDownward}
 use Rattle.pg_members.proofs.Order.{equal_if, greater_if}
 use Rattle.pg_members.proofs.Flat.{below, rows_left, rows_right, total-append, counts-append}
@@ -125,8 +125,8 @@ module _ (pid : Pid) (rows : List Row) (at : ℕ) (h : AreRows rows) (cut : IsCu
   added_whole : (n : ℕ) → added rows pid n ≡ take at rows ++ added (drop at rows) pid n
   added_whole n = ap (λ l. added l pid n) (sym whole) ∙ added_after pid n (take at rows) (drop at rows) cut.front
 
-  taken_whole : (n : ℕ) → taken rows pid n ≡ take at rows ++ taken (drop at rows) pid n
-  taken_whole n = ap (λ l. taken l pid n) (sym whole) ∙ taken_after pid n (take at rows) (drop at rows) cut.front
+  taken_whole : (n : ℕ) → one_taken rows pid n ≡ take at rows ++ one_taken (drop at rows) pid n
+  taken_whole n = ap (λ l. one_taken l pid n) (sym whole) ∙ taken_after pid n (take at rows) (drop at rows) cut.front
 
   missing_added_rest : (n : ℕ) (b : List Row) → AllByRecursion (λ r. below pid r.pid ≡ false) b → is_here pid b ≡ false → added b pid n ≡ record { pid = pid; count = n } ∷ b
   missing_added_rest n [] f e = refl
@@ -135,11 +135,11 @@ module _ (pid : Pid) (rows : List Row) (at : ℕ) (h : AreRows rows) (cut : IsCu
   pub missing_added : (n : ℕ) → is_here pid (drop at rows) ≡ false → insert rows at (record { pid = pid; count = n }) ≡ added rows pid n
   missing_added n e = ap (λ l. take at rows ++ l) (sym (missing_added_rest n (drop at rows) cut.rest e)) ∙ sym (added_whole n)
 
-  missing_taken_rest : (n : ℕ) (b : List Row) → AllByRecursion (λ r. below pid r.pid ≡ false) b → is_here pid b ≡ false → taken b pid n ≡ b
+  missing_taken_rest : (n : ℕ) (b : List Row) → AllByRecursion (λ r. below pid r.pid ≡ false) b → is_here pid b ≡ false → one_taken b pid n ≡ b
   missing_taken_rest n [] f e = refl
-  missing_taken_rest n (r ∷ b) f e = ap (λ o. taken_by o r b (taken b pid n) n) (greater_if r.pid pid f.0 e)
+  missing_taken_rest n (r ∷ b) f e = ap (λ o. taken_by o r b (one_taken b pid n) n) (greater_if r.pid pid f.0 e)
 
-  pub missing_taken : (n : ℕ) → is_here pid (drop at rows) ≡ false → taken rows pid n ≡ rows
+  pub missing_taken : (n : ℕ) → is_here pid (drop at rows) ≡ false → one_taken rows pid n ≡ rows
   missing_taken n e = taken_whole n ∙ ap (λ l. take at rows ++ l) (missing_taken_rest n (drop at rows) cut.rest e) ∙ whole
 
   module _ (row : Row) (is : row ≡ get_or rows at row) (here : is_here pid (drop at rows) ≡ true) where
@@ -164,11 +164,11 @@ module _ (pid : Pid) (rows : List Row) (at : ℕ) (h : AreRows rows) (cut : IsCu
     pub found_counts : counts_of rows pid ≡ 0 → ⊥
     found_counts none = let some = positive rows at row h within is in let e = found_count in omega arith
 
-    found_taken : (n : ℕ) → taken rows pid n ≡ take at rows ++ cond (nat_le row.count n) (drop (suc at) rows) (record { pid = row.pid; count = row.count - n } ∷ drop (suc at) rows)
-    found_taken n = taken_whole n ∙ ap (λ l. take at rows ++ l) (ap (λ l. taken l pid n) starts ∙ ap (λ o. taken_by o row (drop (suc at) rows) (taken (drop (suc at) rows) pid n) n) (equal_if row.pid pid same))
+    found_taken : (n : ℕ) → one_taken rows pid n ≡ take at rows ++ cond (nat_le row.count n) (drop (suc at) rows) (record { pid = row.pid; count = row.count - n } ∷ drop (suc at) rows)
+    found_taken n = taken_whole n ∙ ap (λ l. take at rows ++ l) (ap (λ l. one_taken l pid n) starts ∙ ap (λ o. taken_by o row (drop (suc at) rows) (one_taken (drop (suc at) rows) pid n) n) (equal_if row.pid pid same))
 
-    pub found_all : (n : ℕ) → row.count ≤ n → remove rows at ≡ taken rows pid n
+    pub found_all : (n : ℕ) → row.count ≤ n → remove rows at ≡ one_taken rows pid n
     found_all n k = let e : nat_le row.count n ≡ true = grind (arith, nat_tests) in sym (found_taken n ∙ ap (λ t. take at rows ++ cond t (drop (suc at) rows) (record { pid = row.pid; count = row.count - n } ∷ drop (suc at) rows)) e)
 
-    pub found_some : (n : ℕ) → n < row.count → set rows at (record { pid = row.pid; count = row.count - n }) ≡ taken rows pid n
+    pub found_some : (n : ℕ) → n < row.count → set rows at (record { pid = row.pid; count = row.count - n }) ≡ one_taken rows pid n
     found_some n k = let e : nat_le row.count n ≡ false = grind (arith, nat_tests) in set_split rows at (record { pid = row.pid; count = row.count - n }) within ∙ sym (found_taken n ∙ ap (λ t. take at rows ++ cond t (drop (suc at) rows) (record { pid = row.pid; count = row.count - n } ∷ drop (suc at) rows)) e)

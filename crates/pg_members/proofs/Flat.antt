@@ -10,7 +10,7 @@ use Rattle.std.specs.declared.cmp.Ordering.TheVariants.{Less, Equal, Greater}
 use Rattle.pg_term.specs.declared.pid.Pid.{Pid}
 use Rattle.pg_term.specs.Same.{same_pid, pid_cmp}
 use Rattle.pg_members.specs.declared.row.Row.{Row}
-use Rattle.pg_members.specs.Rows.{counts_of, total_of, AreRows, added, added_by, taken, taken_by}
+use Rattle.pg_members.specs.Rows.{counts_of, total_of, AreRows, added, added_by, one_taken, taken_by}
 use Rattle.pg_members.proofs.Order.{less_if, less_trans, greater_if, turned, greater_turned}
 use Rattle.pg_members.proofs.Order.{other_if_less, other_turned, same_is, same_if, symm}
 
@@ -88,9 +88,9 @@ pub added_after : (pid : Pid) (n : ℕ) (a b : List Row) → AllByRecursion (λ 
 added_after pid n [] b h = refl
 added_after pid n (r ∷ a) b h = ap (λ o. added_by o r (a ++ b) (added (a ++ b) pid n) pid n) (less_if (pid_cmp r.pid pid) h.0) ∙ ap (λ l. r ∷ l) (added_after pid n a b h.1)
 
-pub taken_after : (pid : Pid) (n : ℕ) (a b : List Row) → AllByRecursion (λ r. below pid r.pid ≡ true) a → taken (a ++ b) pid n ≡ a ++ taken b pid n
+pub taken_after : (pid : Pid) (n : ℕ) (a b : List Row) → AllByRecursion (λ r. below pid r.pid ≡ true) a → one_taken (a ++ b) pid n ≡ a ++ one_taken b pid n
 taken_after pid n [] b h = refl
-taken_after pid n (r ∷ a) b h = ap (λ o. taken_by o r (a ++ b) (taken (a ++ b) pid n) n) (less_if (pid_cmp r.pid pid) h.0) ∙ ap (λ l. r ∷ l) (taken_after pid n a b h.1)
+taken_after pid n (r ∷ a) b h = ap (λ o. taken_by o r (a ++ b) (one_taken (a ++ b) pid n) n) (less_if (pid_cmp r.pid pid) h.0) ∙ ap (λ l. r ∷ l) (taken_after pid n a b h.1)
 
 -- rows greater than the pid are not looked at, unless there is nothing before them
 first_added : (pid : Pid) (n : ℕ) (b : List Row) → AllByRecursion (λ r. pid_cmp pid r.pid ≡ Less) b → added b pid n ≡ record { pid = pid; count = n } ∷ b
@@ -106,20 +106,20 @@ pub added_before : (pid : Pid) (n : ℕ) (a b : List Row) → AllByRecursion (λ
 added_before pid n [] b h = first_added pid n b h
 added_before pid n (r ∷ a) b h = added_step pid n r a b (added_before pid n a b h) (pid_cmp r.pid pid)
 
-first_taken : (pid : Pid) (n : ℕ) (b : List Row) → AllByRecursion (λ r. pid_cmp pid r.pid ≡ Less) b → taken b pid n ≡ b
+first_taken : (pid : Pid) (n : ℕ) (b : List Row) → AllByRecursion (λ r. pid_cmp pid r.pid ≡ Less) b → one_taken b pid n ≡ b
 first_taken pid n [] h = refl
-first_taken pid n (s ∷ b) h = ap (λ o. taken_by o s b (taken b pid n) n) (greater_turned pid s.pid h.0)
+first_taken pid n (s ∷ b) h = ap (λ o. taken_by o s b (one_taken b pid n) n) (greater_turned pid s.pid h.0)
 
 taken_some : (r : Row) (n : ℕ) (a b : List Row) (k : Bool) → cond k (a ++ b) (record { pid = r.pid; count = r.count - n } ∷ (a ++ b)) ≡ cond k a (record { pid = r.pid; count = r.count - n } ∷ a) ++ b
 taken_some r n a b true = refl
 taken_some r n a b false = refl
 
-taken_step : (pid : Pid) (n : ℕ) (r : Row) (a b : List Row) → taken (a ++ b) pid n ≡ taken a pid n ++ b → (o : Ordering) → taken_by o r (a ++ b) (taken (a ++ b) pid n) n ≡ taken_by o r a (taken a pid n) n ++ b
+taken_step : (pid : Pid) (n : ℕ) (r : Row) (a b : List Row) → one_taken (a ++ b) pid n ≡ one_taken a pid n ++ b → (o : Ordering) → taken_by o r (a ++ b) (one_taken (a ++ b) pid n) n ≡ taken_by o r a (one_taken a pid n) n ++ b
 taken_step pid n r a b e Less = ap (λ l. r ∷ l) e
 taken_step pid n r a b e Equal = taken_some r n a b (nat_le r.count n)
 taken_step pid n r a b e Greater = refl
 
-pub taken_before : (pid : Pid) (n : ℕ) (a b : List Row) → AllByRecursion (λ r. pid_cmp pid r.pid ≡ Less) b → taken (a ++ b) pid n ≡ taken a pid n ++ b
+pub taken_before : (pid : Pid) (n : ℕ) (a b : List Row) → AllByRecursion (λ r. pid_cmp pid r.pid ≡ Less) b → one_taken (a ++ b) pid n ≡ one_taken a pid n ++ b
 taken_before pid n [] b h = first_taken pid n b h
 taken_before pid n (r ∷ a) b h = taken_step pid n r a b (taken_before pid n a b h) (pid_cmp r.pid pid)
 
@@ -143,7 +143,7 @@ rows_added pid n (r ∷ rs) k h = go (pid_cmp r.pid pid) refl (rows_added pid n 
     go Equal e i = (omega arith, h.1, h.2)
     go Greater e i = (k, (turned r.pid pid e, all_map (λ s. pid_cmp r.pid s.pid ≡ Less) (λ s. pid_cmp pid s.pid ≡ Less) (λ s f. less_trans pid r.pid s.pid (turned r.pid pid e) f) rs h.1), (h.0, h.1, h.2))
 
-all_taken : (P : Row → Type 0) (pid : Pid) (n : ℕ) (rows : List Row) → ((r : Row) → P r → P (record { pid = r.pid; count = r.count - n })) → AllByRecursion P rows → AllByRecursion P (taken rows pid n)
+all_taken : (P : Row → Type 0) (pid : Pid) (n : ℕ) (rows : List Row) → ((r : Row) → P r → P (record { pid = r.pid; count = r.count - n })) → AllByRecursion P rows → AllByRecursion P (one_taken rows pid n)
 all_taken P pid n [] g h = tt
 all_taken P pid n (r ∷ rs) g h = go (pid_cmp r.pid pid) (all_taken P pid n rs g h.1)
   where
@@ -151,12 +151,12 @@ all_taken P pid n (r ∷ rs) g h = go (pid_cmp r.pid pid) (all_taken P pid n rs 
     some true = h.1
     some false = (g r h.0, h.1)
 
-    go : (o : Ordering) → AllByRecursion P (taken rs pid n) → AllByRecursion P (taken_by o r rs (taken rs pid n) n)
+    go : (o : Ordering) → AllByRecursion P (one_taken rs pid n) → AllByRecursion P (taken_by o r rs (one_taken rs pid n) n)
     go Less k = (h.0, k)
     go Equal k = some (nat_le r.count n)
     go Greater k = h
 
-pub rows_taken : (pid : Pid) (n : ℕ) (rows : List Row) → AreRows rows → AreRows (taken rows pid n)
+pub rows_taken : (pid : Pid) (n : ℕ) (rows : List Row) → AreRows rows → AreRows (one_taken rows pid n)
 rows_taken pid n [] h = tt
 rows_taken pid n (r ∷ rs) h = go (pid_cmp r.pid pid) (rows_taken pid n rs h.2)
   where
@@ -164,7 +164,7 @@ rows_taken pid n (r ∷ rs) h = go (pid_cmp r.pid pid) (rows_taken pid n rs h.2)
     some true e = h.2
     some false e = (grind (arith, nat_tests), h.1, h.2)
 
-    go : (o : Ordering) → AreRows (taken rs pid n) → AreRows (taken_by o r rs (taken rs pid n) n)
+    go : (o : Ordering) → AreRows (one_taken rs pid n) → AreRows (taken_by o r rs (one_taken rs pid n) n)
     go Less i = (h.0, all_taken (λ later. pid_cmp r.pid later.pid ≡ Less) pid n rs (λ s f. f) h.1, i)
     go Equal i = some (nat_le r.count n) refl
     go Greater i = h
@@ -187,7 +187,7 @@ count_le pid (r ∷ rs) = go (same_pid pid r.pid) (count_le pid rs)
     go true e = omega arith
     go false e = omega arith
 
-pub total-taken : (pid : Pid) (n : ℕ) (rows : List Row) → AreRows rows → total_of (taken rows pid n) + min n (counts_of rows pid) ≡ total_of rows
+pub total-taken : (pid : Pid) (n : ℕ) (rows : List Row) → AreRows rows → total_of (one_taken rows pid n) + min n (counts_of rows pid) ≡ total_of rows
 total-taken pid n [] h = omega arith
 total-taken pid n (r ∷ rs) h = go (pid_cmp r.pid pid) refl (total-taken pid n rs h.2)
   where
@@ -195,7 +195,7 @@ total-taken pid n (r ∷ rs) h = go (pid_cmp r.pid pid) refl (total-taken pid n 
     some true e = let f : r.count ≤ n = grind (arith, nat_tests) in omega arith
     some false e = let f : n < r.count = grind (arith, nat_tests) in omega arith
 
-    go : (o : Ordering) → pid_cmp r.pid pid ≡ o → total_of (taken rs pid n) + min n (counts_of rs pid) ≡ total_of rs → total_of (taken_by o r rs (taken rs pid n) n) + min n (counts_of (r ∷ rs) pid) ≡ r.count + total_of rs
+    go : (o : Ordering) → pid_cmp r.pid pid ≡ o → total_of (one_taken rs pid n) + min n (counts_of rs pid) ≡ total_of rs → total_of (taken_by o r rs (one_taken rs pid n) n) + min n (counts_of (r ∷ rs) pid) ≡ r.count + total_of rs
     go Less e i = let f : cond (same_pid pid r.pid) r.count 0 ≡ 0 = ap (λ b. cond b r.count 0) (other_turned r.pid pid (other_if_less r.pid pid e)) in omega arith
-    go Equal e i = let f : counts_of (r ∷ rs) pid ≡ r.count = count_head pid r rs h (ap is_lt e) ∙ ap (λ b. cond b r.count 0) (same_if r.pid pid e) in let g = some (nat_le r.count n) refl in ap (λ m. total_of (taken_by Equal r rs (taken rs pid n) n) + min n m) f ∙ g
+    go Equal e i = let f : counts_of (r ∷ rs) pid ≡ r.count = count_head pid r rs h (ap is_lt e) ∙ ap (λ b. cond b r.count 0) (same_if r.pid pid e) in let g = some (nat_le r.count n) refl in ap (λ m. total_of (taken_by Equal r rs (one_taken rs pid n) n) + min n m) f ∙ g
     go Greater e i = let f : counts_of (r ∷ rs) pid ≡ 0 = none_greater pid (r ∷ rs) (turned r.pid pid e, later_greater pid r rs h (ap is_lt e)) in omega arith

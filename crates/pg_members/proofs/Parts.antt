@@ -15,7 +15,7 @@ use Rattle.pg_term.specs.declared.pid.Pid.{Pid}
 use Rattle.pg_term.specs.Same.{pid_cmp}
 use Rattle.pg_group.specs.Scope.{anywhere}
 use Rattle.pg_members.specs.declared.row.Row.{Row}
-use Rattle.pg_members.specs.Rows.{counts_of, total_of, spread, AreRows, all_before, added, added_by, taken}
+use Rattle.pg_members.specs.Rows.{counts_of, total_of, spread, AreRows, all_before, added, added_by, one_taken}
 use Rattle.pg_members.specs.Levels.{NoneEmpty, IsChoice, IsHome}
 use Rattle.pg_members.specs.Edges.{IsDownward}
 use Rattle.pg_members.proofs.Order.{less_if}
@@ -383,9 +383,9 @@ module _ {P : Type 0} (rows : P → List Row) where
         ∙ added_after pid n (flat (take i parts)) (rows part ++ flat (drop (suc i) parts)) (below_of pid (flat (take i parts)) home.front)
         ∙ ap (λ l. flat (take i parts) ++ l) (added_before pid n (rows part) (flat (drop (suc i) parts)) later)
 
-    pub taken_home : (n : ℕ) → taken (flat parts) pid n ≡ flat (take i parts) ++ (taken (rows part) pid n ++ flat (drop (suc i) parts))
+    pub taken_home : (n : ℕ) → one_taken (flat parts) pid n ≡ flat (take i parts) ++ (one_taken (rows part) pid n ++ flat (drop (suc i) parts))
     taken_home n =
-        ap (λ l. taken l pid n) whole
+        ap (λ l. one_taken l pid n) whole
         ∙ taken_after pid n (flat (take i parts)) (rows part ++ flat (drop (suc i) parts)) (below_of pid (flat (take i parts)) home.front)
         ∙ ap (λ l. flat (take i parts) ++ l) (taken_before pid n (rows part) (flat (drop (suc i) parts)) later)
 
@@ -396,11 +396,11 @@ module _ {P : Type 0} (rows : P → List Row) where
     pub set_added : (n : ℕ) (next : P) → rows next ≡ added (rows part) pid n → flat (set parts i next) ≡ added (flat parts) pid n
     set_added n next e = around_set parts i next home.within ∙ ap (λ l. flat (take i parts) ++ (l ++ flat (drop (suc i) parts))) e ∙ sym (added_home n)
 
-    pub set_taken : (n : ℕ) (next : P) → rows next ≡ taken (rows part) pid n → flat (set parts i next) ≡ taken (flat parts) pid n
+    pub set_taken : (n : ℕ) (next : P) → rows next ≡ one_taken (rows part) pid n → flat (set parts i next) ≡ one_taken (flat parts) pid n
     set_taken n next e = around_set parts i next home.within ∙ ap (λ l. flat (take i parts) ++ (l ++ flat (drop (suc i) parts))) e ∙ sym (taken_home n)
 
     -- the part removed, once it is empty
-    pub remove_taken : (n : ℕ) (next : P) → rows next ≡ taken (rows part) pid n → rows next ≡ [] → flat (remove (set parts i next) i) ≡ taken (flat parts) pid n
+    pub remove_taken : (n : ℕ) (next : P) → rows next ≡ one_taken (rows part) pid n → rows next ≡ [] → flat (remove (set parts i next) i) ≡ one_taken (flat parts) pid n
     remove_taken n next e none =
         ap flat (λ j. take-set parts i next j ++ drop-set-lt (suc i) parts i next (omega arith) j)
         ∙ around_removed parts i

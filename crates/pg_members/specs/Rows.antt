@@ -63,9 +63,9 @@ taken_by Less row rows others n = row ∷ others
 taken_by Equal row rows others n = cond (nat_le row.count n) rows (record { pid = row.pid; count = row.count - n } ∷ rows)
 taken_by Greater row rows others n = row ∷ rows
 
-abbrev pub taken : List Row → Pid → ℕ → List Row
-taken [] pid n = []
-taken (row ∷ rows) pid n = taken_by (pid_cmp row.pid pid) row rows (taken rows pid n) n
+abbrev pub one_taken : List Row → Pid → ℕ → List Row
+one_taken [] pid n = []
+one_taken (row ∷ rows) pid n = taken_by (pid_cmp row.pid pid) row rows (one_taken rows pid n) n
 
 -- whether a row is of another node
 abbrev pub is_off : List ℕ → Row → Bool

@@ -3,7 +3,7 @@ ghost use Rattle.std.specs.Prelude.{IfOk, IfSome, IfNone, [], ◌∷◌, ◌++�
 ghost use Rattle.std.specs.List.{filter, flat_map};
 ghost use Rattle.pg_group.specs.Scope.{in_scope, at_node};
 ghost use Rattle.pg_members.specs.Edges.{before};
-ghost use Rattle.pg_members.specs.Rows.{AreRows, counts_of, total_of, spread, added, taken, is_off, has_rows};
+ghost use Rattle.pg_members.specs.Rows.{AreRows, counts_of, total_of, spread, added, one_taken, is_off, has_rows};
 ghost use Rattle.pg_members.specs.Levels.{IsChoice, IsHome, NoneEmpty};
 
 use crate::edge::Edge;
@@ -157,7 +157,7 @@ fn take_at<P: Part>(parts: &mut Vec<P>, at: usize, pid: &Pid, most: u64) -> u64
     requires parts { NoneEmpty P.rows parts.old.items }
     requires some { 0 < most }
     ensures count { result ≡ counts_of (flat_map P.rows parts.old.items) pid.now }
-    ensures rest { flat_map P.rows parts.new.items ≡ taken (flat_map P.rows parts.old.items) pid.now most }
+    ensures rest { flat_map P.rows parts.new.items ≡ one_taken (flat_map P.rows parts.old.items) pid.now most }
     ensures parts { NoneEmpty P.rows parts.new.items }
 {
     let count = parts[at].take(pid, most);

@@ -4,7 +4,7 @@ ghost use Rattle.std.specs.List.{filter};
 ghost use Rattle.pg_members.specs.declared.row.Row.{Row};
 ghost use Rattle.pg_members.specs.Edges.{before};
 ghost use Rattle.pg_members.specs.Rows.{counts_of, total_of, spread, AreRows};
-ghost use Rattle.pg_members.specs.Rows.{is_off, all_before, added, taken, IsSplit};
+ghost use Rattle.pg_members.specs.Rows.{is_off, all_before, added, one_taken, IsSplit};
 ghost use Rattle.pg_group.specs.Scope.{anywhere, in_scope};
 
 use crate::edge::Edge;
@@ -60,7 +60,7 @@ pub trait Part: Drop {
     fn take(&mut self, pid: &Pid, most: u64) -> u64
         requires { 0 < most }
         ensures count { result ≡ counts_of (rows self.old) pid.now }
-        ensures rest { rows self.new ≡ taken (rows self.old) pid.now most };
+        ensures rest { rows self.new ≡ one_taken (rows self.old) pid.now most };
 
     /// Takes the last row out.
     fn take_last(&mut self) -> Option<Row>

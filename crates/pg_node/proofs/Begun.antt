@@ -15,7 +15,7 @@ use Rattle.pg_message.specs.Writing.{body_of, length_of, sent, term_of_packet}
 use Rattle.pg_step.specs.Nodes.{Node}
 use Rattle.pg_node.specs.declared.node.wire.Wire.{Wire}
 use Rattle.pg_node_state.specs.NodeFault.{from_message}
-use Rattle.pg_node.specs.Begun.{Begins, IsOpened, CantOpen}
+use Rattle.pg_node.specs.Begun.{BeginsLinked, IsOpened, CantOpen}
 use Rattle.pg_node.specs.Links.{Link, link_of, links_in}
 use Rattle.pg_node_state.specs.Opening.{IsAnnouncement}
 
@@ -80,7 +80,7 @@ has_body packet n e = go (packet_of (term_of_packet packet)) e
 
 -- all links are opened, and what goes out there can be written
 pub begins_so : {A E : Type 0} (r : Result A E) (links : A → ℕ → Link) (table : Table) (own : Node) (n peers : ℕ) (packet : Packet) → n ≡ peers → IsAnnouncement table own packet
-    → OnOk r (body_of packet ≡ Ok (written (term_of_packet packet))) → IfOk r (λ a. (place : ℕ) → place < n → IsOpened packet (links a place)) → IfOk r (λ a. Begins table own peers (links a))
+    → OnOk r (body_of packet ≡ Ok (written (term_of_packet packet))) → IfOk r (λ a. (place : ℕ) → place < n → IsOpened packet (links a place)) → IfOk r (λ a. BeginsLinked table own peers (links a))
 begins_so (Ok a) links table own n peers packet same tells body each = (packet, record { tells = tells; body = body; each = λ place l. each place (omega (arith, l, same)) })
 begins_so (Err e) links table own n peers packet same tells body each = tt
 

@@ -22,7 +22,7 @@ use Rattle.pg_node_state.specs.declared.state.done.Done.{Done}
 use Rattle.pg_node_state.specs.declared.state.fault.NodeFault.{NodeFault}
 use Rattle.pg_node_state.specs.declared.state.fault.NodeFault.TheVariants.{Refused, OutOfMemory}
 use Rattle.pg_node_state.specs.declared.state.fault.NodeFault.TheVariants.{Message, TooLong, Damaged}
-use Rattle.pg_node.specs.Bytes.{Tells, next_packet, packet_at, packet_in, damages, marked, passed, is_none, is_idle}
+use Rattle.pg_node.specs.Bytes.{ReadsNext, next_packet, packet_at, packet_in, damages, marked, passed, is_none, is_idle}
 use Rattle.pg_node_state.specs.Frames.{frames_to}
 use Rattle.pg_node.specs.Links.{Link, link_of, links_in, at_link, with_more}
 use Rattle.pg_node.specs.Nodes.{read_next, taken_as, taken_of, step_link, TakesNext, ComesInRoom, sent_out}
@@ -83,7 +83,7 @@ module _ (names : List Name) (s0 s : Timed State) (before after : ℕ → List A
   memory_out (Err refusal) = tt
 
   -- no packet was read
-  pub next_err : (m : Nodes) (p : Name) (told : Result (Option Packet) NodeFault) (fault : NodeFault) → Tells told (Err fault) → TakesNext names (taken_of m p s0 told) (Err fault) s0 s before after
+  pub next_err : (m : Nodes) (p : Name) (told : Result (Option Packet) NodeFault) (fault : NodeFault) → ReadsNext told (Err fault) → TakesNext names (taken_of m p s0 told) (Err fault) s0 s before after
   next_err m p (Ok (Some packet)) OutOfMemory h = memory_out (step_take m p (stamped_of packet) s0)
   next_err m p (Ok (Some packet)) (Refused refusal) h = absurd (cc)
   next_err m p (Ok (Some packet)) (Message fault) h = absurd (cc)
@@ -105,7 +105,7 @@ module _ (names : List Name) (s0 s : Timed State) (before after : ℕ → List A
   next_err m p (Err Damaged) fault h = ap (λ (r : Result (Option Packet) NodeFault). as_none r) h
 
 -- what was read is what is told
-pub tells_ok : (told : Result (Option Packet) NodeFault) (some : Option Packet) → Tells told (Ok some) → told ≡ Ok some
+pub tells_ok : (told : Result (Option Packet) NodeFault) (some : Option Packet) → ReadsNext told (Ok some) → told ≡ Ok some
 tells_ok (Ok (Some packet)) some h = sym h
 tells_ok (Ok None) some h = sym h
 tells_ok (Err (Message other)) some h = sym h

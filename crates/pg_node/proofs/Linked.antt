@@ -17,7 +17,7 @@ use Rattle.pg_node.specs.declared.node.wire.Wire.{Wire}
 use Rattle.pg_node_state.specs.Frames.{frame_of, frames_to, IsSmallFrame, AreSmallFrames}
 use Rattle.pg_node_state.specs.Sendable.{FitLinks, IsSendable, Ascends, AreAlike}
 use Rattle.pg_node.specs.Links.{Link, link_of, idle_link, part_in, links_in}
-use Rattle.pg_node.specs.Links.{at_link, room_in, with_more, HasRoom, HaveRoom, IsFrame, AreOneFrame}
+use Rattle.pg_node.specs.Links.{at_link, room_in, with_more, HasFrameRoom, HaveFrameRoom, IsFrame, AreOneFrame}
 
 -- a part where the link at a place is another
 pub part_set : {A : Type 0} (part : Wire → A) (none : A) (wires : List Wire) (k : ℕ) (wire : Wire) → k < length wires → (place : ℕ) → part_in part none (slice_set wires k wire) place ≡ cond (nat_eq k place) (part wire) (part_in part none wires place)
@@ -73,7 +73,7 @@ on_err (Err e) P Q f p = f p
 abbrev pub RoomBelow : ℕ → List Wire → Type 0
 RoomBelow bound wires = (place : ℕ) → place < bound → 4 + MAX_SMALL_LEN ≤ room_in wires place
 
-pub room_more : (wires : List Wire) (k : ℕ) (new : Wire) → k < length wires → HasRoom new → RoomBelow k wires → RoomBelow (k + 1) (slice_set wires k new)
+pub room_more : (wires : List Wire) (k : ℕ) (new : Wire) → k < length wires → HasFrameRoom new → RoomBelow k wires → RoomBelow (k + 1) (slice_set wires k new)
 room_more wires k new within room below place l = subst (λ n. 4 + MAX_SMALL_LEN ≤ n) (sym (part_set (λ wire. wire.outbox.spare) 0 wires k new within place)) (go (nat_eq k place) (eq-eqb k place))
   where
     sooner : (k ≡ place → ⊥) → place < k
@@ -84,7 +84,7 @@ room_more wires k new within room below place l = subst (λ n. 4 + MAX_SMALL_LEN
     go false is = below place (sooner (λ e. absurd (let f : false ≡ true = is e in cc)))
 
 -- the room stays where it does at a place that changes
-pub still_room : (wires : List Wire) (k : ℕ) (old new : Wire) → k < length wires → old ≡ get_or wires k old → old.outbox.spare ≤ new.outbox.spare → HaveRoom wires → HaveRoom (slice_set wires k new)
+pub still_room : (wires : List Wire) (k : ℕ) (old new : Wire) → k < length wires → old ≡ get_or wires k old → old.outbox.spare ≤ new.outbox.spare → HaveFrameRoom wires → HaveFrameRoom (slice_set wires k new)
 still_room wires k old new within here more room place l = subst (λ n. 4 + MAX_SMALL_LEN ≤ n) (sym (part_set (λ wire. wire.outbox.spare) 0 wires k new within place)) (go (nat_eq k place))
   where
     its : 4 + MAX_SMALL_LEN ≤ old.outbox.spare
@@ -111,7 +111,7 @@ pub record Sending (start : List Wire) (sends : List (ℕ × Packet)) (wires : L
   pub sent : (place : ℕ) → with_more (links_in wires place) (frames_to rest place) ≡ with_more (links_in start place) (frames_to sends place)
   pub small : AreSmallFrames rest → AreSmallFrames sends
 
-pub all_left : (wires : List Wire) (sends : List (ℕ × Packet)) → FitLinks (length wires) sends → HaveRoom wires → Sending wires sends wires sends
+pub all_left : (wires : List Wire) (sends : List (ℕ × Packet)) → FitLinks (length wires) sends → HaveFrameRoom wires → Sending wires sends wires sends
 all_left wires sends fit room = record {
   names = fit.0;
   peers = fit.1;
@@ -131,7 +131,7 @@ module _ (start wires : List Wire) (sends others : List (ℕ × Packet)) (sent :
   pub its_place : sent.0 < length wires
   its_place = omega (arith, sending.each.0.place, sending.peers)
 
-  pub its_room : (wire : Wire) → wire ≡ get_or wires sent.0 wire → HasRoom wire
+  pub its_room : (wire : Wire) → wire ≡ get_or wires sent.0 wire → HasFrameRoom wire
   its_room wire here = subst (λ n. 4 + MAX_SMALL_LEN ≤ n) (part_here (λ w. w.outbox.spare) 0 wires sent.0 wire its_place here) (sending.room sent.0 sending.apart.0 its_place)
 
   module _ (old new : Wire) (here : old ≡ get_or wires sent.0 old) (more : link_of new ≡ with_more (link_of old) (frame_of sent.1)) (same : length (slice_set wires sent.0 new) ≡ length wires) (small : IsSmallFrame sent.1) where
@@ -201,14 +201,14 @@ one_of (x ∷ []) sent some few e = ap (λ (s : ℕ × Packet). s ∷ []) (sym e
 one_of (x ∷ y ∷ others) sent some few e = absurd (omega arith)
 
 -- one packet to one peer
-module _ (start : List Wire) (sends : List (ℕ × Packet)) (sent : ℕ × Packet) (e : sends ≡ sent ∷ []) (fit : FitLinks (length start) sends) (room : HaveRoom start) where
+module _ (start : List Wire) (sends : List (ℕ × Packet)) (sent : ℕ × Packet) (e : sends ≡ sent ∷ []) (fit : FitLinks (length start) sends) (room : HaveFrameRoom start) where
   only : Sending start sends start (sent ∷ [])
   only = subst (Sending start sends start) e (all_left start sends fit room)
 
   pub only_place : sent.0 < length start
   only_place = its_place start start sends [] sent only
 
-  pub only_room : (wire : Wire) → wire ≡ get_or start sent.0 wire → HasRoom wire
+  pub only_room : (wire : Wire) → wire ≡ get_or start sent.0 wire → HasFrameRoom wire
   only_room = its_room start start sends [] sent only
 
   pub only_sent : (old new : Wire) → old ≡ get_or start sent.0 old → link_of new ≡ with_more (link_of old) (frame_of sent.1) → length (slice_set start sent.0 new) ≡ length start → IsSmallFrame sent.1

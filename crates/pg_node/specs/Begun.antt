@@ -30,8 +30,8 @@ pub record BeginsWith (table : Table) (own : Node) (peers : ℕ) (links : ℕ �
   pub each : (place : ℕ) → place < peers → IsOpened packet (links place)
 
 -- the frame that tells the groups of a table goes out to each of so many peers
-abbrev pub Begins : Table → Node → ℕ → (ℕ → Link) → Type 0
-Begins table own peers links = (packet : Packet) × BeginsWith table own peers links packet
+abbrev pub BeginsLinked : Table → Node → ℕ → (ℕ → Link) → Type 0
+BeginsLinked table own peers links = (packet : Packet) × BeginsWith table own peers links packet
 
 -- memory ran out, or what tells the groups can't be written by this fault
 abbrev pub CantBegin : Table → Node → NodeFault → Type 0

@@ -28,10 +28,10 @@ abbrev pub next_packet : Link → Result (Option Packet) NodeFault
 next_packet link = if link.damaged then Err Damaged else packet_at (front_of link.unread)
 
 -- an answer is what is told; or memory ran out where a packet or a fault of it is told
-abbrev pub Tells : Result (Option Packet) NodeFault → Result (Option Packet) NodeFault → Type 0
-Tells (Ok (Some packet)) (Err OutOfMemory) = Unit {0}
-Tells (Err (Message fault)) (Err OutOfMemory) = Unit {0}
-Tells told result = result ≡ told
+abbrev pub ReadsNext : Result (Option Packet) NodeFault → Result (Option Packet) NodeFault → Type 0
+ReadsNext (Ok (Some packet)) (Err OutOfMemory) = Unit {0}
+ReadsNext (Err (Message fault)) (Err OutOfMemory) = Unit {0}
+ReadsNext told result = result ≡ told
 
 -- whether a fault of what came in damages the link for good
 abbrev pub damages : NodeFault → Bool

@@ -53,12 +53,12 @@ abbrev pub at_link : ℕ → (Link → Link) → (ℕ → Link) → ℕ → Link
 at_link place change links = upd nat_eq links place (change (links place))
 
 -- a small frame needs no memory
-abbrev pub HasRoom : Wire → Type 0
-HasRoom wire = 4 + MAX_SMALL_LEN ≤ wire.outbox.spare
+abbrev pub HasFrameRoom : Wire → Type 0
+HasFrameRoom wire = 4 + MAX_SMALL_LEN ≤ wire.outbox.spare
 
 -- nor does one at any place
-abbrev pub HaveRoom : List Wire → Type 0
-HaveRoom wires = (place : ℕ) → place < length wires → 4 + MAX_SMALL_LEN ≤ room_in wires place
+abbrev pub HaveFrameRoom : List Wire → Type 0
+HaveFrameRoom wires = (place : ℕ) → place < length wires → 4 + MAX_SMALL_LEN ≤ room_in wires place
 
 -- ---- one frame for several
 

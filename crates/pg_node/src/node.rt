@@ -1,7 +1,7 @@
 //! One node over bytes: what came in from its peers, and what goes out to them.
 
 ghost use Rattle.std.specs.Prelude.{◌≡◌, ◌+◌, true, length};
-ghost use Rattle.pg_node.specs.Links.{HaveRoom};
+ghost use Rattle.pg_node.specs.Links.{HaveFrameRoom};
 ghost use Rattle.pg_node_state.specs.States.{names_of as names_known};
 
 mod begun;
@@ -33,5 +33,5 @@ pub struct Node<T: GroupTable> {
     alloc: Global,
     ghost linked: { length wires.items + 1 ≡ length (names_known state) },
     ghost passage: { length piece.items ≡ 65536 },
-    ghost room: { has_room ≡ true → HaveRoom wires.items },
+    ghost room: { has_room ≡ true → HaveFrameRoom wires.items },
 }

@@ -22,7 +22,7 @@ use Rattle.pg_node_state.specs.declared.state.done.Done.{Done}
 use Rattle.pg_node_state.specs.declared.state.fault.NodeFault.{NodeFault}
 use Rattle.pg_node_state.specs.declared.state.fault.NodeFault.TheVariants.{Refused, OutOfMemory}
 use Rattle.pg_node_state.specs.declared.state.fault.NodeFault.TheVariants as faults
-use Rattle.pg_node_state.specs.States.{Tells, Gave, Comes, ComesAt, step_see_loss}
+use Rattle.pg_node_state.specs.States.{IsReported, Gave, Comes, ComesAt, step_see_loss}
 
 -- a clause on errors, of what always holds
 pub on_err : {A E : Type 0} (result : Result A E) (P : Type 0) → P → OnErr result P
@@ -46,7 +46,7 @@ module _ (m : Nodes) (p : Node) (x : Stamped Message) (s : Timed State) (clock :
 
   pub comes : (names : List Node) (turn : NodeTurn) (done : Done) (s1 : Timed State) (before after : ℕ → List Answer)
       → taken (live_nodes m s.state) p x.packet s.state ≡ Ok turn → turn.reported.gave ≡ None
-      → Tells names (at_clock clock turn) done → s1 ≡ (at_clock clock turn).state → after ≡ before
+      → IsReported names (at_clock clock turn) done → s1 ≡ (at_clock clock turn).state → after ≡ before
       → Comes names (step_take m p x s) (Ok done) s1 before after
   comes names turn done s1 before after is none told state same =
       subst (λ r. Comes names r (Ok done) s1 before after) (sym (happened turn is)) (record {
@@ -84,7 +84,7 @@ module _ (m : Nodes) (p : Node) (x : Stamped Message) (s : Timed State) (clock :
       → x.packet ≡ Exchange node groups
       → ((result ≡ Err (Refused refusal.NotAMessage)) ↔ (is_bad_exchange p node s.state ≡ true))
       → IfErr result (λ fault. (fault ≡ Refused refusal.NotAMessage) ⊎ (fault ≡ OutOfMemory))
-      → IfOk result (Tells names (at_clock clock (exchange p groups s.state)))
+      → IfOk result (IsReported names (at_clock clock (exchange p groups s.state)))
       → OnOk result (s1 ≡ (at_clock clock (exchange p groups s.state)).state)
       → after ≡ before
       → Comes names (step_take m p x s) result s1 before after
@@ -98,7 +98,7 @@ module _ (m : Nodes) (p : Node) (x : Stamped Message) (s : Timed State) (clock :
 
       good : (r : Result Done NodeFault) → result ≡ r → is_bad_exchange p node s.state ≡ false → Comes names (step_take m p x s) r s1 before after
       good (Ok done) r e = comes names (exchange p groups s.state) done s1 before after (leads false e) refl
-          (subst (λ z. IfOk z (Tells names (at_clock clock (exchange p groups s.state)))) r told)
+          (subst (λ z. IfOk z (IsReported names (at_clock clock (exchange p groups s.state)))) r told)
           (subst (λ z. OnOk z (s1 ≡ (at_clock clock (exchange p groups s.state)).state)) r state) same
       good (Err OutOfMemory) r e = subst (λ z. Comes names z (Err OutOfMemory) s1 before after) (sym (happened (exchange p groups s.state) (leads false e))) tt
       good (Err (Refused other)) r e = absurd (which (subst (λ z. IfErr z (λ fault. (fault ≡ Refused refusal.NotAMessage) ⊎ (fault ≡ OutOfMemory))) r fault))
@@ -129,7 +129,7 @@ module _ (m : Nodes) (p : Node) (x : Stamped Message) (s : Timed State) (clock :
 -- the loss of a peer that is not lost, within the limit of the clock
 pub loss_comes : (p : Node) (last : ℕ) (s : Timed State) (clock : ℕ) → s.state.lost p ≡ false → clock ≡ max s.clock last + 1 → clock ≤ CLOCK_LIMIT
     → (names : List Node) (done : Done) (s1 : Timed State) (before after : ℕ → List Answer)
-    → Tells names (at_clock clock (see_loss p s.state)) done → s1 ≡ (at_clock clock (see_loss p s.state)).state → after ≡ before
+    → IsReported names (at_clock clock (see_loss p s.state)) done → s1 ≡ (at_clock clock (see_loss p s.state)).state → after ≡ before
     → Comes names (step_see_loss p last s) (Ok done) s1 before after
 loss_comes p last s clock here later within names done s1 before after told state same =
     subst (λ r. Comes names r (Ok done) s1 before after) (sym seen) (record { told = told; state = state; answers = same })

@@ -27,8 +27,8 @@ abbrev pub HasRoomAt : List Port → ℕ → Type 0
 HasRoomAt ports port = (p : Port) → slice_get ports port ≡ Some p → vec_len p.answers < vec_capacity p.answers
 
 -- the next command of a port is counted, and this follows for it
-abbrev pub issued : ℕ → (OpId → State → NodeTurn) → State → NodeTurn
-issued port turn s = and_then (count_command port s) (turn (next_op port s))
+abbrev pub op_issued : ℕ → (OpId → State → NodeTurn) → State → NodeTurn
+op_issued port turn s = and_then (count_command port s) (turn (next_op port s))
 
 -- a new attempt begins, and the greatest of the nodes that count is asked, alone
 abbrev pub asked_first : Nodes → OpId → Update → State → NodeTurn

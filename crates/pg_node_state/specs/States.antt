@@ -89,7 +89,7 @@ abbrev pub step_see_loss : Node → ℕ → Timed State → Result TimedTurn Ref
 step_see_loss p last s = timed (max s.clock last + 1) (cond (s.state.lost p) (Err NodeLost) (Ok (see_loss p s.state)))
 
 -- what was done is what the turn sends and reports
-pub record Tells (names : List Node) (t : TimedTurn) (done : Done) : Type 0 where
+pub record IsReported (names : List Node) (t : TimedTurn) (done : Done) : Type 0 where
   pub sends : sends_in names done.sends.items ≡ t.sends
   pub began : done.began ≡ t.reported.began
   pub odd : done.odd ≡ t.reported.odd
@@ -102,7 +102,7 @@ Gave own (Some gave) before after = (r : Reply) × Answers own gave.1 r
 
 -- an event happened as the turn does
 pub record Happens (names : List Node) (t : TimedTurn) (done : Done) (s : Timed State) (before after : ℕ → List Answer) : Type 0 where
-  pub told : Tells names t done
+  pub told : IsReported names t done
   pub state : s ≡ t.state
   pub answers : Gave (name_at names 0) t.reported.gave before after
 

@@ -7,11 +7,11 @@ use Rattle.pg_replica.specs.Causes.{FailedAt}
 use Rattle.pg_replica.proofs.Streams.{appends_then}
 use Rattle.pg_script.specs.declared.fault.RunFault.{RunFault}
 use Rattle.pg_script.specs.declared.fault.RunFault.TheVariants.{WriteFault}
-use Rattle.pg_program.specs.Told.{Tells, WritesSome}
+use Rattle.pg_program.specs.Told.{WritesOut, WritesSome}
 
 -- the first of two texts was not written whole
 pub told_first : {W : Type 0} (fails : W → W → Type 0) (before after : Option (List ℕ)) (now : W) (a b : List ℕ) (fault : RunFault)
-    → Tells fails before after now a (Err fault) → Tells fails before after now (a ++ b) (Err fault)
+    → WritesOut fails before after now a (Err fault) → WritesOut fails before after now (a ++ b) (Err fault)
 told_first fails before after now a b fault h =
     let part = h.0.0 in
     let behind = h.0.1 in
@@ -19,7 +19,7 @@ told_first fails before after now a b fault h =
 
 -- the first of two texts was written, and then the second was, as told
 pub told_next : {W : Type 0} (fails : W → W → Type 0) (before mid after : Option (List ℕ)) (now : W) (a b : List ℕ) (r : Result (Unit {0}) RunFault)
-    → Appends before mid a → Tells fails mid after now b r → Tells fails before after now (a ++ b) r
+    → Appends before mid a → WritesOut fails mid after now b r → WritesOut fails before after now (a ++ b) r
 told_next fails before mid after now a b (Ok done) p h = appends_then before mid after a b p h
 told_next fails before mid after now a b (Err fault) p h =
     let part = h.0.0 in
@@ -29,6 +29,6 @@ told_next fails before mid after now a b (Err fault) p h =
 pub told_bytes : {W : Type 0} (fails : W → W → Type 0) (before after : Option (List ℕ)) (now : W) (bytes : List ℕ) (r : Result (Unit {0}) RunFault)
     → OnOk r (Appends before after bytes)
     → IfErr r (λ fault. (fault ≡ WriteFault) × ((part : List ℕ) × (behind : List ℕ) × (part ++ behind ≡ bytes) × Appends before after part))
-    → OnErr r (FailedAt fails now) → Tells fails before after now bytes r
+    → OnErr r (FailedAt fails now) → WritesOut fails before after now bytes r
 told_bytes fails before after now bytes (Ok done) p h q = p
 told_bytes fails before after now bytes (Err fault) p h q = (h.1, q)

@@ -2,7 +2,7 @@
 use Rattle.std.specs.Prelude.{◌≡◌, ◌⊎◌, ◌<◌, ◌≤◌, ℕ, List, [], length, nat_lt, Option, Result, Ok, Err, if◌then◌else◌}
 use Rattle.std.specs.Io.KnownBytes.{Consumes, IsAtEnd}
 use Rattle.std.specs.Str.{is_utf8}
-use Rattle.pg_replica.specs.Causes.{Gave, joined}
+use Rattle.pg_replica.specs.Causes.{GaveChunks, joined}
 use Rattle.pg_script.specs.Faults.{line_number_of}
 use Rattle.pg_script.specs.Scripts.{Contents, contents_of, script_of}
 use Rattle.pg_script.specs.declared.fault.ScriptFault.{ScriptFault}
@@ -16,7 +16,7 @@ use Rattle.pg_program.specs.declared.input.TheConstants.{MAX_SCRIPT_LEN}
 -- reads gave these bytes, each of them some
 pub record GaveBytes {R : Type 0} (gives : R → List ℕ → R → Type 0) (old new : R) (bytes : List ℕ) : Type 0 where
   pub pieces : List (List ℕ)
-  pub gave : Gave gives old pieces new
+  pub gave : GaveChunks gives old pieces new
   pub are : joined pieces ≡ bytes
 
 -- the last read found the end; or there are more bytes than a script may have

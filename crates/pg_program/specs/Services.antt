@@ -15,7 +15,7 @@ use Rattle.pg_program.specs.Faults.{status_of}
 use Rattle.pg_program.specs.declared.fault.Fault.{Fault}
 use Rattle.pg_program.specs.declared.fault.Fault.TheVariants.{Run, Given, Line}
 use Rattle.pg_program.specs.Status.{ToldEnd}
-use Rattle.pg_program.specs.Told.{Tells}
+use Rattle.pg_program.specs.Told.{WritesOut}
 
 -- a service that was asked for went as it is told
 pub record WasServed {D : Type 0} (served : D → Service → Result Served ServiceFault → D → Type 0) (service : Service) (told : Result Served ServiceFault) : Type 0 where
@@ -71,7 +71,7 @@ module _ {F : Type 0} (fails : F → F → Type 0) (contents : F → Option (Lis
   -- the lines of a verdict were written, and then that of the fault by which the input ended, if it did; or a write failed
   abbrev pub ToldService : F → F → Result Served Fault → Type 0
   ToldService old new (Ok served) =
-      (between : F) × (told : Result (Unit {0}) RunFault) × Tells fails (contents old) (contents between) between (verdict_lines served.verdict) told
+      (between : F) × (told : Result (Unit {0}) RunFault) × WritesOut fails (contents old) (contents between) between (verdict_lines served.verdict) told
       × ToldEnd fails contents between new (end_of_input served.fault)
   ToldService old new (Err fault) = ToldEnd fails contents old new (Err fault)
 

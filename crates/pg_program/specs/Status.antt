@@ -9,7 +9,7 @@ use Rattle.pg_program.specs.declared.fault.Fault.{Fault}
 use Rattle.pg_program.specs.declared.fault.Fault.TheVariants.{Run, Given}
 use Rattle.pg_program.specs.Bytes.{ServesAs}
 use Rattle.pg_program.specs.Faults.{status_of, fault_line}
-use Rattle.pg_program.specs.Told.{Tells}
+use Rattle.pg_program.specs.Told.{WritesOut}
 
 -- how serving ends, for the program
 abbrev pub end_of_bytes : Result (Unit {0}) BytesFault → Result (Unit {0}) Fault
@@ -25,7 +25,7 @@ end_status (Err fault) = status_of fault
 -- the line of a fault was written: whole, or a prefix of it where a write failed
 abbrev pub ToldEnd : {F : Type 0} → (F → F → Type 0) → (F → Option (List ℕ)) → F → F → Result (Unit {0}) Fault → Type 0
 ToldEnd fails contents old new (Ok done) = new ≡ old
-ToldEnd fails contents old new (Err fault) = (told : Result (Unit {0}) RunFault) × Tells fails (contents old) (contents new) new (fault_line fault) told
+ToldEnd fails contents old new (Err fault) = (told : Result (Unit {0}) RunFault) × WritesOut fails (contents old) (contents new) new (fault_line fault) told
 
 -- an input was served, a fault has its cause C, T is said of the line on standard error, and this is the status
 pub record BytesEnd (own peer : List ℕ) (C : BytesFault → Type 0) (T : Result (Unit {0}) Fault → Type 0) (before after : Option (List ℕ)) (input : List ℕ) (status : ℕ) : Type 0 where

@@ -9,9 +9,9 @@ abbrev pub WritesSome : Option (List ℕ) → Option (List ℕ) → List ℕ →
 WritesSome before after text = (part : List ℕ) × (behind : List ℕ) × (part ++ behind ≡ text) × Appends before after part
 
 -- the whole text was written; or a write failed, and a prefix of it was
-abbrev pub Tells : {W : Type 0} → (W → W → Type 0) → Option (List ℕ) → Option (List ℕ) → W → List ℕ → Result (Unit {0}) RunFault → Type 0
-Tells fails before after now text (Ok done) = Appends before after text
-Tells fails before after now text (Err fault) = WritesSome before after text × FailedAt fails now
+abbrev pub WritesOut : {W : Type 0} → (W → W → Type 0) → Option (List ℕ) → Option (List ℕ) → W → List ℕ → Result (Unit {0}) RunFault → Type 0
+WritesOut fails before after now text (Ok done) = Appends before after text
+WritesOut fails before after now text (Err fault) = WritesSome before after text × FailedAt fails now
 
 -- ---- the lines
 

@@ -1,7 +1,7 @@
 //! Why a run ends that is not done, and what is printed of it.
 
 ghost use Rattle.std.specs.Prelude.{decimal};
-ghost use Rattle.pg_program.specs.Told.{Tells, behind_refused, line_refused, number_end, number_refused, refused_line};
+ghost use Rattle.pg_program.specs.Told.{WritesOut, behind_refused, line_refused, number_end, number_refused, refused_line};
 
 use itoa::Buffer;
 use pg_node::Sink;
@@ -34,7 +34,7 @@ impl Fault {
 
     /// Writes the line that tells it.
     pub(crate) fn print<F: Sink>(self, faults: &mut F) -> Result<(), RunFault>
-        ensures { Tells F.fails (F.contents faults.old) (F.contents faults.new) faults.new (fault_line self) result }
+        ensures { WritesOut F.fails (F.contents faults.old) (F.contents faults.new) faults.new (fault_line self) result }
     {
         match self {
             Fault::Run(number) => print_refused(faults, number),
@@ -46,7 +46,7 @@ impl Fault {
 
 /// `refused N`, and a line feed.
 fn print_refused<F: Sink>(faults: &mut F, number: u8) -> Result<(), RunFault>
-    ensures { Tells F.fails (F.contents faults.old) (F.contents faults.new) faults.new (refused_line number) result }
+    ensures { WritesOut F.fails (F.contents faults.old) (F.contents faults.new) faults.new (refused_line number) result }
 {
     match put(faults, b"refused ") {
         Ok(()) => print_end(faults, u64::from(number)),
@@ -56,7 +56,7 @@ fn print_refused<F: Sink>(faults: &mut F, number: u8) -> Result<(), RunFault>
 
 /// `line L refused N`, and a line feed.
 fn print_line<F: Sink>(faults: &mut F, line: usize, number: u8) -> Result<(), RunFault>
-    ensures { Tells F.fails (F.contents faults.old) (F.contents faults.new) faults.new (line_refused line number) result }
+    ensures { WritesOut F.fails (F.contents faults.old) (F.contents faults.new) faults.new (line_refused line number) result }
 {
     match put(faults, b"line ") {
         Ok(()) => print_line_number(faults, line, number),
@@ -66,7 +66,7 @@ fn print_line<F: Sink>(faults: &mut F, line: usize, number: u8) -> Result<(), Ru
 
 /// `L refused N`, and a line feed.
 fn print_line_number<F: Sink>(faults: &mut F, line: usize, number: u8) -> Result<(), RunFault>
-    ensures { Tells F.fails (F.contents faults.old) (F.contents faults.new) faults.new (number_refused line number) result }
+    ensures { WritesOut F.fails (F.contents faults.old) (F.contents faults.new) faults.new (number_refused line number) result }
 {
     match put_number(faults, line as u64) {
         Ok(()) => print_behind(faults, number),
@@ -76,7 +76,7 @@ fn print_line_number<F: Sink>(faults: &mut F, line: usize, number: u8) -> Result
 
 /// ` refused N`, and a line feed.
 fn print_behind<F: Sink>(faults: &mut F, number: u8) -> Result<(), RunFault>
-    ensures { Tells F.fails (F.contents faults.old) (F.contents faults.new) faults.new (behind_refused number) result }
+    ensures { WritesOut F.fails (F.contents faults.old) (F.contents faults.new) faults.new (behind_refused number) result }
 {
     match put(faults, b" ") {
         Ok(()) => print_refused(faults, number),
@@ -86,7 +86,7 @@ fn print_behind<F: Sink>(faults: &mut F, number: u8) -> Result<(), RunFault>
 
 /// `N`, and a line feed.
 fn print_end<F: Sink>(faults: &mut F, number: u64) -> Result<(), RunFault>
-    ensures { Tells F.fails (F.contents faults.old) (F.contents faults.new) faults.new (number_end number) result }
+    ensures { WritesOut F.fails (F.contents faults.old) (F.contents faults.new) faults.new (number_end number) result }
 {
     match put_number(faults, number) {
         Ok(()) => put(faults, b"\n"),
@@ -96,7 +96,7 @@ fn print_end<F: Sink>(faults: &mut F, number: u64) -> Result<(), RunFault>
 
 /// A number in decimal.
 fn put_number<F: Sink>(faults: &mut F, number: u64) -> Result<(), RunFault>
-    ensures { Tells F.fails (F.contents faults.old) (F.contents faults.new) faults.new (decimal number) result }
+    ensures { WritesOut F.fails (F.contents faults.old) (F.contents faults.new) faults.new (decimal number) result }
 {
     let mut buffer = Buffer::new();
     put(faults, buffer.format(number).as_bytes())
@@ -104,7 +104,7 @@ fn put_number<F: Sink>(faults: &mut F, number: u64) -> Result<(), RunFault>
 
 /// These bytes.
 fn put<F: Sink>(faults: &mut F, bytes: &[u8]) -> Result<(), RunFault>
-    ensures { Tells F.fails (F.contents faults.old) (F.contents faults.new) faults.new bytes.now result }
+    ensures { WritesOut F.fails (F.contents faults.old) (F.contents faults.new) faults.new bytes.now result }
 {
     put_whole(faults, bytes)
 }

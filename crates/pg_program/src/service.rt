@@ -2,7 +2,7 @@
 
 ghost use Rattle.std.specs.Prelude.{◌≡◌, IfErr};
 ghost use Rattle.pg_program.specs.Services.{IsEarly, IsServed, service_fault_of, verdict_lines};
-ghost use Rattle.pg_program.specs.Told.{Tells};
+ghost use Rattle.pg_program.specs.Told.{WritesOut};
 
 use crate::fault::Fault;
 use crate::input::text_of;
@@ -134,7 +134,7 @@ fn service_fault(fault: ServiceFault) -> Fault
 
 /// Writes the two lines of a verdict.
 pub(crate) fn print_verdict<F: Sink>(faults: &mut F, verdict: Verdict) -> Result<(), RunFault>
-    ensures { Tells F.fails (F.contents faults.old) (F.contents faults.new) faults.new (verdict_lines verdict) result }
+    ensures { WritesOut F.fails (F.contents faults.old) (F.contents faults.new) faults.new (verdict_lines verdict) result }
 {
     put_whole(faults, verdict_text(verdict).as_bytes())
 }

@@ -28,7 +28,7 @@ use Rattle.pg_step.specs.Turns.{NodeTurn}
 use Rattle.pg_replica.specs.declared.fault.ServeFault.{ServeFault}
 use Rattle.pg_replica.specs.Causes.{AllAnswered, Cause, InTurn, Unread}
 use Rattle.pg_replica.specs.Replica.{Pair, State, Answer, Run, start, nodes_of, turned}
-use Rattle.pg_replica.specs.Replica.{taken_packet, taken_in, answered, goes_on, preceded, run}
+use Rattle.pg_replica.specs.Replica.{taken_packet, taken_in, answered, goes_on, preceded, replica_run}
 use Rattle.pg_replica.specs.Replica.{served, rest_fault, first_fault, frames_of, WroteFor, Serves}
 use Rattle.pg_node_state.specs.States.{stamped_of}
 use Rattle.pg_replica.proofs.Served.{cause_of}
@@ -150,13 +150,13 @@ module _ (own other peer : Node) where
         go (Ok packet) = packet_idle packet
         go (Err fault) = tt
 
-  same_run : (s : State) (bodies : List (List ℕ)) → Idle s.state → run one s bodies ≡ run two s bodies
+  same_run : (s : State) (bodies : List (List ℕ)) → Idle s.state → replica_run one s bodies ≡ replica_run two s bodies
   same_run s [] idle = refl
   same_run s (body ∷ bodies) idle =
-      go (answered one s body) (body_idle s idle body) (λ t h. same_run t bodies h) ∙ ap (λ r. goes_on s r (λ new. run two new bodies)) (same_body s idle body)
+      go (answered one s body) (body_idle s idle body) (λ t h. same_run t bodies h) ∙ ap (λ r. goes_on s r (λ new. replica_run two new bodies)) (same_body s idle body)
     where
-      go : (r : Result Answer ServeFault) → LeavesIdle r → ((t : State) → Idle t.state → run one t bodies ≡ run two t bodies)
-          → goes_on s r (λ new. run one new bodies) ≡ goes_on s r (λ new. run two new bodies)
+      go : (r : Result Answer ServeFault) → LeavesIdle r → ((t : State) → Idle t.state → replica_run one t bodies ≡ replica_run two t bodies)
+          → goes_on s r (λ new. replica_run one new bodies) ≡ goes_on s r (λ new. replica_run two new bodies)
       go (Ok answer) h others = ap (preceded answer.sent) (others answer.state h)
       go (Err fault) h others = refl
 

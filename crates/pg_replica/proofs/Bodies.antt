@@ -11,7 +11,7 @@ use Rattle.pg_message.specs.Reading.{packet_spelled}
 use Rattle.pg_replica.specs.declared.fault.ServeFault.{ServeFault}
 use Rattle.pg_replica.specs.declared.fault.ServeFault.TheVariants.{Message}
 use Rattle.pg_replica.specs.Fault.{Refuses}
-use Rattle.pg_replica.specs.Replica.{Pair, State, Answer, Answers, answered, taken_in, taken_packet}
+use Rattle.pg_replica.specs.Replica.{Pair, State, Answer, AnswersServed, answered, taken_in, taken_packet}
 
 module _ (pair : Pair) (s : State) (body : List ℕ) where
   answered_of : answered pair s body ≡ taken_in pair s (packet_spelled body)
@@ -42,8 +42,8 @@ module _ (pair : Pair) (s : State) (body : List ℕ) where
     read_answered : taken_packet pair s packet ≡ answered pair s body
     read_answered = sym (answered_of ∙ ap (taken_in pair s) read)
 
-    pub answers : (new : State) (before after : List ℕ) → Answers (taken_packet pair s packet) new before after → Answers (answered pair s body) new before after
-    answers new before after = subst (λ (r : Result Answer ServeFault). Answers r new before after) read_answered
+    pub answers : (new : State) (before after : List ℕ) → AnswersServed (taken_packet pair s packet) new before after → AnswersServed (answered pair s body) new before after
+    answers new before after = subst (λ (r : Result Answer ServeFault). AnswersServed r new before after) read_answered
 
     -- a packet that is refused
     pub untaken_refused : (fault : ServeFault) → Refuses (taken_packet pair s packet) fault → Refuses (answered pair s body) fault

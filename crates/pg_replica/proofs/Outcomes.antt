@@ -14,20 +14,20 @@ use Rattle.pg_message.specs.declared.fault.MessageFault.TheVariants.{Term, NotAM
 use Rattle.pg_replica.specs.declared.fault.ServeFault.TheVariants.{Message, FrameTooLong, ClockFull}
 use Rattle.pg_replica.specs.declared.fault.ServeFault.TheVariants.{ReadFault, WriteFault}
 use Rattle.pg_replica.specs.Progress.{Progress, Refused, StopsAt}
-use Rattle.pg_replica.specs.Replica.{Pair, State, Answer, Run, answered, start, run, goes_on}
+use Rattle.pg_replica.specs.Replica.{Pair, State, Answer, Run, answered, start, replica_run, goes_on}
 use Rattle.pg_replica.specs.Replica.{frames_of, served, rest_fault, first_fault, WroteFor}
 use Rattle.pg_replica.proofs.Streams.{run_append, frames_append, appends_then, appends_kept}
 
 -- the whole input is what came in so far, and a rest
 module _ (pair : Pair) (all rest unread : List ℕ) (s : State) (v w : Option (List ℕ)) (p : Progress pair all unread start s v w) where
   abbrev more : Run
-  more = run pair s (bodies_of (unread ++ rest))
+  more = replica_run pair s (bodies_of (unread ++ rest))
 
   fed : Leaves (all ++ rest) p.bodies (unread ++ rest)
   fed = loop_keeps.feeds all unread rest p.bodies p.leaves
 
-  whole : run pair start (bodies_of (all ++ rest)) ≡ record { replies = p.replies ++ more.replies; state = more.state; fault = more.fault }
-  whole = ap (run pair start) fed.bodies ∙ run_append pair start p.bodies (bodies_of (unread ++ rest)) p.replies s p.ran
+  whole : replica_run pair start (bodies_of (all ++ rest)) ≡ record { replies = p.replies ++ more.replies; state = more.state; fault = more.fault }
+  whole = ap (replica_run pair start) fed.bodies ∙ run_append pair start p.bodies (bodies_of (unread ++ rest)) p.replies s p.ran
 
   replies_so_far : (served pair (all ++ rest)).replies ≡ p.replies ++ more.replies
   replies_so_far = ap (λ (r : Run). r.replies) whole
@@ -46,12 +46,12 @@ module _ (pair : Pair) (all rest unread : List ℕ) (s : State) (v w : Option (L
   -- the next body is answered, and a prefix of its replies is written
   module _ (body : List ℕ) (answer : Answer) (front : front_of unread ≡ Ok (Some body)) (is : answered pair s body ≡ Ok answer) (part missing : List ℕ) (cut_here : part ++ missing ≡ frames_of answer.sent) where
     abbrev others : List (List ℕ)
-    others = (run pair answer.state (bodies_of (behind body (unread ++ rest)))).replies
+    others = (replica_run pair answer.state (bodies_of (behind body (unread ++ rest)))).replies
 
     more_replies : more.replies ≡ answer.sent ++ others
     more_replies =
-        ap (λ (bs : List (List ℕ)). (run pair s bs).replies) (front_is_first.first (unread ++ rest) body (pieces_continue.front unread rest body front))
-        ∙ ap (λ (r : Result Answer ServeFault). (goes_on s r (λ new. run pair new (bodies_of (behind body (unread ++ rest))))).replies) is
+        ap (λ (bs : List (List ℕ)). (replica_run pair s bs).replies) (front_is_first.first (unread ++ rest) body (pieces_continue.front unread rest body front))
+        ∙ ap (λ (r : Result Answer ServeFault). (goes_on s r (λ new. replica_run pair new (bodies_of (behind body (unread ++ rest))))).replies) is
 
     joined : part ++ (missing ++ frames_of others) ≡ frames_of more.replies
     joined =
@@ -70,8 +70,8 @@ module _ (pair : Pair) (all rest unread : List ℕ) (s : State) (v w : Option (L
   module _ (body : List ℕ) (fault : ServeFault) (front : front_of unread ≡ Ok (Some body)) (refused : answered pair s body ≡ Err fault) where
     stopped : more ≡ record { replies = []; state = s; fault = Some fault }
     stopped =
-        ap (run pair s) (front_is_first.first (unread ++ rest) body (pieces_continue.front unread rest body front))
-        ∙ ap (λ (r : Result Answer ServeFault). goes_on s r (λ new. run pair new (bodies_of (behind body (unread ++ rest))))) refused
+        ap (replica_run pair s) (front_is_first.first (unread ++ rest) body (pieces_continue.front unread rest body front))
+        ∙ ap (λ (r : Result Answer ServeFault). goes_on s r (λ new. replica_run pair new (bodies_of (behind body (unread ++ rest))))) refused
 
     told : ((served pair (all ++ rest)).fault ≡ Some fault) × (frames_of p.replies ≡ frames_of (served pair (all ++ rest)).replies)
     told = (
@@ -92,8 +92,8 @@ module _ (pair : Pair) (all rest unread : List ℕ) (s : State) (v w : Option (L
 
     too_long_told : ((served pair (all ++ rest)).fault ≡ Some FrameTooLong) × (frames_of p.replies ≡ frames_of (served pair (all ++ rest)).replies)
     too_long_told = (
-      fault_of_all ∙ (λ i. first_fault (run pair s (no_body i)).fault (rest_fault (rest_is i) (front_of (rest_is i)))) ∙ ap (rest_fault (unread ++ rest)) overlong,
-      ap frames_of (sym (append-nil p.replies) ∙ ap (λ (bs : List (List ℕ)). p.replies ++ (run pair s bs).replies) (sym no_body) ∙ sym replies_so_far),
+      fault_of_all ∙ (λ i. first_fault (replica_run pair s (no_body i)).fault (rest_fault (rest_is i) (front_of (rest_is i)))) ∙ ap (rest_fault (unread ++ rest)) overlong,
+      ap frames_of (sym (append-nil p.replies) ∙ ap (λ (bs : List (List ℕ)). p.replies ++ (replica_run pair s bs).replies) (sym no_body) ∙ sym replies_so_far),
     )
 
   -- what was written, and what the fault says
@@ -140,8 +140,8 @@ module _ (pair : Pair) (all unread : List ℕ) (s : State) (v w : Option (List �
   waits : (p.bodies ≡ bodies_of all) × (unread ≡ rest_of all)
   waits = let h = loop_keeps.waits all unread p.bodies p.leaves front in (h.0, h.1)
 
-  pub done : run pair start (bodies_of all) ≡ record { replies = p.replies; state = s; fault = None }
-  done = ap (run pair start) (sym waits.0) ∙ p.ran
+  pub done : replica_run pair start (bodies_of all) ≡ record { replies = p.replies; state = s; fault = None }
+  done = ap (replica_run pair start) (sym waits.0) ∙ p.ran
 
   replies_are : (served pair all).replies ≡ p.replies
   replies_are = ap (λ (r : Run). r.replies) done

@@ -13,7 +13,7 @@ use Rattle.pg_replica.specs.declared.fault.ServeFault.{ServeFault}
 use Rattle.pg_message.specs.declared.fault.MessageFault.TheVariants.{Term}
 use Rattle.pg_replica.specs.declared.fault.ServeFault.TheVariants.{Message, FrameTooLong, ClockFull}
 use Rattle.pg_replica.specs.declared.fault.ServeFault.TheVariants.{ReadFault, WriteFault}
-use Rattle.pg_replica.specs.Causes.{Cause, AllAnswered, Gave, InTurn, Unread, IsFlushed, LeavesFlushed, joined}
+use Rattle.pg_replica.specs.Causes.{Cause, AllAnswered, GaveChunks, InTurn, Unread, IsFlushed, LeavesFlushed, joined}
 use Rattle.pg_message.specs.declared.fault.MessageFault.{MessageFault}
 use Rattle.pg_message.specs.declared.packet.Packet.{Packet}
 use Rattle.pg_message.specs.Reading.{packet_spelled}
@@ -22,7 +22,7 @@ use Rattle.pg_step.specs.declared.refusal.Refusal.{Refusal}
 use Rattle.pg_step.specs.declared.refusal.Refusal.TheVariants as refusals
 use Rattle.pg_replica.specs.Fault.{out_of_memory, Refuses}
 use Rattle.pg_node_state.specs.States.{stamped_of}
-use Rattle.pg_replica.specs.Progress.{CutShort, Progress, Reads, Serving, Stops, StopsAt}
+use Rattle.pg_replica.specs.Progress.{CutShort, Progress, ReadsSome, Serving, Stops, StopsAt}
 use Rattle.pg_replica.specs.Replica.{Pair, State, Run, nodes_of, answered, taken_in}
 use Rattle.pg_replica.specs.Replica.{turned, start, Serves, served, frames_of, WroteFor}
 use Rattle.pg_replica.proofs.Streams.{appends_then, appends_kept, stay, onward, fed, kept, known_kept}
@@ -66,7 +66,7 @@ module _ (pair : Pair) (P : List (List ℕ) → Type 0) (r0 r1 : Option (List �
       let whole = done pair input unread s out0 out1 v.progress v.front in
       record { taken = ap (λ (r : Run). r.fault) whole; wrote = subst (λ (replies : List (List ℕ)). Appends out0 out1 (frames_of replies)) (sym (ap (λ (r : Run). r.replies) whole)) v.progress.wrote }
 
-  module _ (Q : List ℕ → Type 0) (r2 : Option (List ℕ)) (unread1 : List ℕ) (more : Bool) (got : Reads Q r1 r2 unread unread1 more) where
+  module _ (Q : List ℕ → Type 0) (r2 : Option (List ℕ)) (unread1 : List ℕ) (more : Bool) (got : ReadsSome Q r1 r2 unread unread1 more) where
     abbrev all : List ℕ
     all = input ++ got.piece
 
@@ -145,13 +145,13 @@ cause_of unread unwritten WriteFault h = unwritten h
 
 -- one more piece was read
 pub gave_more : {R : Type 0} (gives : R → List ℕ → R → Type 0) (old now new : R) (n : ℕ) (pieces : List (List ℕ)) (piece : List ℕ)
-    → Gave gives old pieces now × (length pieces ≡ n) → gives now piece new → 0 < length piece → Gave gives old (piece ∷ pieces) new × (length (piece ∷ pieces) ≡ n + 1)
+    → GaveChunks gives old pieces now × (length pieces ≡ n) → gives now piece new → 0 < length piece → GaveChunks gives old (piece ∷ pieces) new × (length (piece ∷ pieces) ≡ n + 1)
 gave_more gives old now new n pieces piece h gave some = ((now, h.0, gave, some), omega (arith, h.1))
 
 module _ {R : Type 0} (gives : R → List ℕ → R → Type 0) (fails : R → R → Type 0) (old now : R) (n : ℕ) (pair : Pair) (r0 r1 : Option (List ℕ)) (unread : List ℕ) (s : State) (out0 out1 : Option (List ℕ))
-    (v : Serving pair (λ (pieces : List (List ℕ)). Gave gives old pieces now × (length pieces ≡ n)) r0 r1 unread s out0 out1) where
+    (v : Serving pair (λ (pieces : List (List ℕ)). GaveChunks gives old pieces now × (length pieces ≡ n)) r0 r1 unread s out0 out1) where
   abbrev answered_so_far : AllAnswered pair out0 out1 (joined v.pieces)
-  answered_so_far = all_answered pair (λ (pieces : List (List ℕ)). Gave gives old pieces now × (length pieces ≡ n)) r0 r1 unread s out0 out1 v
+  answered_so_far = all_answered pair (λ (pieces : List (List ℕ)). GaveChunks gives old pieces now × (length pieces ≡ n)) r0 r1 unread s out0 out1 v
 
   -- a read failed
   pub read_failed : (new : R) → fails now new → Unread gives fails old new (AllAnswered pair out0 out1)
@@ -188,7 +188,7 @@ wrote_part pair unread s out0 out1 h = go h.stops
 
 -- a write failed behind one more piece
 pub in_turn : {R W : Type 0} (gives : R → List ℕ → R → Type 0) (flushed : W → Type 0) (contents : W → Option (List ℕ)) (old now new : R) (n : ℕ) (pair : Pair) (r0 r1 : Option (List ℕ)) (unread : List ℕ) (s : State)
-    (first between last : W) (v : Serving pair (λ (pieces : List (List ℕ)). Gave gives old pieces now × (length pieces ≡ n)) r0 r1 unread s (contents first) (contents between))
+    (first between last : W) (v : Serving pair (λ (pieces : List (List ℕ)). GaveChunks gives old pieces now × (length pieces ≡ n)) r0 r1 unread s (contents first) (contents between))
     → IsFlushed flushed first between → (piece : List ℕ) → gives now piece new → 0 < length piece → (part : List ℕ) × Appends (contents between) (contents last) part
     → InTurn gives flushed contents old new first last (λ w input. AllAnswered pair (contents first) (contents w) input)
 in_turn gives flushed contents old now new n pair r0 r1 unread s first between last v out piece gave some wrote = record {
@@ -197,7 +197,7 @@ in_turn gives flushed contents old now new n pair r0 r1 unread s first between l
   gave = (now, v.gave.0, gave, some);
   between = between;
   out = out;
-  fact = all_answered pair (λ (pieces : List (List ℕ)). Gave gives old pieces now × (length pieces ≡ n)) r0 r1 unread s (contents first) (contents between) v;
+  fact = all_answered pair (λ (pieces : List (List ℕ)). GaveChunks gives old pieces now × (length pieces ≡ n)) r0 r1 unread s (contents first) (contents between) v;
   part = wrote.0;
   since = wrote.1;
 }

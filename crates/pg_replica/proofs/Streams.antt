@@ -13,7 +13,7 @@ use Rattle.pg_replica.specs.Progress.{Progress, StopsAt}
 use Rattle.pg_term.specs.declared.fault.TermFault.TheVariants.{Truncated, BadVersion, UnknownTag, TooDeep}
 use Rattle.pg_term.specs.declared.fault.TermFault.TheVariants.{IntegerTooLarge, BadAtom, ImproperList}
 use Rattle.pg_term.specs.declared.fault.TermFault.TheVariants.{BadReference, TrailingBytes, OutOfMemory, TooLong}
-use Rattle.pg_replica.specs.Replica.{Pair, State, Answer, Answers, Run, answered, run, goes_on, preceded, frames_of}
+use Rattle.pg_replica.specs.Replica.{Pair, State, Answer, AnswersServed, Run, answered, replica_run, goes_on, preceded, frames_of}
 
 -- ---- known bytes
 
@@ -45,21 +45,21 @@ fine replies s = record { replies = replies; state = s; fault = None }
 after_both : (xs ys : List (List ℕ)) (r : Run) → preceded xs (after ys r) ≡ after (xs ++ ys) r
 after_both xs ys r = λ i. record { replies = sym (append_assoc xs ys r.replies) i; state = r.state; fault = r.fault }
 
-pub run_append : (pair : Pair) (s : State) (xs ys : List (List ℕ)) (replies : List (List ℕ)) (t : State) → run pair s xs ≡ fine replies t → run pair s (xs ++ ys) ≡ after replies (run pair t ys)
+pub run_append : (pair : Pair) (s : State) (xs ys : List (List ℕ)) (replies : List (List ℕ)) (t : State) → replica_run pair s xs ≡ fine replies t → replica_run pair s (xs ++ ys) ≡ after replies (replica_run pair t ys)
 run_append pair s [] ys replies t e =
     let none : [] ≡ replies = ap (λ (r : Run). r.replies) e in
     let same : s ≡ t = ap (λ (r : Run). r.state) e in
-    (λ i. after (none i) (run pair (same i) ys))
+    (λ i. after (none i) (replica_run pair (same i) ys))
 run_append pair s (x ∷ xs) ys replies t e = go (answered pair s x) e (λ (a : Answer). run_append pair a.state xs ys)
   where
-    go : (r : Result Answer ServeFault) → goes_on s r (λ new. run pair new xs) ≡ fine replies t
-        → ((a : Answer) (others : List (List ℕ)) (u : State) → run pair a.state xs ≡ fine others u → run pair a.state (xs ++ ys) ≡ after others (run pair u ys))
-        → goes_on s r (λ new. run pair new (xs ++ ys)) ≡ after replies (run pair t ys)
+    go : (r : Result Answer ServeFault) → goes_on s r (λ new. replica_run pair new xs) ≡ fine replies t
+        → ((a : Answer) (others : List (List ℕ)) (u : State) → replica_run pair a.state xs ≡ fine others u → replica_run pair a.state (xs ++ ys) ≡ after others (replica_run pair u ys))
+        → goes_on s r (λ new. replica_run pair new (xs ++ ys)) ≡ after replies (replica_run pair t ys)
     go (Err fault) e ih = absurd (cc (ap (λ (r : Run). r.fault) e))
     go (Ok a) e ih =
-        let q = run pair a.state xs in
+        let q = replica_run pair a.state xs in
         let whole : q ≡ fine q.replies t = λ i. record { replies = q.replies; state = ap (λ (r : Run). r.state) e i; fault = ap (λ (r : Run). r.fault) e i } in
-        ap (preceded a.sent) (ih a q.replies t whole) ∙ after_both a.sent q.replies (run pair t ys) ∙ ap (λ (rs : List (List ℕ)). after rs (run pair t ys)) (ap (λ (r : Run). r.replies) e)
+        ap (preceded a.sent) (ih a q.replies t whole) ∙ after_both a.sent q.replies (replica_run pair t ys) ∙ ap (λ (rs : List (List ℕ)). after rs (replica_run pair t ys)) (ap (λ (r : Run). r.replies) e)
 
 pub frames_append : (xs ys : List (List ℕ)) → frames_of (xs ++ ys) ≡ frames_of xs ++ frames_of ys
 frames_append [] ys = refl
@@ -83,12 +83,12 @@ onward pair a b c s t u v w x p q = record {
 }
 
 -- one body is answered
-pub one : (pair : Pair) (unread body : List ℕ) (s t : State) (v w : Option (List ℕ)) (output : List ℕ) → front_of unread ≡ Ok (Some body) → Answers (answered pair s body) t [] output → Appends v w output → Progress pair unread (after_front unread) s t v w
+pub one : (pair : Pair) (unread body : List ℕ) (s t : State) (v w : Option (List ℕ)) (output : List ℕ) → front_of unread ≡ Ok (Some body) → AnswersServed (answered pair s body) t [] output → Appends v w output → Progress pair unread (after_front unread) s t v w
 one pair unread body s t v w output front a wrote = record {
   bodies = body ∷ [];
   replies = a.sent ++ [];
   leaves = loop_keeps.takes unread unread body [] (loop_keeps.start unread) front;
-  ran = ap (λ r. goes_on s r (λ new. run pair new [])) a.is;
+  ran = ap (λ r. goes_on s r (λ new. replica_run pair new [])) a.is;
   wrote = subst (Appends v w) (a.output ∙ ap frames_of (sym (append-nil a.sent))) wrote;
 }
 
@@ -129,7 +129,7 @@ module _ (pair : Pair) (unread body : List ℕ) (s : State) (w : Option (List �
   refused WriteFault h = inr (known_kept w)
 
 -- the next body is answered, and a prefix of its replies is written
-pub cut_short : (pair : Pair) (unread body : List ℕ) (s t : State) (v w : Option (List ℕ)) (output part missing : List ℕ) → front_of unread ≡ Ok (Some body) → Answers (answered pair s body) t [] output
+pub cut_short : (pair : Pair) (unread body : List ℕ) (s t : State) (v w : Option (List ℕ)) (output part missing : List ℕ) → front_of unread ≡ Ok (Some body) → AnswersServed (answered pair s body) t [] output
     → part ++ missing ≡ output → Appends v w part → StopsAt pair WriteFault unread s v w
 cut_short pair unread body s t v w output part missing front a cut wrote = inl (record {
   body = body;

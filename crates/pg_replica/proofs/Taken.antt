@@ -21,7 +21,7 @@ use Rattle.pg_node_state.specs.declared.state.fault.NodeFault.TheVariants.{Messa
 use Rattle.pg_replica.specs.Fault.{refused_as, untaken_as, Refuses}
 use Rattle.pg_node_state.specs.Frames.{frame_of, frames_to}
 use Rattle.pg_node_state.specs.Sendable.{FitLinks, IsSendable, Ascends, AreSendable}
-use Rattle.pg_replica.specs.Replica.{State, Answers, nodes_of, frames_of, body_sent}
+use Rattle.pg_replica.specs.Replica.{State, AnswersServed, nodes_of, frames_of, body_sent}
 use Rattle.pg_replica.specs.Replica.{bodies_to, pair_in, taken_packet, turned}
 use Rattle.pg_node_state.specs.States.{Comes, sends_in, stamped_of}
 
@@ -65,10 +65,10 @@ module _ (names : List Node) (two : length names ≡ 2) (s : State) (packet : Pa
 
   -- a packet that was taken
   pub answers : (done : Done) (out0 out1 : List ℕ) → Comes names told (Ok done) s1 before after → AreSendable names done.sends.items
-      → out1 ≡ out0 ++ frames_to done.sends.items 0 → Answers (taken_packet (pair_in names) s packet) s1 out0 out1
-  answers done out0 out1 comes fits out = subst (λ r. Answers r s1 out0 out1) taken_is (go told comes)
+      → out1 ≡ out0 ++ frames_to done.sends.items 0 → AnswersServed (taken_packet (pair_in names) s packet) s1 out0 out1
+  answers done out0 out1 comes fits out = subst (λ r. AnswersServed r s1 out0 out1) taken_is (go told comes)
     where
-      go : (r : Result TimedTurn Refusal) → Comes names r (Ok done) s1 before after → Answers (turned (pair_in names) r) s1 out0 out1
+      go : (r : Result TimedTurn Refusal) → Comes names r (Ok done) s1 before after → AnswersServed (turned (pair_in names) r) s1 out0 out1
       go (Ok t) h = record {
         sent = bodies_to (pair_in names) t;
         is = ap (λ (u : State). Ok (record { state = u; sent = bodies_to (pair_in names) t })) (sym h.state);

@@ -4,7 +4,7 @@ use Rattle.std.specs.Io.KnownBytes.{Appends}
 use Rattle.pg_frame.specs.Frames.{bodies_of}
 use Rattle.pg_replica.specs.declared.fault.ServeFault.{ServeFault}
 use Rattle.pg_replica.specs.declared.fault.ServeFault.TheVariants.{ReadFault, WriteFault}
-use Rattle.pg_replica.specs.Replica.{Pair, start, run, frames_of}
+use Rattle.pg_replica.specs.Replica.{Pair, start, replica_run, frames_of}
 
 -- what a fault of reading and one of writing come from; the other faults are none of reading or writing
 abbrev pub Cause : Type 0 → Type 0 → ServeFault → Type 0
@@ -17,9 +17,9 @@ abbrev pub FailedAt : {A : Type 0} → (A → A → Type 0) → A → Type 0
 FailedAt {A} fails now = (before : A) × fails before now
 
 -- reads one after another gave these pieces, each of some bytes; the last of them stands first
-abbrev pub Gave : {R : Type 0} → (R → List ℕ → R → Type 0) → R → List (List ℕ) → R → Type 0
-Gave gives old [] new = new ≡ old
-Gave {R} gives old (piece ∷ earlier) new = (before : R) × Gave gives old earlier before × gives before piece new × (0 < length piece)
+abbrev pub GaveChunks : {R : Type 0} → (R → List ℕ → R → Type 0) → R → List (List ℕ) → R → Type 0
+GaveChunks gives old [] new = new ≡ old
+GaveChunks {R} gives old (piece ∷ earlier) new = (before : R) × GaveChunks gives old earlier before × gives before piece new × (0 < length piece)
 
 -- pieces, the last of them first, as one list of bytes
 abbrev pub joined : List (List ℕ) → List ℕ
@@ -28,14 +28,14 @@ joined (piece ∷ earlier) = joined earlier ++ piece
 
 -- each packet that is whole in this input was answered, and the replies were written
 pub record AllAnswered (pair : Pair) (before after : Option (List ℕ)) (input : List ℕ) : Type 0 where
-  pub taken : (run pair start (bodies_of input)).fault ≡ None
-  pub wrote : Appends before after (frames_of (run pair start (bodies_of input)).replies)
+  pub taken : (replica_run pair start (bodies_of input)).fault ≡ None
+  pub wrote : Appends before after (frames_of (replica_run pair start (bodies_of input)).replies)
 
 -- after reads that gave pieces with the fact P a read failed, or 2^40 reads were made
 pub record Unread {R : Type 0} (gives : R → List ℕ → R → Type 0) (fails : R → R → Type 0) (old new : R) (P : List ℕ → Type 0) : Type 0 where
   pub pieces : List (List ℕ)
   pub fact : P (joined pieces)
-  pub last : ((before : R) × Gave gives old pieces before × fails before new) ⊎ (Gave gives old pieces new × (length pieces ≡ 2 ^ 40))
+  pub last : ((before : R) × GaveChunks gives old pieces before × fails before new) ⊎ (GaveChunks gives old pieces new × (length pieces ≡ 2 ^ 40))
 
 -- nothing was written, or all that was written was flushed
 abbrev pub IsFlushed : {W : Type 0} → (W → Type 0) → W → W → Type 0
@@ -47,7 +47,7 @@ pub record InTurn {R W : Type 0} (gives : R → List ℕ → R → Type 0) (flus
     (P : W → List ℕ → Type 0) : Type 0 where
   pub piece : List ℕ
   pub earlier : List (List ℕ)
-  pub gave : Gave gives old (piece ∷ earlier) new
+  pub gave : GaveChunks gives old (piece ∷ earlier) new
   pub between : W
   pub out : IsFlushed flushed first between
   pub fact : P between (joined earlier)

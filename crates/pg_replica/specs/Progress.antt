@@ -7,14 +7,14 @@ use Rattle.pg_frame.specs.Frames.{front_of, too_long, Leaves}
 use Rattle.pg_replica.specs.declared.fault.ServeFault.{ServeFault}
 use Rattle.pg_replica.specs.declared.fault.ServeFault.TheVariants.{Message, FrameTooLong, ReadFault, WriteFault}
 use Rattle.pg_replica.specs.Causes.{joined}
-use Rattle.pg_replica.specs.Replica.{Pair, State, Answer, answered, run, start, frames_of}
+use Rattle.pg_replica.specs.Replica.{Pair, State, Answer, answered, replica_run, start, frames_of}
 
 -- some bodies were taken and answered, and their replies written
 pub record Progress (pair : Pair) (unread0 unread1 : List ℕ) (s0 s1 : State) (out0 out1 : Option (List ℕ)) : Type 0 where
   pub bodies : List (List ℕ)
   pub replies : List (List ℕ)
   pub leaves : Leaves unread0 bodies unread1
-  pub ran : run pair s0 bodies ≡ record { replies = replies; state = s1; fault = None }
+  pub ran : replica_run pair s0 bodies ≡ record { replies = replies; state = s1; fault = None }
   pub wrote : Appends out0 out1 (frames_of replies)
 
 -- the next body is refused
@@ -52,7 +52,7 @@ pub record Stops (pair : Pair) (fault : ServeFault) (unread0 : List ℕ) (s0 : S
   pub stops : StopsAt pair fault unread state written out1
 
 -- the next piece, of which P says how it was read, came in, or the input was over
-pub record Reads (P : List ℕ → Type 0) (r0 r1 : Option (List ℕ)) (unread0 unread1 : List ℕ) (more : Bool) : Type 0 where
+pub record ReadsSome (P : List ℕ → Type 0) (r0 r1 : Option (List ℕ)) (unread0 unread1 : List ℕ) (more : Bool) : Type 0 where
   pub piece : List ℕ
   pub gave : P piece
   pub consumed : Consumes r0 r1 piece

@@ -91,9 +91,9 @@ goes_on s (Ok answer) others = preceded answer.sent (others answer.state)
 goes_on s (Err fault) others = record { replies = []; state = s; fault = Some fault }
 
 -- bodies one after another, up to the first fault
-abbrev pub run : Pair → State → List (List ℕ) → Run
-run pair s [] = record { replies = []; state = s; fault = None }
-run pair s (body ∷ bodies) = goes_on s (answered pair s body) (λ new. run pair new bodies)
+abbrev pub replica_run : Pair → State → List (List ℕ) → Run
+replica_run pair s [] = record { replies = []; state = s; fault = None }
+replica_run pair s (body ∷ bodies) = goes_on s (answered pair s body) (λ new. replica_run pair new bodies)
 
 -- what the bytes behind all whole frames say
 abbrev pub rest_fault : List ℕ → Result (Option (List ℕ)) TooLong → Option ServeFault
@@ -107,7 +107,7 @@ first_fault (Some fault) later = Some fault
 -- the replies of a byte stream, and how it ends: with no fault where each body was served and no byte is left over
 abbrev pub served : Pair → List ℕ → Run
 served pair bytes =
-    let r = run pair start (bodies_of bytes) in
+    let r = replica_run pair start (bodies_of bytes) in
     record { replies = r.replies; state = r.state; fault = first_fault r.fault (rest_fault (rest_of bytes) (front_of (rest_of bytes))) }
 
 -- replies as they are written
@@ -142,7 +142,7 @@ abbrev pub pair_of : {T : Type 0} {g : Ghosts T} → NodeState T g → Pair
 pair_of node = pair_in (names_of node)
 
 -- what is told came about: the state is the next one, and what is sent stands framed at the end of the output
-pub record Answers (told : Result Answer ServeFault) (s1 : State) (output0 output1 : List ℕ) : Type 0 where
+pub record AnswersServed (told : Result Answer ServeFault) (s1 : State) (output0 output1 : List ℕ) : Type 0 where
   pub sent : List (List ℕ)
   pub is : told ≡ Ok (record { state = s1; sent = sent })
   pub output : output1 ≡ output0 ++ frames_of sent

@@ -6,7 +6,7 @@ ghost use Rattle.pg_writer.specs.declared.size.TheConstants.{MAX_SMALL_LEN};
 ghost use Rattle.pg_replica.specs.Fault.{untaken_as, Refuses};
 ghost use Rattle.pg_node_state.specs.Frames.{frames_to};
 ghost use Rattle.pg_node_state.specs.Sendable.{FitLinks};
-ghost use Rattle.pg_replica.specs.Replica.{pair_of, taken_packet, answered, Answers};
+ghost use Rattle.pg_replica.specs.Replica.{pair_of, taken_packet, answered, AnswersServed};
 ghost use Rattle.pg_node_state.specs.States.{names_of, state_of};
 
 use crate::fault::ServeFault;
@@ -32,7 +32,7 @@ pub(crate) fn answer<T: GroupTable + Drop>(
 ) -> Result<(), ServeFault>
     requires one_peer { length (names_of node.old) ≡ 2 }
     requires len { length body.now ≤ 16777216 }
-    ensures ok { OnOk result (Answers (answered (pair_of node.old) (state_of node.old) body.now)
+    ensures ok { OnOk result (AnswersServed (answered (pair_of node.old) (state_of node.old) body.now)
         (state_of node.new) out.old.items out.new.items) }
     ensures fault { IfErr result (Refuses (answered (pair_of node.old) (state_of node.old) body.now)) }
     ensures err_state { OnErr result (state_of node.new ≡ state_of node.old) }
@@ -53,7 +53,7 @@ fn answer_packet<T: GroupTable + Drop>(
 ) -> Result<(), ServeFault>
     requires one_peer { length (names_of node.old) ≡ 2 }
     requires few { IsShort (2 ^ 32) packet.now.message }
-    ensures ok { OnOk result (Answers (taken_packet (pair_of node.old) (state_of node.old) packet.now)
+    ensures ok { OnOk result (AnswersServed (taken_packet (pair_of node.old) (state_of node.old) packet.now)
         (state_of node.new) out.old.items out.new.items) }
     ensures fault { IfErr result (Refuses (taken_packet (pair_of node.old) (state_of node.old) packet.now)) }
     ensures err_state { OnErr result (state_of node.new ≡ state_of node.old) }

@@ -7,7 +7,7 @@ ghost use Rattle.pg_replica.specs.Fault.{out_of_memory};
 ghost use Rattle.pg_replica.specs.Replica.{start, pair_of, Serves};
 ghost use Rattle.pg_node_state.specs.States.{names_of, state_of};
 ghost use Rattle.pg_term.specs.Same.{same_atom};
-ghost use Rattle.pg_replica.specs.Progress.{Progress, Reads, StopsAt, Stops};
+ghost use Rattle.pg_replica.specs.Progress.{Progress, ReadsSome, StopsAt, Stops};
 ghost use Rattle.pg_replica.specs.declared.fault.ServeFault.TheVariants.{Message, ReadFault, WriteFault};
 ghost use Rattle.pg_message.specs.declared.fault.MessageFault.TheVariants.{Term};
 ghost use Rattle.pg_term.specs.declared.fault.TermFault.TheVariants.{Truncated};
@@ -108,7 +108,7 @@ impl<T: GroupTable + Drop> Server<T> {
     /// Reads the next piece of the input. `false`: it is over.
     fn read<R: Source>(&mut self, reader: &mut R, piece: &mut [u8]) -> Result<bool, ServeFault>
         requires { 0 < length piece.old }
-        ensures piece { IfOk result (Reads (λ bytes. R.gives reader.old bytes reader.new) (R.remaining reader.old)
+        ensures piece { IfOk result (ReadsSome (λ bytes. R.gives reader.old bytes reader.new) (R.remaining reader.old)
             (R.remaining reader.new) self.old.deframer.unread self.new.deframer.unread) }
         ensures fault { IfErr result (λ fault. (fault ≡ ReadFault) ⊎ (fault ≡ out_of_memory)) }
         ensures cause { IfErr result (Cause (R.fails reader.old reader.new) ⊥) }

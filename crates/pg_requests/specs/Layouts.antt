@@ -25,6 +25,6 @@ abbrev pub client_at : List NodePorts → List ℕ → ℕ → Option ℕ
 client_at nodes name port = option_and_then (λ node. client_of node port) (node_of name nodes)
 
 -- nodes as they start, where the clients of the first of them come first, behind so many others
-abbrev pub placed : ℕ → List Start → List NodePorts
-placed first [] = []
-placed first (start ∷ starts) = record { name = start.name; ports = start.ports; first = first } ∷ placed (min (first + start.ports) (2 ^ 64 - 1)) starts
+abbrev pub layout_of : ℕ → List Start → List NodePorts
+layout_of first [] = []
+layout_of first (start ∷ starts) = record { name = start.name; ports = start.ports; first = first } ∷ layout_of (min (first + start.ports) (2 ^ 64 - 1)) starts

@@ -29,12 +29,12 @@ reply_term (replies.NoProcess name) = error_term (chars (codes "no_process")) na
 reply_term (replies.Refused number) = refused_term number
 
 -- a count as a term has it
-abbrev pub counted : ℕ → Term
-counted number = Int (pos (min number (2 ^ 63 - 1)))
+abbrev pub count_reply : ℕ → Term
+count_reply number = Int (pos (min number (2 ^ 63 - 1)))
 
 -- {Node, Port, Number, Reply}
 abbrev pub numbered_term : List ℕ → ℕ → ℕ → Term → Term
-numbered_term node port number reply = Tuple (Atom node ∷ Int (pos port) ∷ counted number ∷ reply ∷ [])
+numbered_term node port number reply = Tuple (Atom node ∷ Int (pos port) ∷ count_reply number ∷ reply ∷ [])
 
 -- {error, {node_lost, Node}}
 abbrev pub node_lost_term : List ℕ → Term
@@ -46,4 +46,4 @@ lost_term node = pair (Atom (chars (codes "lost"))) (Atom node)
 
 -- {error, {bad_request, N}}
 abbrev pub bad_request_term : ℕ → Term
-bad_request_term number = error_term (chars (codes "bad_request")) (counted number)
+bad_request_term number = error_term (chars (codes "bad_request")) (count_reply number)

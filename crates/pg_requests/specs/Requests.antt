@@ -58,13 +58,13 @@ abbrev pub command_of : Term → Option Command
 command_of term = command_or term (elements_of term)
 
 -- what is asked, if it is something
-abbrev pub asked : Option ℕ → Option Command → Input
-asked (Some client) (Some command) = inputs.Ask client command
-asked client command = inputs.Bad
+abbrev pub input_asked : Option ℕ → Option Command → Input
+input_asked (Some client) (Some command) = inputs.Ask client command
+input_asked client command = inputs.Bad
 
 -- {Node, Port, Command}
 abbrev pub request_in : List NodePorts → Term → Term → Term → Input
-request_in nodes node port command = asked (option_and_then (λ name. option_and_then (client_at nodes name) (number_of 16 port)) (atom_of node)) (command_of command)
+request_in nodes node port command = input_asked (option_and_then (λ name. option_and_then (client_at nodes name) (number_of 16 port)) (atom_of node)) (command_of command)
 
 abbrev pub lost : Option ℕ → Input
 lost (Some node) = inputs.Lose node

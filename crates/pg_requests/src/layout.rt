@@ -40,7 +40,7 @@ impl NodePorts {
 
 impl Layout {
     ghost use Rattle.std.specs.Prelude.{◌≡◌, IfOk};
-    ghost use Rattle.pg_requests.specs.Layouts.{client_at, place_of, placed};
+    ghost use Rattle.pg_requests.specs.Layouts.{client_at, place_of, layout_of};
 
     /// That of nodes as they start: the clients of the first node come first.
     ///
@@ -48,7 +48,7 @@ impl Layout {
     ///
     /// Cost: memory for each node, with a copy of its name.
     pub fn of(alloc: Global, starts: &[Start]) -> Result<Layout, AllocError>
-        ensures { IfOk result (λ layout. layout.nodes.items ≡ placed 0 starts.now) }
+        ensures { IfOk result (λ layout. layout.nodes.items ≡ layout_of 0 starts.now) }
     {
         let mut nodes = Vec::with_capacity(alloc, starts.len())?;
         let mut first: usize = 0;

@@ -4,7 +4,7 @@ ghost use Rattle.std.specs.Prelude.{◌≡◌, ◌<◌, ◌∷◌, [], pos, IfOk
 ghost use Rattle.std.specs.Str.{chars};
 ghost use Rattle.pg_term.specs.declared.term.Term.{List as Listed};
 ghost use Rattle.pg_term.specs.declared.term.Term.TheVariants.{Int, Atom as Word, Pid as Process};
-ghost use Rattle.pg_requests.specs.Replies.{bad_request_term, counted, error_term, lost_term};
+ghost use Rattle.pg_requests.specs.Replies.{bad_request_term, count_reply, error_term, lost_term};
 ghost use Rattle.pg_requests.specs.Replies.{node_lost_term, numbered_term, pair, refused_term, reply_term};
 
 use pg_step::Reply;
@@ -101,12 +101,12 @@ pub fn lost(alloc: Global, name: &Atom) -> Result<Term, AllocError>
 pub fn bad_request(alloc: Global, number: u64) -> Result<Term, AllocError>
     ensures { IfOk result (λ term. term ≡ bad_request_term number) }
 {
-    error(alloc, "bad_request", counted(number))
+    error(alloc, "bad_request", count_reply(number))
 }
 
 /// A count as a term.
-fn counted(number: u64) -> Term
-    ensures { result ≡ counted number }
+fn count_reply(number: u64) -> Term
+    ensures { result ≡ count_reply number }
 {
     Term::Int(i64::try_from(number).unwrap_or(i64::MAX))
 }
@@ -171,13 +171,13 @@ pub fn numbered(
 
 /// The parts of a numbered reply before it, and room for it.
 fn first_parts(alloc: Global, name: &Atom, port: u16, number: u64) -> Result<Vec<Term>, AllocError>
-    ensures parts { IfOk result (λ parts. parts.items ≡ Word name.now ∷ Int (pos port) ∷ counted number ∷ []) }
+    ensures parts { IfOk result (λ parts. parts.items ≡ Word name.now ∷ Int (pos port) ∷ count_reply number ∷ []) }
     ensures room { IfOk result (λ parts. vec_len parts < vec_capacity parts) }
 {
     let name = name.copy()?;
     let mut parts = Vec::with_capacity(alloc, 4)?;
     parts.push_reserved(Term::Atom(name));
     parts.push_reserved(Term::Int(i64::from(port)));
-    parts.push_reserved(counted(number));
+    parts.push_reserved(count_reply(number));
     Ok(parts)
 }

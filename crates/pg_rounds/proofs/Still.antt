@@ -22,7 +22,7 @@ use Rattle.pg_ring.specs.MemRing.{RingBytes, Grows, Loses, HasRoomFor, HasUnread
 use Rattle.pg_run.specs.declared.linked.LinkedNode.{LinkedNode}
 use Rattle.pg_run.specs.declared.run.NodeRun.{NodeRun}
 use Rattle.pg_run.specs.Acts.{Act, entry_of}
-use Rattle.pg_run.specs.Events.{told_of_peer, TookNext, IsTold}
+use Rattle.pg_run.specs.Events.{told_of_peer, TookNext, IsFault}
 use Rattle.pg_run.specs.Follows.{Follows, HasMoved, log_of, node_of, peers_of}
 use Rattle.pg_run.specs.Runs.{linked_of}
 use Rattle.pg_run.specs.Tries.{ComesTo, HasPulled, HasPut, HasTried, IsNoWant}
@@ -296,7 +296,7 @@ module _ {T K : Type 0} {g : Ghosts T} (x y : NodeRun T RingBytes RingBytes K g)
       told_is = same_told t.after (linked_of y) q.rest (same_next (links_of (node_of (linked_of y)) peer) (links_of (node_of t.after) peer) (same_unread t.after (linked_of y) q.rest there last_none) (counts.sound ∙ sym (lasts_back peer t.after (linked_of y) q.rest there counts.sound)))
           ∙ same_told t.before t.after f (same_next (links_of (node_of t.after) peer) (links_of (node_of t.before) peer) (same_unread t.before t.after f here few.1) (lasts_back peer t.after (linked_of y) q.rest there counts.sound ∙ sym sound))
 
-      refused : (fault : NodeFault) → IsTold (told_of_peer (node_of t.before) peer) fault → IsNoWant fault → NoneLeft peer y
+      refused : (fault : NodeFault) → IsFault (told_of_peer (node_of t.before) peer) fault → IsNoWant fault → NoneLeft peer y
       refused OutOfMemory told want = absurd want
       refused (Refused r) told want = inr (Refused r, told_is ∙ told)
       refused (Message m) told want = inr (Message m, told_is ∙ told)
@@ -304,7 +304,7 @@ module _ {T K : Type 0} {g : Ghosts T} (x y : NodeRun T RingBytes RingBytes K g)
       refused Damaged told want = inr (Damaged, told_is ∙ told)
 
     tried_as : (taken : Result Bool NodeFault) → TookNext Grows Loses peer taken t.before t.after → (taken ≡ Ok false → next_packet (links_of (node_of t.before) peer) ≡ Ok None)
-        → IfErr taken (IsTold (told_of_peer (node_of t.before) peer)) → IfErr taken IsNoWant → NoneLeft peer y
+        → IfErr taken (IsFault (told_of_peer (node_of t.before) peer)) → IfErr taken IsNoWant → NoneLeft peer y
     tried_as (Ok true) took none fault want = absurd (taken_one took.act took.follows)
     tried_as (Ok false) took none fault want = inl (next_is took ∙ none refl)
     tried_as (Err e) took none fault want = refused took e fault want

@@ -11,16 +11,16 @@ use Rattle.pg_node_state.specs.declared.state.fault.NodeFault.TheVariants.{Refus
 use Rattle.pg_node_state.specs.declared.state.fault.NodeFault.TheVariants.{TooLong, Message, Damaged}
 use Rattle.pg_node_state.specs.Issued.{ports_of}
 use Rattle.pg_message.specs.declared.packet.Packet.{Packet}
-use Rattle.pg_node.specs.Bytes.{Tells, damages, marked}
+use Rattle.pg_node.specs.Bytes.{ReadsNext, damages, marked}
 use Rattle.pg_node_state.specs.Frames.{frames_to}
 use Rattle.pg_node.specs.Links.{Link, at_link}
 use Rattle.pg_node.specs.Nodes.{held_by, links_of, read_next, step_link, taken_of, taken_as, ComesInRoom}
 use Rattle.pg_node_state.specs.States.{names_of, state_of, answers_of, stamped_of, Happens, Comes}
 use Rattle.pg_node.proofs.Events.{step_read}
 use Rattle.pg_run.specs.declared.linked.LinkedNode.{LinkedNode}
-use Rattle.pg_run.specs.Acts.{Act, Standing, Leads, event_of, is_from, losses_of}
+use Rattle.pg_run.specs.Acts.{Act, Standing, ActLeads, event_of, is_from, losses_of}
 use Rattle.pg_opens.specs.Places.{name_at, whole_in}
-use Rattle.pg_run.specs.Events.{IsRefusedAs, IsTold, told_of_peer}
+use Rattle.pg_run.specs.Events.{IsRefusedAs, IsFault, told_of_peer}
 use Rattle.pg_run.specs.Follows.{Follows, HaveMoved, WasMarked, node_of, peers_of, log_of, standing_of}
 use Rattle.pg_run.proofs.Moving.{Closes, act_moved, peers_kept, unmoved, link_there, link_else}
 use Rattle.pg_step.specs.declared.answer.Answer.{Answer}
@@ -110,7 +110,7 @@ marked_lasts k fault links place damaged = go (cases_eq place k)
     go (inr n) = ap (λ (l : Link). l.damaged) (link_else k place (λ l. marked l fault) links n) ∙ damaged
 
 -- a fault that damages the link is the one that the step tells
-fault_told : (told : Result (Option TimedTurn) NodeFault) (fault : NodeFault) → damages fault ≡ true → IsTold told fault → told ≡ Err fault
+fault_told : (told : Result (Option TimedTurn) NodeFault) (fault : NodeFault) → damages fault ≡ true → IsFault told fault → told ≡ Err fault
 fault_told told OutOfMemory harm is = absurd (cc)
 fault_told told (Refused other) harm is = is
 fault_told told (Message other) harm is = is
@@ -119,7 +119,7 @@ fault_told told Damaged harm is = is
 
 -- a link at which a mark is made is damaged from before, or by the fault that was told
 marked_by : (names : List Name) (ports k : ℕ) (fault : NodeFault) (links : ℕ → Link) (a b : Standing) → b ≡ a
-    → IsTold (step_link (whole_in names) (name_at names (k + 1)) (links k) a.state) fault → (place : ℕ) → (at_link k (λ l. marked l fault) links place).damaged ≡ true
+    → IsFault (step_link (whole_in names) (name_at names (k + 1)) (links k) a.state) fault → (place : ℕ) → (at_link k (λ l. marked l fault) links place).damaged ≡ true
     → ((links place).damaged ≡ true) ⊎ WasMarked names ports place [] a b (at_link k (λ l. marked l fault) links place).unread
 marked_by names ports k fault links a b same told place damaged = go (cases_eq place k)
   where
@@ -158,7 +158,7 @@ module _ {T L I : Type 0} {g : Ghosts T} (accepts : L → List ℕ → L → Typ
     (link_rests : (a : L) → accepts a [] a) (inlet_rests : (a : I) → gives a [] a) where
   pub acts_once : (a b : LinkedNode T L I g) (act : Act)
       → names_of (held_by (node_of b)) ≡ names_of (held_by (node_of a)) → ports_of (held_by (node_of b)) ≡ ports_of (held_by (node_of a))
-      → Leads (names_of (held_by (node_of a))) (ports_of (held_by (node_of a))) (standing_of (node_of a)) act (standing_of (node_of b))
+      → ActLeads (names_of (held_by (node_of a))) (ports_of (held_by (node_of a))) (standing_of (node_of a)) act (standing_of (node_of b))
       → log_of b ≡ log_of a ++ ((state_of (held_by (node_of b))).clock, event_of act.input) ∷ [] → peers_of b ≡ peers_of a
       → ((place : ℕ) → losses_of place (act ∷ []) ≡ [] → (links_of (node_of b) place).outbox ≡ (links_of (node_of a) place).outbox ++ frames_to act.sends place)
       → ((place : ℕ) → Closes place act (links_of (node_of b) place))
@@ -207,7 +207,7 @@ module _ {T L I : Type 0} {g : Ghosts T} (accepts : L → List ℕ → L → Typ
   -- nothing but a fault is seen, which was told of the peer at a place
   pub fault_done : (a b : LinkedNode T L I g) (k : ℕ) (fault : NodeFault) → names_of (held_by (node_of b)) ≡ names_of (held_by (node_of a)) → ports_of (held_by (node_of b)) ≡ ports_of (held_by (node_of a))
       → state_of (held_by (node_of b)) ≡ state_of (held_by (node_of a)) → answers_of (held_by (node_of b)) ≡ answers_of (held_by (node_of a))
-      → log_of b ≡ log_of a → peers_of b ≡ peers_of a → links_of (node_of b) ≡ at_link k (λ l. marked l fault) (links_of (node_of a)) → IsTold (told_of_peer (node_of a) k) fault
+      → log_of b ≡ log_of a → peers_of b ≡ peers_of a → links_of (node_of b) ≡ at_link k (λ l. marked l fault) (links_of (node_of a)) → IsFault (told_of_peer (node_of a) k) fault
       → Follows accepts gives [] a b
   fault_done a b k fault names ports state answers log peers links told =
       let same = alike (state_of (held_by (node_of b))) (state_of (held_by (node_of a))) (answers_of (held_by (node_of b))) (answers_of (held_by (node_of a))) state answers in record {

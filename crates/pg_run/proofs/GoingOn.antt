@@ -19,7 +19,7 @@ use Rattle.pg_run.specs.Acts.{Act, Given, Took, Saw, Did, SawNone, loss_of, loss
 use Rattle.pg_run.specs.Events.{ActsOnce, TookNext, Acted, IsOfPeer}
 use Rattle.pg_run.specs.Follows.{Follows, node_of, standing_of}
 use Rattle.pg_run.specs.declared.port.Asked.{Asked}
-use Rattle.pg_run.specs.Ports.{asked, handed, handed_count, kept_by, SamePort, Hands}
+use Rattle.pg_run.specs.Ports.{asked, handed, handed_count, asked_kept, SamePort, Hands}
 use Rattle.pg_run.specs.Notices.{NoticesGo, inlet_of, kept_in, kept_of}
 use Rattle.pg_run.specs.Runs.{Runs, linked_of, ports_at, notices_of}
 use Rattle.pg_run.specs.Turns.{GoesOnSeeing, GoesOn, SeesOnce, ServesSeeing}
@@ -200,7 +200,7 @@ module _ {T L I : Type 0} {g : Ghosts T} (accepts : L → List ℕ → L → Typ
   }
 
   pub served_none : ((a : L) → accepts a [] a) → ((a : I) → gives a [] a) → (place : ℕ) (a : LinkedNode T L I g) (port port2 : Port) → SamePort port port2
-      → ((before : List Asked) → asked port ≡ before ++ kept_by port → asked port2 ≡ before ++ kept_by port2) → handed port2 ≡ handed port
+      → ((before : List Asked) → asked port ≡ before ++ asked_kept port → asked port2 ≡ before ++ asked_kept port2) → handed port2 ≡ handed port
       → handed_count port2 ≡ handed_count port → ServesPort accepts gives place a port a port2
   served_none link_rests inlet_rests place a port port2 same came out count = record {
     acts = [];
@@ -212,7 +212,7 @@ module _ {T L I : Type 0} {g : Ghosts T} (accepts : L → List ℕ → L → Typ
 
   -- what came of the command that a port gave
   pub served_command : (place : ℕ) (next : Asked) (r : Result (Unit {0}) (NodeFault × Command)) (a b : LinkedNode T L I g) (port m : Port)
-      → SamePort port m → ((before : List Asked) → asked port ≡ before ++ kept_by port → asked m ≡ before ++ next ∷ []) → kept_by m ≡ []
+      → SamePort port m → ((before : List Asked) → asked port ≡ before ++ asked_kept port → asked m ≡ before ++ next ∷ []) → asked_kept m ≡ []
       → handed m ≡ handed port → handed_count m ≡ handed_count port → next.polled ≤ handed_count m → (done : Unit {0}) → r ≡ Ok done → Acted accepts gives (Did (Issue place next.command)) r a b
       → ServesPort accepts gives place a port b m
   served_command place next r a b port m same came none out count waited done ok acted =
@@ -228,9 +228,9 @@ module _ {T L I : Type 0} {g : Ghosts T} (accepts : L → List ℕ → L → Typ
       }
 
   pub served_kept : (place : ℕ) (next : Asked) (back : NodeFault × Command) (r : Result (Unit {0}) (NodeFault × Command)) (a b : LinkedNode T L I g) (port m port2 : Port)
-      → SamePort port m → ((before : List Asked) → asked port ≡ before ++ kept_by port → asked m ≡ before ++ next ∷ [])
+      → SamePort port m → ((before : List Asked) → asked port ≡ before ++ asked_kept port → asked m ≡ before ++ next ∷ [])
       → handed m ≡ handed port → handed_count m ≡ handed_count port → r ≡ Err back → Acted accepts gives (Did (Issue place next.command)) r a b
-      → SamePort m port2 → asked port2 ≡ asked m → kept_by port2 ≡ next ∷ [] → handed port2 ≡ handed m → handed_count port2 ≡ handed_count m
+      → SamePort m port2 → asked port2 ≡ asked m → asked_kept port2 ≡ next ∷ [] → handed port2 ≡ handed m → handed_count port2 ≡ handed_count m
       → ServesPort accepts gives place a port b port2
   served_kept place next back r a b port m port2 same came out count err acted same2 still kept out2 count2 =
       let follows : Follows accepts gives [] a b = subst (λ x. Acted accepts gives (Did (Issue place next.command)) x a b) err acted in record {

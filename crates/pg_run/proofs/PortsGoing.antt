@@ -16,7 +16,7 @@ use Rattle.pg_ring.specs.Slots.{SameSlotIn, SameSlotOut}
 use Rattle.pg_run.specs.declared.port.Asked.{Asked}
 use Rattle.pg_run.specs.declared.port.Port.{Port}
 use Rattle.pg_run.specs.Acts.{Act, Standing, AllLead}
-use Rattle.pg_run.specs.Ports.{asked, handed, handed_count, kept_by, SamePort, HandedOver, Hands, KeepsSame}
+use Rattle.pg_run.specs.Ports.{asked, handed, handed_count, asked_kept, SamePort, HandedOver, Hands, KeepsSame}
 use Rattle.pg_run.specs.Turns.{PortFollows, PortsFollow, commands_at, command_at, gave_at, answered_at, AreLater}
 use Rattle.pg_step.specs.declared.answer.Answer.{Answer}
 use Rattle.pg_step.specs.declared.command.Command.{Command}
@@ -147,7 +147,7 @@ pub port_waits : (place : ℕ) (acts : List Act) (answers answers2 : List Answer
 port_waits place acts answers answers2 port quiet grows = record {
   same = same_port port;
   given = [];
-  asked = λ before e. e ∙ ap (λ w. w ++ kept_by port) (sym (append-nil before));
+  asked = λ before e. e ∙ ap (λ w. w ++ asked_kept port) (sym (append-nil before));
   commands = sym quiet;
   later = λ over. subst (AreLater []) (sym (answered_none place (length answers) acts quiet)) tt;
   handed = handed_still (answers_in place acts) answers answers2 port grows;
@@ -158,7 +158,7 @@ pub port_follows_on : (place : ℕ) (first second : List Act) (x y z : List Answ
 port_follows_on place first second x y z a b c grows h k = record {
   same = same_port_on a b c h.same k.same;
   given = h.given ++ k.given;
-  asked = λ before e. k.asked (before ++ h.given) (h.asked before e) ∙ ap (λ w. w ++ kept_by c) (append_assoc before h.given k.given);
+  asked = λ before e. k.asked (before ++ h.given) (h.asked before e) ∙ ap (λ w. w ++ asked_kept c) (append_assoc before h.given k.given);
   commands = map-append (λ (x : Asked). x.command) h.given k.given ∙ (ap (λ w. w ++ map (λ (x : Asked). x.command) k.given) h.commands
       ∙ (ap (λ w. commands_at place first ++ w) k.commands ∙ sym (commands_on place first second)));
   later = λ over.
@@ -219,12 +219,12 @@ get_at xs k x there = (slice_get_within xs k x there, get_or_from_slice_get xs k
 
 -- none was there to be given
 pub port_gave_none : (place : ℕ) (answers : List Answer) (a b : Port) → SamePort a b
-    → ((before : List Asked) → asked a ≡ before ++ kept_by a → asked b ≡ before ++ kept_by b) → handed b ≡ handed a → handed_count b ≡ handed_count a
+    → ((before : List Asked) → asked a ≡ before ++ asked_kept a → asked b ≡ before ++ asked_kept b) → handed b ≡ handed a → handed_count b ≡ handed_count a
     → PortFollows place [] answers answers a b
 port_gave_none place answers a b same came out count = record {
   same = same;
   given = [];
-  asked = λ before e. came before e ∙ ap (λ w. w ++ kept_by b) (sym (append-nil before));
+  asked = λ before e. came before e ∙ ap (λ w. w ++ asked_kept b) (sym (append-nil before));
   commands = refl;
   later = λ over. tt;
   handed = handed_alike answers a b out count;
@@ -232,7 +232,7 @@ port_gave_none place answers a b same came out count = record {
 
 -- one was given, and taken
 pub port_gave : (place : ℕ) (act : Act) (answers answers2 : List Answer) (next : Asked) (a b : Port) → SamePort a b
-    → ((before : List Asked) → asked a ≡ before ++ kept_by a → asked b ≡ before ++ next ∷ []) → kept_by b ≡ [] → handed b ≡ handed a → handed_count b ≡ handed_count a
+    → ((before : List Asked) → asked a ≡ before ++ asked_kept a → asked b ≡ before ++ next ∷ []) → asked_kept b ≡ [] → handed b ≡ handed a → handed_count b ≡ handed_count a
     → next.polled ≤ handed_count b → command_at place act.input ≡ next.command ∷ [] → Grows (answers_in place (act ∷ [])) answers answers2
     → PortFollows place (act ∷ []) answers answers2 a b
 port_gave place act answers answers2 next a b same came none out count waited command grows = record {
@@ -248,7 +248,7 @@ port_gave place act answers answers2 next a b same came none out count waited co
 
 -- one was given, and kept
 pub port_kept : (place : ℕ) (answers answers2 : List Answer) (next : Asked) (a m b : Port) → SamePort a m → SamePort m b
-    → ((before : List Asked) → asked a ≡ before ++ kept_by a → asked m ≡ before ++ next ∷ []) → asked b ≡ asked m → kept_by b ≡ next ∷ []
+    → ((before : List Asked) → asked a ≡ before ++ asked_kept a → asked m ≡ before ++ next ∷ []) → asked b ≡ asked m → asked_kept b ≡ next ∷ []
     → handed m ≡ handed a → handed_count m ≡ handed_count a → handed b ≡ handed m → handed_count b ≡ handed_count m → Grows 0 answers answers2
     → PortFollows place [] answers answers2 a b
 port_kept place answers answers2 next a m b same same2 came still kept out count out2 count2 grows = record {
@@ -265,7 +265,7 @@ pub port_handed : (place : ℕ) (answers : List Answer) (a b : Port) → Hands a
 port_handed place answers a b hands = record {
   same = hands.same;
   given = [];
-  asked = λ before e. hands.keeps.asked ∙ (e ∙ (ap (λ w. w ++ kept_by a) (sym (append-nil before)) ∙ ap (λ w. (before ++ []) ++ w) (sym hands.keeps.kept)));
+  asked = λ before e. hands.keeps.asked ∙ (e ∙ (ap (λ w. w ++ asked_kept a) (sym (append-nil before)) ∙ ap (λ w. (before ++ []) ++ w) (sym hands.keeps.kept)));
   commands = refl;
   later = λ over. tt;
   handed = hands.handed;

@@ -14,7 +14,7 @@ use Rattle.pg_node.specs.Nodes.{held_by}
 use Rattle.pg_run.specs.declared.port.Asked.{Asked}
 use Rattle.pg_run.specs.declared.port.Port.{Port}
 use Rattle.pg_run.specs.Events.{IsRefusedAs, told_of_action}
-use Rattle.pg_run.specs.Ports.{HandsAll, HandsNoMore, HasLookedIn, IsServed, KeepsSame, asked, kept_by, handed_count}
+use Rattle.pg_run.specs.Ports.{HandsAll, HandsNoMore, HasLookedIn, IsServed, KeepsSame, asked, asked_kept, handed_count}
 use Rattle.pg_run.specs.Served.{AreHanded, AreServed, HandNone, IsHandedAt}
 use Rattle.pg_run.specs.Served.{IsServedAt, LeavesAnswerAt, StayBut, KeepTheSame}
 use Rattle.pg_run.specs.Tries.{IsNoWant}
@@ -28,14 +28,14 @@ use Rattle.pg_step.specs.Turns.{NodeTurn}
 -- ---- one port
 
 -- it keeps nothing, and it was looked for a command
-pub serves_all : (a b : Port) → kept_by b ≡ [] → (kept_by a ≡ [] → HasLookedIn a b) → IsServed a b
+pub serves_all : (a b : Port) → asked_kept b ≡ [] → (asked_kept a ≡ [] → HasLookedIn a b) → IsServed a b
 serves_all a b none looked = record {
   early = λ next kept. absurd (let e = ap length (sym none ∙ kept) in omega (arith, e));
   looked = looked;
 }
 
 -- it keeps this command
-pub serves_early : (a b : Port) (next : Asked) → kept_by b ≡ next ∷ [] → handed_count a < next.polled → (kept_by a ≡ [] → HasLookedIn a b) → IsServed a b
+pub serves_early : (a b : Port) (next : Asked) → asked_kept b ≡ next ∷ [] → handed_count a < next.polled → (asked_kept a ≡ [] → HasLookedIn a b) → IsServed a b
 serves_early a b next kept early looked = record {
   early = λ other kept2. subst (λ (o : Asked). handed_count a < o.polled) (first next other (sym kept ∙ kept2)) early;
   looked = looked;

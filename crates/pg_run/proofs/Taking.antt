@@ -27,7 +27,7 @@ use Rattle.pg_opens.specs.Places.{name_at}
 use Rattle.pg_run.specs.declared.linked.LinkedNode.{LinkedNode}
 use Rattle.pg_run.specs.Acts.{Act, Took, Saw, Did, event_of, is_from, loss_of}
 use Rattle.pg_node_state.specs.declared.state.NodeState.{NodeState}
-use Rattle.pg_run.specs.Events.{ActsOnce, IsOfPeer, TookNext, IsTold, told_of_peer, told_of_loss}
+use Rattle.pg_run.specs.Events.{ActsOnce, IsOfPeer, TookNext, IsFault, told_of_peer, told_of_loss}
 use Rattle.pg_run.proofs.Following.{follows_on}
 use Rattle.pg_run.specs.Follows.{Follows, node_of, peers_of, log_of}
 use Rattle.pg_run.proofs.Acting.{happened_by, acts_once}
@@ -136,7 +136,7 @@ module _ (names : List Name) (set : Nodes) (p : Name) (link : Link) (s0 s : Time
       by_lost false h = by_read (next_packet link) refl h
 
   -- the fault is one that was told
-  pub took_fault : (told : Result (Option TimedTurn) NodeFault) (fault : NodeFault) → TakesNext names told (Err fault) s0 s before after → IsTold told fault
+  pub took_fault : (told : Result (Option TimedTurn) NodeFault) (fault : NodeFault) → TakesNext names told (Err fault) s0 s before after → IsFault told fault
   took_fault told OutOfMemory h = tt
   took_fault (Ok (Some t)) (Refused y) h = absurd h
   took_fault (Ok (Some t)) (Message y) h = absurd h

@@ -13,7 +13,7 @@ use Rattle.pg_run.specs.declared.run.NodeRun.{NodeRun}
 use Rattle.pg_run.specs.declared.run.Turned.{Turned}
 use Rattle.pg_run.specs.declared.run.Turned.TheVariants.{Whole, Short, Stopped}
 use Rattle.pg_run.specs.Runs.{TurnMade, TurnsMade, shorts, wholes}
-use Rattle.pg_run.specs.Events.{TookNext, IsTold, told_of_peer}
+use Rattle.pg_run.specs.Events.{TookNext, IsFault, told_of_peer}
 use Rattle.pg_run.specs.Follows.{Follows, node_of}
 use Rattle.pg_run.specs.Tries.{ComesTo, HasTried, HasTriedAll, IsNoWant}
 use Rattle.pg_run.specs.Turns.{GoesOnSeeing, ServesSeeing}
@@ -34,7 +34,7 @@ module _ {T L I : Type 0} {g : Ghosts T} (accepts : L → List ℕ → L → Typ
 
   -- one peer was tried
   pub tried_one : (peer : ℕ) (a m b : LinkedNode T L I g) (taken : Result Bool NodeFault) → Follows accepts gives [] a m → TookNext accepts gives peer taken m b
-      → (taken ≡ Ok false → next_packet (links_of (node_of m) peer) ≡ Ok None) → IfErr taken (IsTold (told_of_peer (node_of m) peer)) → IfErr taken IsNoWant → HasTried accepts gives peer a b
+      → (taken ≡ Ok false → next_packet (links_of (node_of m) peer) ≡ Ok None) → IfErr taken (IsFault (told_of_peer (node_of m) peer)) → IfErr taken IsNoWant → HasTried accepts gives peer a b
   tried_one peer a m b taken pulled took none fault no_want = record {
     before = m;
     first = ([], pulled);

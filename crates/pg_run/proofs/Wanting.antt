@@ -16,7 +16,7 @@ use Rattle.pg_run.specs.declared.notices.Notices.{Notices}
 use Rattle.pg_ring.specs.declared.slot_in.SlotIn.{SlotIn}
 use Rattle.pg_ring.specs.Slots.{slots_left, taken}
 use Rattle.pg_run.specs.Acts.{Saw, Did}
-use Rattle.pg_run.specs.Events.{Acted, ActsOnce, IsRefusedAs, IsTold, TookNext}
+use Rattle.pg_run.specs.Events.{Acted, ActsOnce, IsRefusedAs, IsFault, TookNext}
 use Rattle.pg_run.specs.Events.{told_of_action, told_of_loss, told_of_peer}
 use Rattle.pg_run.specs.Follows.{Follows, node_of, peers_of}
 use Rattle.pg_run.specs.Notices.{inlet_of, kept_of}
@@ -141,7 +141,7 @@ module _ {T L I : Type 0} {g : Ghosts T} (accepts : L → List ℕ → L → Typ
       }
 
   pub taking_wants : (peer : ℕ) (r : Result Bool NodeFault) (a b : LinkedNode T L I g) → peer < length (peers_of a) → TookNext accepts gives peer r a b
-      → IfErr r (IsTold (told_of_peer (node_of a) peer)) → IsErrAnd r IsWant → WasWanting accepts gives a b
+      → IfErr r (IsFault (told_of_peer (node_of a) peer)) → IsErrAnd r IsWant → WasWanting accepts gives a b
   taking_wants peer (Ok took) a b within next told want = absurd want
   taking_wants peer (Err fault) a b within next told want = record {
     before = a;

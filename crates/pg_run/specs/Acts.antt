@@ -27,10 +27,10 @@ pub data Given : Type 0 where
   Did : Action → Given
 
 -- the step of the node with these names, of which the own one is the first, and so many ports
-abbrev pub node_step : List Node → ℕ → Timed State → Given → Result TimedTurn Refusal
-node_step names ports s (Took p x) = step_take (whole_in names) (name_at names (p + 1)) x s
-node_step names ports s (Saw p last) = step_see_loss (name_at names (p + 1)) last s
-node_step names ports s (Did action) = step_act (whole_in names) ports action s
+abbrev pub act_step : List Node → ℕ → Timed State → Given → Result TimedTurn Refusal
+act_step names ports s (Took p x) = step_take (whole_in names) (name_at names (p + 1)) x s
+act_step names ports s (Saw p last) = step_see_loss (name_at names (p + 1)) last s
+act_step names ports s (Did action) = step_act (whole_in names) ports action s
 
 -- what a node was given, the turn that its step made of it, the packets that it sent, by the places of the peers, and the bytes
 -- that it took out of what came in
@@ -69,9 +69,9 @@ pub record Standing : Type 0 where
   pub answers : ℕ → List Answer
 
 -- An act leads the node with these names and ports from one standing to another.
-pub record Leads (names : List Node) (ports : ℕ) (a : Standing) (act : Act) (b : Standing) : Type 0 where
+pub record ActLeads (names : List Node) (ports : ℕ) (a : Standing) (act : Act) (b : Standing) : Type 0 where
   pub there : IsFromPeer names act.input
-  pub made : node_step names ports a.state act.input ≡ Ok act.turn
+  pub made : act_step names ports a.state act.input ≡ Ok act.turn
   pub state : b.state ≡ act.turn.state
   pub answers : Gave (name_at names 0) act.turn.reported.gave a.answers b.answers
   pub sends : sends_in names act.sends ≡ act.turn.sends
@@ -82,7 +82,7 @@ pub record Leads (names : List Node) (ports : ℕ) (a : Standing) (act : Act) (b
 -- the acts, one after another
 abbrev pub AllLead : List Node → ℕ → Standing → List Act → Standing → Type 0
 AllLead names ports a [] b = b ≡ a
-AllLead names ports a (act ∷ acts) b = (m : Standing) × Leads names ports a act m × AllLead names ports m acts b
+AllLead names ports a (act ∷ acts) b = (m : Standing) × ActLeads names ports a act m × AllLead names ports m acts b
 
 -- ---- what a log keeps of them
 

@@ -23,9 +23,9 @@ IsRefusedAs (Err refusal) fault = fault ≡ Refused refusal
 IsRefusedAs (Ok turn) fault = ⊥
 
 -- the same of the next packet of a peer
-abbrev pub IsTold : Result (Option TimedTurn) NodeFault → NodeFault → Type 0
-IsTold told OutOfMemory = Unit {0}
-IsTold told fault = told ≡ Err fault
+abbrev pub IsFault : Result (Option TimedTurn) NodeFault → NodeFault → Type 0
+IsFault told OutOfMemory = Unit {0}
+IsFault told fault = told ≡ Err fault
 
 -- what the step tells of an action of a node
 abbrev pub told_of_action : {T : Type 0} {g : Ghosts T} → Node T g → Action → Result TimedTurn Refusal

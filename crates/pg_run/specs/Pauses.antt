@@ -35,7 +35,7 @@ begins_next (Some Tried) = true
 begins_next None = true
 
 -- a pause begins, of 1 to 4,096 turns
-pub record Begins (due : Bool) (after : Option Wait) : Type 0 where
+pub record BeginsPause (due : Bool) (after : Option Wait) : Type 0 where
   pub turns : ℕ
   pub least : 1 ≤ turns
   pub most : turns ≤ 4096
@@ -47,8 +47,8 @@ pub record Begins (due : Bool) (after : Option Wait) : Type 0 where
 abbrev pub Passed : Option Wait → Bool → Option Wait → Type 0
 Passed (Some (Turns left)) due after = (due ≡ nat_le left 1) × (after ≡ Some (cond (nat_le left 1) Due (Turns (left - 1))))
 Passed (Some Due) due after = (due ≡ true) × (after ≡ Some Due)
-Passed (Some Tried) due after = Begins due after
-Passed None due after = Begins due after
+Passed (Some Tried) due after = BeginsPause due after
+Passed None due after = BeginsPause due after
 
 -- ---- in a turn
 

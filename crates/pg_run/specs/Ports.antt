@@ -69,8 +69,8 @@ kept_in None = []
 kept_in (Some next) = next ∷ []
 
 -- the command that came and was not taken, if there is one
-abbrev pub kept_by : Port → List Asked
-kept_by port = kept_in port.kept
+abbrev pub asked_kept : Port → List Asked
+asked_kept port = kept_in port.kept
 
 -- the commands that it knows to be there
 abbrev pub commands_left : Port → List Asked
@@ -88,14 +88,14 @@ SamePort a b = SameSlotIn a.commands b.commands × SameSlotOut a.answers b.answe
 pub record PortRests (a b : Port) : Type 0 where
   pub same : SamePort a b
   pub asked : asked b ≡ asked a
-  pub kept : kept_by b ≡ kept_by a
+  pub kept : asked_kept b ≡ asked_kept a
   pub handed : handed b ≡ handed a
   pub count : handed_count b ≡ handed_count a
 
 -- nothing ever came, and nothing was handed over
 pub record IsUnused (port : Port) : Type 0 where
   pub asked : asked port ≡ []
-  pub kept : kept_by port ≡ []
+  pub kept : asked_kept port ≡ []
   pub handed : handed port ≡ []
   pub count : handed_count port ≡ 0
 
@@ -106,12 +106,12 @@ pub record HandedOver (answers : List Answer) (port : Port) : Type 0 where
 
 -- what came is what was given before, and then this command, behind which none is kept
 pub record GivesNext (a b : Port) (next : Asked) : Type 0 where
-  pub came : (before : List Asked) → asked a ≡ before ++ kept_by a → asked b ≡ before ++ next ∷ []
-  pub none : kept_by b ≡ []
+  pub came : (before : List Asked) → asked a ≡ before ++ asked_kept a → asked b ≡ before ++ next ∷ []
+  pub none : asked_kept b ≡ []
 
 -- what came is what was given before, and then what is kept
 abbrev pub KeepsAll : Port → Port → Type 0
-KeepsAll a b = (before : List Asked) → asked a ≡ before ++ kept_by a → asked b ≡ before ++ kept_by b
+KeepsAll a b = (before : List Asked) → asked a ≡ before ++ asked_kept a → asked b ≡ before ++ asked_kept b
 
 -- a command came, or none is found to be there
 abbrev pub HasLookedIn : Port → Port → Type 0
@@ -120,13 +120,13 @@ HasLookedIn a b = (commands_left b ≡ []) ⊎ (length (asked a) < length (asked
 -- It was served: what it keeps, if anything, is a command whose client had polled more answers than were handed over before; where it
 -- kept none before, one came, or none was found.
 pub record IsServed (a b : Port) : Type 0 where
-  pub early : (next : Asked) → kept_by b ≡ next ∷ [] → handed_count a < next.polled
-  pub looked : kept_by a ≡ [] → HasLookedIn a b
+  pub early : (next : Asked) → asked_kept b ≡ next ∷ [] → handed_count a < next.polled
+  pub looked : asked_kept a ≡ [] → HasLookedIn a b
 
 -- it stays where commands come
 pub record KeepsSame (a b : Port) : Type 0 where
   pub asked : asked b ≡ asked a
-  pub kept : kept_by b ≡ kept_by a
+  pub kept : asked_kept b ≡ asked_kept a
   pub left : commands_left b ≡ commands_left a
 
 -- some of these answers were handed over

@@ -21,7 +21,7 @@ use Rattle.pg_run.specs.declared.run.NodeRun.{NodeRun}
 use Rattle.pg_run.specs.declared.run.Turned.{Turned}
 use Rattle.pg_run.specs.declared.run.Turned.TheVariants.{Whole, Short, Stopped}
 use Rattle.pg_run.specs.Acts.{Act, Did, Saw}
-use Rattle.pg_run.specs.Events.{ActsOnce, TookNext, Acted, IsTold, IsRefusedAs}
+use Rattle.pg_run.specs.Events.{ActsOnce, TookNext, Acted, IsFault, IsRefusedAs}
 use Rattle.pg_run.specs.Events.{told_of_action, told_of_loss, told_of_peer}
 use Rattle.pg_run.specs.Follows.{Follows, node_of, peers_of, log_of}
 use Rattle.pg_run.specs.Logs.{TurnLogs}
@@ -76,7 +76,7 @@ module _ {T L I : Type 0} {g : Ghosts T} (accepts : L → List ℕ → L → Typ
   abbrev pub MayTell : LinkedNode T L I g → Part → NodeFault → Type 0
   MayTell a (Pulling peer) fault =
       (peer < length (peers_of a)) × (has_lost (held_by (node_of a)) peer ≡ false) × ((links_of (node_of a) peer).damaged ≡ false) × (fault ≡ OutOfMemory)
-  MayTell a (Taking peer) fault = (peer < length (peers_of a)) × IsTold (told_of_peer (node_of a) peer) fault
+  MayTell a (Taking peer) fault = (peer < length (peers_of a)) × IsFault (told_of_peer (node_of a) peer) fault
   MayTell a (Seeing notice) fault = (notice.peer < length (peers_of a)) × IsRefusedAs (told_of_loss (node_of a) notice.peer notice.last) fault
   MayTell a (Commanding port command) fault = (port < ports_of (held_by (node_of a))) × IsRefusedAs (told_of_action (node_of a) (Issue port command)) fault
   MayTell a Listing fault = fault ≡ OutOfMemory
@@ -141,7 +141,7 @@ module _ {T L I : Type 0} {g : Ghosts T} (accepts : L → List ℕ → L → Typ
     pub after : LinkedNode T L I g
     pub took : TookNext accepts gives peer taken before after
     pub none : taken ≡ Ok false → next_packet (links_of (node_of before) peer) ≡ Ok None
-    pub fault : IfErr taken (IsTold (told_of_peer (node_of before) peer))
+    pub fault : IfErr taken (IsFault (told_of_peer (node_of before) peer))
     pub no_want : IfErr taken IsNoWant
     pub rest : ComesTo after b
 

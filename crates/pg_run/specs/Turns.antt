@@ -14,7 +14,7 @@ use Rattle.pg_run.specs.declared.notices.Notices.{Notices}
 use Rattle.pg_run.specs.Acts.{Act, Given, Took, Saw, Did, seen_by}
 use Rattle.pg_run.specs.Follows.{Follows, node_of}
 use Rattle.pg_run.specs.Notices.{NoticesGo}
-use Rattle.pg_run.specs.Ports.{asked, kept_by, SamePort, HandedOver}
+use Rattle.pg_run.specs.Ports.{asked, asked_kept, SamePort, HandedOver}
 use Rattle.pg_step.specs.declared.answer.Answer.{Answer}
 use Rattle.pg_step.specs.declared.command.Command.{Command}
 use Rattle.pg_step.specs.declared.command.OpId.{OpId}
@@ -62,7 +62,7 @@ AreLater others counts = ⊥
 pub record PortFollows (place : ℕ) (acts : List Act) (answers answers2 : List Answer) (a b : Port) : Type 0 where
   pub same : SamePort a b
   pub given : List Asked
-  pub asked : (before : List Asked) → asked a ≡ before ++ kept_by a → asked b ≡ (before ++ given) ++ kept_by b
+  pub asked : (before : List Asked) → asked a ≡ before ++ asked_kept a → asked b ≡ (before ++ given) ++ asked_kept b
   pub commands : map (λ (x : Asked). x.command) given ≡ commands_at place acts
   pub later : HandedOver answers a → AreLater given (answered_at place (length answers) acts)
   pub handed : HandedOver answers a → HandedOver answers2 b

@@ -19,7 +19,7 @@ impl<T: GroupTable + Drop, L: Link + Drop, I: Inlet + Drop> LinkedNode<T, L, I> 
     ghost use Rattle.pg_node_state.specs.States.{names_of, kept_by, state_of};
     ghost use Rattle.pg_opens.specs.Places.{name_at};
     ghost use Rattle.pg_run.specs.Acts.{Saw, Did};
-    ghost use Rattle.pg_run.specs.Events.{TookNext, Acted, IsTold, IsRefusedAs};
+    ghost use Rattle.pg_run.specs.Events.{TookNext, Acted, IsFault, IsRefusedAs};
     ghost use Rattle.pg_run.specs.Events.{told_of_peer, told_of_action, told_of_loss};
     ghost use Rattle.pg_run.specs.Follows.{node_of, peers_of, log_of};
     ghost use Rattle.pg_step.specs.Step.{Issue, Retry};
@@ -35,7 +35,7 @@ impl<T: GroupTable + Drop, L: Link + Drop, I: Inlet + Drop> LinkedNode<T, L, I> 
         requires place { peer < length (peers_of self.old) }
         ensures took { TookNext L.accepts I.gives peer result self.old self.new }
         ensures none { result ≡ Ok false → next_packet (links_of (node_of self.old) peer) ≡ Ok None }
-        ensures fault { IfErr result (IsTold (told_of_peer (node_of self.old) peer)) }
+        ensures fault { IfErr result (IsFault (told_of_peer (node_of self.old) peer)) }
     {
         if self.node.is_idle(peer) {
             return Ok(false);

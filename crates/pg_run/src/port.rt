@@ -93,7 +93,7 @@ impl Client {
 
 impl Port {
     ghost use Rattle.pg_run.specs.Ports.{SamePort, ForgetsHanded, Hands, HandsNext, GivesNext, KeepsAll};
-    ghost use Rattle.pg_run.specs.Ports.{KeepsSame, IsServed, asked, handed, kept_by, handed_count};
+    ghost use Rattle.pg_run.specs.Ports.{KeepsSame, IsServed, asked, handed, asked_kept, handed_count};
     ghost use Rattle.pg_run.specs.Ports.{HandsNoMore, HandsAll, HasLookedIn, answers_free, commands_left};
 
     /// The next command, if one is there whose client had polled no more answers than were handed over; else it is
@@ -106,7 +106,7 @@ impl Port {
         ensures waited { IfSome result (λ next. next.polled ≤ handed_count self.new) }
         ensures none { IfNone result (KeepsAll self.old self.new) }
         ensures served { IfNone result (IsServed self.old self.new) }
-        ensures looked { kept_by self.old ≡ [] → HasLookedIn self.old self.new }
+        ensures looked { asked_kept self.old ≡ [] → HasLookedIn self.old self.new }
         ensures handed { handed self.new ≡ handed self.old }
         ensures count { handed_count self.new ≡ handed_count self.old }
     {
@@ -126,8 +126,8 @@ impl Port {
         ensures same { SamePort self.old self.new }
         ensures some { IfSome result (GivesNext self.old self.new) }
         ensures none { IfNone result (KeepsAll self.old self.new) }
-        ensures kept { kept_by self.new ≡ [] }
-        ensures looked { kept_by self.old ≡ [] → HasLookedIn self.old self.new }
+        ensures kept { asked_kept self.new ≡ [] }
+        ensures looked { asked_kept self.old ≡ [] → HasLookedIn self.old self.new }
         ensures handed { handed self.new ≡ handed self.old }
         ensures count { handed_count self.new ≡ handed_count self.old }
     {
@@ -144,7 +144,7 @@ impl Port {
         ensures same { SamePort self.old self.new }
         ensures asked { asked self.new ≡ asked self.old }
         ensures left { commands_left self.new ≡ commands_left self.old }
-        ensures kept { kept_by self.new ≡ next ∷ [] }
+        ensures kept { asked_kept self.new ≡ next ∷ [] }
         ensures handed { handed self.new ≡ handed self.old }
         ensures count { handed_count self.new ≡ handed_count self.old }
     {

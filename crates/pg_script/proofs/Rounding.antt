@@ -1,12 +1,12 @@
 -- Rounds, part by part.
 use Rattle.std.proofs.Common.{◌≡◌, ℕ, suc, ◌+◌, ◌<◌, Bool, true, false, ◌||◌, nat_eq, inr, subst, sym, refl, arith}
 use Rattle.std.proofs.lemmas.Bool.{eq-eqb, ne_eqb}
-use Rattle.pg_script.specs.Rounds.{AllMoved, Passes, PassesIf, Round, Row, Rows, Settles, View}
+use Rattle.pg_script.specs.Rounds.{AllMoved, RoundPasses, PassesIf, Round, Row, Rows, Settles, View}
 
 pub passes_no_one : (from to : ℕ) (view : View) → from ≡ to → PassesIf (nat_eq from to) from to false view view
 passes_no_one from to view same = subst (λ b. PassesIf b from to false view view) (sym (eq-eqb from to same)) (record { none = refl; same = refl })
 
-pub passes_on : (from to : ℕ) (moved : Bool) (old new : View) → (from ≡ to → ⊥) → Passes from to moved old new → PassesIf (nat_eq from to) from to moved old new
+pub passes_on : (from to : ℕ) (moved : Bool) (old new : View) → (from ≡ to → ⊥) → RoundPasses from to moved old new → PassesIf (nat_eq from to) from to moved old new
 passes_on from to moved old new other passes = subst (λ b. PassesIf b from to moved old new) (sym (ne_eqb from to other)) passes
 
 pub row_more : (from to : ℕ) (moved was next : Bool) (old mid new : View) → Row from to moved old mid → PassesIf (nat_eq from to) from to was mid new → next ≡ (moved || was)

@@ -56,11 +56,11 @@ pub record MovesBy (step : Step) (moved : Bool) (old new : View) : Type 0 where
 -- ---- a round
 
 -- whether something moved, from one view of a world to another
-abbrev pub Part : Type 1
-Part = Bool → View → View → Type 0
+abbrev pub RoundPart : Type 1
+RoundPart = Bool → View → View → Type 0
 
 -- one part, and then another
-pub record Then (first later : Part) (moved : Bool) (old new : View) : Type 0 where
+pub record Then (first later : RoundPart) (moved : Bool) (old new : View) : Type 0 where
   pub between : View
   pub one : Bool
   pub other : Bool
@@ -73,30 +73,30 @@ pub record Still (moved : Bool) (old new : View) : Type 0 where
   pub same : new ≡ old
 
 -- bytes go from one node to another, and it takes a packet
-abbrev pub Passes : (from to : ℕ) → Part
-Passes from to = Then (MovesBy (steps.Put from to 65536)) (Then (MovesBy (steps.Pull to from 65536)) (MovesBy (steps.Event (frames.Take to from))))
+abbrev pub RoundPasses : (from to : ℕ) → RoundPart
+RoundPasses from to = Then (MovesBy (steps.Put from to 65536)) (Then (MovesBy (steps.Pull to from 65536)) (MovesBy (steps.Event (frames.Take to from))))
 
 -- no node sends to itself
-abbrev pub PassesIf : Bool → (from to : ℕ) → Part
+abbrev pub PassesIf : Bool → (from to : ℕ) → RoundPart
 PassesIf true from to = Still
-PassesIf false from to = Passes from to
+PassesIf false from to = RoundPasses from to
 
 -- from a node to each of the first so many
-abbrev pub Row : (from count : ℕ) → Part
+abbrev pub Row : (from count : ℕ) → RoundPart
 Row from zero = Still
 Row from (suc to) = Then (Row from to) (PassesIf (nat_eq from to) from to)
 
 -- from each of the first so many nodes to each of all
-abbrev pub Rows : (nodes count : ℕ) → Part
+abbrev pub Rows : (nodes count : ℕ) → RoundPart
 Rows nodes zero = Still
 Rows nodes (suc from) = Then (Rows nodes from) (Row from nodes)
 
-abbrev pub Round : (nodes : ℕ) → Part
+abbrev pub Round : (nodes : ℕ) → RoundPart
 Round nodes = Rows nodes nodes
 
 -- ---- rounds
 
-pub record After (before : View → View → Type 0) (last : Part) (moved : Bool) (old new : View) : Type 0 where
+pub record After (before : View → View → Type 0) (last : RoundPart) (moved : Bool) (old new : View) : Type 0 where
   pub between : View
   pub begins : before old between
   pub ends : last moved between new

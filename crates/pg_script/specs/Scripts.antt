@@ -131,13 +131,13 @@ is_skipped [] = true
 is_skipped (b ∷ bs) = b == 37
 
 -- a line that has a form
-abbrev pub formed : Draft → ℕ → Option Line → Said
-formed draft number None = Err BadLine
-formed draft number (Some line) = line_said draft number line
+abbrev pub draft_said : Draft → ℕ → Option Line → Said
+draft_said draft number None = Err BadLine
+draft_said draft number (Some line) = line_said draft number line
 
 -- the line of this number
 abbrev pub text_said : Draft → ℕ → List ℕ → Said
-text_said draft number text = if is_skipped text then Ok draft else formed draft number (line_of text)
+text_said draft number text = if is_skipped text then Ok draft else draft_said draft number (line_of text)
 
 -- ---- whole scripts
 

@@ -1,7 +1,7 @@
 //! Rounds of steps until nothing moves.
 
 ghost use Rattle.std.specs.Prelude.{◌≡◌, ◌||◌, nat_eq, Some, IfOk, OnOk};
-ghost use Rattle.pg_script.specs.Rounds.{MovesBy, Passes, PassesIf, Round, Row, Settles, moved_by, view_of};
+ghost use Rattle.pg_script.specs.Rounds.{MovesBy, RoundPasses, PassesIf, Round, Row, Settles, moved_by, view_of};
 
 use crate::stage::Stage;
 use pg_node::NodeFault;
@@ -91,7 +91,7 @@ fn pass_if(stage: &mut Stage, from: usize, to: usize) -> Result<bool, Halt>
 
 /// The steps of one pair in a round.
 fn pass(stage: &mut Stage, from: usize, to: usize) -> Result<bool, Halt>
-    ensures { IfOk result (λ moved. Passes from to moved (view_of stage.old.world) (view_of stage.new.world)) }
+    ensures { IfOk result (λ moved. RoundPasses from to moved (view_of stage.old.world) (view_of stage.new.world)) }
 {
     let max = MAX_MOVED;
     let was_put = moves(stage, Step::Put { from, to, max })?;

@@ -8,7 +8,7 @@ use Rattle.pg_term.specs.declared.term.Term.{Term, out-Term}
 use Rattle.pg_term.specs.declared.term.Term.TheOpen.{Term-F}
 use Rattle.pg_term.specs.Order.{kind_step, kind_of}
 use Rattle.pg_term.specs.Same.{term_cmp}
-use Rattle.pg_term_io.specs.Lists.{list_from, GoesOn}
+use Rattle.pg_term_io.specs.Lists.{list_from, ListGoesOn}
 use Rattle.pg_term_io.specs.Reading.{item_at}
 use Rattle.pg_term_io.proofs.Lists.{is_list}
 use Rattle.pg_message.specs.Groups.{IsNamed}
@@ -76,7 +76,7 @@ module _ (t : Term) (rest : List ℕ) where
       let no : None ≡ Some p.group = sym none ∙ p.is in
       absurd cc)
 
-  module _ (kept : Term → Bool) (room count : ℕ) (left : List ℕ) (before : IsKept kept room count left) (below more : ℕ) (bytes : List ℕ) (goes : GoesOn below more bytes before.elements rest) (name : Term) (named : IsNamed name (group_of goes.first)) where
+  module _ (kept : Term → Bool) (room count : ℕ) (left : List ℕ) (before : IsKept kept room count left) (below more : ℕ) (bytes : List ℕ) (goes : ListGoesOn below more bytes before.elements rest) (name : Term) (named : IsNamed name (group_of goes.first)) where
     next : (gs : Groups) (seen : Seen kept before.elements gs) → Parts (group_of goes.first) (all_of group_of goes.others) seen.back
     next gs seen = parts (group_of goes.first) (all_of group_of goes.others) seen.back (sym (ap (all_of group_of) goes.are) ∙ seen.left)
 

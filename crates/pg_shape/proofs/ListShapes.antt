@@ -10,7 +10,7 @@ use Rattle.pg_term.specs.declared.term.Term.TheOpen.{Term-F}
 use Rattle.pg_term.specs.Order.{kind_step, kind_of}
 use Rattle.pg_term_io.specs.declared.element.NextElement.{NextElement}
 use Rattle.pg_term_io.specs.declared.element.NextElement.TheVariants.{End, Item, NoItem}
-use Rattle.pg_term_io.specs.Lists.{list_from, GoesOn, IsText, Continues}
+use Rattle.pg_term_io.specs.Lists.{list_from, ListGoesOn, IsText, Continues}
 use Rattle.pg_term_io.specs.Numbers.{int_of}
 use Rattle.pg_term_io.specs.Reading.{Read, item_at}
 use Rattle.pg_term_io.specs.Scanning.{past}
@@ -87,7 +87,7 @@ module _ {A : Type 0} (each : Term → Option A) where
       record { elements = list.elements; read = list.read; same = ap (λ (t : Term). is_some (option_and_then (all_of each) (items_of t))) list.is ∙ ap (λ (o : Option (List Term)). is_some (option_and_then (all_of each) o)) (items_is list.elements) }
 
   module _ (whole : Option (List A)) (rest : List ℕ) (room count : ℕ) (left : List ℕ) (before : Leaves each room count left whole rest) where
-    module _ (below more : ℕ) (bytes : List ℕ) (goes : GoesOn below more bytes before.elements rest) where
+    module _ (below more : ℕ) (bytes : List ℕ) (goes : ListGoesOn below more bytes before.elements rest) where
       pub no_first : each goes.first ≡ None → whole ≡ None
       no_first none = is_nothing whole (before.same ∙ ap (λ (ts : List Term). is_some (all_of each ts)) goes.are ∙ ap (λ (o : Option (List A)). is_some o) (first_none goes.first goes.others none))
 

@@ -21,7 +21,7 @@ use Rattle.pg_step.specs.Losses.{forgets, see_loss}
 use Rattle.pg_step.specs.declared.refusal.Refusal.{Refusal}
 use Rattle.pg_step.specs.declared.refusal.Refusal.TheVariants.{NoSuchPlace, NodeLost, NotLost, NotDrained, ClockFull}
 use Rattle.pg_step.specs.Faults.{first_that_holds}
-use Rattle.pg_step.specs.LossLaws.{LosingFrameWorld, is_notice, is_drained, clock_after}
+use Rattle.pg_step.specs.LossLaws.{LosingFrameWorld, is_notice, way_is_drained, clock_after}
 use Rattle.pg_step.specs.LossLaws.{see_refusal, lose_refusal, Forgotten, SeesLoss}
 use Rattle.pg_step.specs.StepLaws.{is_full}
 use Rattle.pg_step.specs.Nodes.{Node}
@@ -163,7 +163,7 @@ module _ (config : Config) (w : LosingFrameWorld) (i p : ℕ) where
   after = losing_happens (losing_frame_machine config) last_notice w event
 
   abbrev Sight : Type 0
-  Sight = (w.gone p ≡ true) × (is_drained (w.world.wire p i) ≡ true) × (is_some after ≡ true)
+  Sight = (w.gone p ≡ true) × (way_is_drained (w.world.wire p i) ≡ true) × (is_some after ≡ true)
 
   -- taking the last notice
   notice_taken : (x : Stamped (Noticed Message)) (rest : List (Stamped (Noticed Message))) → w.world.wire p i ≡ x ∷ rest → x.packet ≡ Last
@@ -200,14 +200,14 @@ module _ (config : Config) (w : LosingFrameWorld) (i p : ℕ) where
   seen_exactly = (forth (w.world.wire p i) refl, back (w.world.wire p i) refl)
     where
       tests : List (Stamped (Noticed Message)) → Option Refusal
-      tests xs = Tests (is_pair (length config) i p) (w.gone i) seen (w.gone p) (is_drained xs) (is_full (clock_after (w.world.node i).clock xs))
+      tests xs = Tests (is_pair (length config) i p) (w.gone i) seen (w.gone p) (way_is_drained xs) (is_full (clock_after (w.world.node i).clock xs))
 
       fits : List (Stamped (Noticed Message)) → Bool
       fits xs = nat_le (clock_after (w.world.node i).clock xs) CLOCK_LIMIT
 
       passed : (xs : List (Stamped (Noticed Message))) → w.world.wire p i ≡ xs → see_refusal config w i p ≡ None
-          → Passes (is_pair (length config) i p) (w.gone i) seen (w.gone p) (is_drained xs) (not (fits xs))
-      passed xs is none = passes (is_pair (length config) i p) (w.gone i) seen (w.gone p) (is_drained xs) (not (fits xs)) (sym (ap tests is) ∙ none)
+          → Passes (is_pair (length config) i p) (w.gone i) seen (w.gone p) (way_is_drained xs) (not (fits xs))
+      passed xs is none = passes (is_pair (length config) i p) (w.gone i) seen (w.gone p) (way_is_drained xs) (not (fits xs)) (sym (ap tests is) ∙ none)
 
       forth : (xs : List (Stamped (Noticed Message))) → w.world.wire p i ≡ xs → see_refusal config w i p ≡ None → Sight
       forth [] is none = absurd (no ((passed [] is none).all_taken))
@@ -220,21 +220,21 @@ module _ (config : Config) (w : LosingFrameWorld) (i p : ℕ) where
           kind (Sent m) sent = absurd (no (sym (ap is_notice sent) ∙ pass.all_taken))
           kind Last last = (
             pass.is_lost,
-            ap is_drained is ∙ pass.all_taken,
+            ap way_is_drained is ∙ pass.all_taken,
             notice_taken x rest is last ∙ all_go (w.gone i) (is_pair (length config) i p) seen (fits (x ∷ rest))
                 (record { is_pair = pass.is_pair; stays = pass.stays; unseen = pass.unseen; within = not_false (fits (x ∷ rest)) pass.not_full }),
           )
 
       back : (xs : List (Stamped (Noticed Message))) → w.world.wire p i ≡ xs → Sight → see_refusal config w i p ≡ None
-      back [] is sight = absurd (no (sym (ap is_drained is) ∙ sight.1))
+      back [] is sight = absurd (no (sym (ap way_is_drained is) ∙ sight.1))
       back (x ∷ rest) is sight = kind x.packet refl
         where
           kind : (y : Noticed Message) → x.packet ≡ y → see_refusal config w i p ≡ None
-          kind (Sent m) sent = absurd (no (sym (ap is_notice sent) ∙ sym (ap is_drained is) ∙ sight.1))
+          kind (Sent m) sent = absurd (no (sym (ap is_notice sent) ∙ sym (ap way_is_drained is) ∙ sight.1))
           kind Last last =
               let all : Goes (is_pair (length config) i p) (w.gone i) seen (fits (x ∷ rest)) = goes (w.gone i) (is_pair (length config) i p) seen (fits (x ∷ rest)) (sym (notice_taken x rest is last) ∙ sight.2) in
               ap tests is ∙ none_holds (is_pair (length config) i p) (w.gone i) seen (w.gone p) (is_notice x.packet) (not (fits (x ∷ rest)))
-              (record { is_pair = all.is_pair; stays = all.stays; unseen = all.unseen; is_lost = sight.0; all_taken = sym (ap is_drained is) ∙ sight.1; not_full = ap not all.within })
+              (record { is_pair = all.is_pair; stays = all.stays; unseen = all.unseen; is_lost = sight.0; all_taken = sym (ap way_is_drained is) ∙ sight.1; not_full = ap not all.within })
 
 -- ---- when a node is lost
 

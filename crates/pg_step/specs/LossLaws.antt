@@ -32,9 +32,9 @@ is_notice (Sent x) = false
 is_notice Last = true
 
 -- nothing is on the way from a lost node any more but its last notice
-abbrev pub is_drained : List (Stamped (Noticed Message)) → Bool
-is_drained [] = false
-is_drained (x ∷ rest) = is_notice x.packet
+abbrev pub way_is_drained : List (Stamped (Noticed Message)) → Bool
+way_is_drained [] = false
+way_is_drained (x ∷ rest) = is_notice x.packet
 
 -- the clock that taking the first of these sets
 abbrev pub clock_after : ℕ → List (Stamped (Noticed Message)) → ℕ
@@ -47,7 +47,7 @@ see_refusal config w i p = first_that_holds (
     (not (is_pair (length config) i p), NoSuchPlace)
     ∷ (w.gone i || (w.world.node i).state.lost (name_at config p), NodeLost)
     ∷ (not (w.gone p), NotLost)
-    ∷ (not (is_drained (w.world.wire p i)), NotDrained)
+    ∷ (not (way_is_drained (w.world.wire p i)), NotDrained)
     ∷ (is_full (clock_after (w.world.node i).clock (w.world.wire p i)), ClockFull) ∷ [])
 
 -- Why node i is not lost now, with so many packets left on each way from it, the first that holds.

@@ -9,7 +9,7 @@ ghost use Rattle.pg_machine.specs.Losing.{nobody_gone, all_steps, mapped, losing
 ghost use Rattle.pg_machine.specs.Machine.{Take};
 ghost use Rattle.pg_step.specs.Nodes.{Node};
 ghost use Rattle.pg_step.specs.Losses.{see_loss};
-ghost use Rattle.pg_step.specs.LossLaws.{LosingFrameWorld, is_drained, see_refusal, lose_refusal, SeesLoss};
+ghost use Rattle.pg_step.specs.LossLaws.{LosingFrameWorld, way_is_drained, see_refusal, lose_refusal, SeesLoss};
 ghost use Rattle.pg_step.specs.State.{State};
 ghost use Rattle.pg_step.specs.Turns.{Report};
 ghost use Rattle.pg_step.specs.Step.{CLOCK_LIMIT, Action};
@@ -41,7 +41,7 @@ pub fn losses_are_seen()
 /// first is given. A loss is seen by taking the last notice, which comes after all that the lost node had sent.
 pub fn losses_refused_in_order()
     ensures seen { (config : Config) (w : LosingFrameWorld) (i p : ℕ)
-        → (see_refusal config w i p ≡ None) ↔ ((w.gone p ≡ true) × (is_drained (w.world.wire p i) ≡ true)
+        → (see_refusal config w i p ≡ None) ↔ ((w.gone p ≡ true) × (way_is_drained (w.world.wire p i) ≡ true)
         × (is_some (losing_happens (losing_frame_machine config) last_notice w (Step (Take i p))) ≡ true)) }
     ensures lost { (config : Config) (w : LosingFrameWorld) (i : ℕ) (keep : ℕ → ℕ)
         → (lose_refusal config w i keep ≡ None)

@@ -11,7 +11,7 @@ use Rattle.pg_term.specs.declared.term.Term.{Term}
 use Rattle.pg_account.specs.Losses.{is_lost}
 use Rattle.pg_starts.specs.Seen.{Seen}
 use Rattle.pg_survey.specs.Differing.{DifferOn, IsApartOrSame, IsLive, IsLiveAt, IsOtherOrSame, IsSameAt}
-use Rattle.pg_survey.specs.Differing.{IsSomeLive, LiveOf, SeesAt, Tells, is_held_at}
+use Rattle.pg_survey.specs.Differing.{IsSomeLive, LiveOf, SeesAt, Decides, is_held_at}
 use Rattle.pg_frame_world.specs.Losing.{is_formed}
 
 -- ---- places and names
@@ -104,7 +104,7 @@ same_all nodes lost name first count place l h other m = h other (omega arith)
 
 -- two differ where one has not what the first has
 pub differ_from : (nodes : List Seen) (lost : List ℕ) (count : ℕ) (name : Term) (first : Seen) (b : Bool) → IsSomeLive nodes lost count (Some first) → IsOtherOrSame nodes lost count name first b
-    → Tells (DifferOn nodes lost count name) b
+    → Decides (DifferOn nodes lost count name) b
 differ_from nodes lost count name first true some h = record { place = some.0; within = some.1; node = first; live = some.2; other = h }
 differ_from nodes lost count name first false some h = λ d.
     d.other.is.apart (h d.other.place d.other.within d.other.is.node d.other.is.live ∙ sym (h d.place d.within d.node d.live))
@@ -114,14 +114,14 @@ differ_none nodes lost count name none d = none d.place d.node d.within d.live
 
 -- ---- locks
 
-pub sees_by : (nodes : List Seen) (lost : List ℕ) (name : Term) (place : ℕ) (held is : Bool) → is_lost lost place ≡ false → is ≡ is_held_at nodes place name → Tells (SeesAt nodes lost true name place) is
+pub sees_by : (nodes : List Seen) (lost : List ℕ) (name : Term) (place : ℕ) (held is : Bool) → is_lost lost place ≡ false → is ≡ is_held_at nodes place name → Decides (SeesAt nodes lost true name place) is
 sees_by nodes lost name place held true alive e = record { alive = alive; sees = sym e }
 sees_by nodes lost name place held false alive e = λ s. clash (e ∙ s.sees)
   where
     clash : false ≡ true → ⊥
     clash e = absurd (cc)
 
-pub sees_not : (nodes : List Seen) (lost : List ℕ) (name : Term) (place : ℕ) (is : Bool) → is_lost lost place ≡ false → is ≡ is_held_at nodes place name → Tells (SeesAt nodes lost false name place) (not is)
+pub sees_not : (nodes : List Seen) (lost : List ℕ) (name : Term) (place : ℕ) (is : Bool) → is_lost lost place ≡ false → is ≡ is_held_at nodes place name → Decides (SeesAt nodes lost false name place) (not is)
 sees_not nodes lost name place false alive e = record { alive = alive; sees = sym e }
 sees_not nodes lost name place true alive e = λ s. clash (e ∙ s.sees)
   where

@@ -9,9 +9,9 @@ use Rattle.pg_frame_world.specs.Pending.{pending_of}
 use Rattle.pg_starts.specs.Seen.{Seen}
 
 -- a test says whether a fact holds
-abbrev pub Tells : Type 0 → Bool → Type 0
-Tells P true = P
-Tells P false = P → ⊥
+abbrev pub Decides : Type 0 → Bool → Type 0
+Decides P true = P
+Decides P false = P → ⊥
 
 -- ---- of the nodes of a world, of which some are lost
 

@@ -26,7 +26,7 @@ use Rattle.pg_frame_world.specs.FrameWorlds.{lost_of, traffic_of}
 use Rattle.pg_starts.specs.Seen.{Seen}
 use Rattle.pg_survey.specs.declared.findings.Findings.{Findings}
 use Rattle.pg_survey.specs.Names.{AddsNames, changed_in, known_in}
-use Rattle.pg_survey.specs.Differing.{Differ, DifferFree, SeesOne, Tells}
+use Rattle.pg_survey.specs.Differing.{Differ, DifferFree, SeesOne, Decides}
 use Rattle.pg_survey.specs.Texts.{AreSections, Counting, countings_of}
 use Rattle.pg_survey.specs.Ways.{AreWaysOf, all_led}
 
@@ -59,7 +59,7 @@ ends_from place (ways ∷ worlds) = cond (nat_eq (length ways.items) 0) (place �
 -- a mark for each world, which says whether a fact holds of it
 pub record AreMarks (P : Met → Type 0) (mets : List Met) (marks : List Bool) : Type 0 where
   pub len : length marks ≡ length mets
-  pub tell : (place : ℕ) (met : Met) → slice_get mets place ≡ Some met → Tells (P met) (get_or marks place false)
+  pub tell : (place : ℕ) (met : Met) → slice_get mets place ≡ Some met → Decides (P met) (get_or marks place false)
 
 abbrev pub nodes_in : Met → List Seen
 nodes_in met = (traffic_of met.moment.world).nodes

@@ -6,7 +6,7 @@ ghost use Rattle.pg_frame_world.specs.FrameWorlds.{lost_of, traffic_of};
 ghost use Rattle.pg_starts.specs.Seen.{seen_of};
 ghost use Rattle.pg_survey.specs.Differing.{Differ, DifferFree, DifferFreeOn, DifferOn};
 ghost use Rattle.pg_survey.specs.Differing.{IsApartOrSame, IsLiveAt, IsOtherOrSame, IsSomeLive};
-ghost use Rattle.pg_survey.specs.Differing.{LiveOf, Sees, SeesAt, SeesOne, Tells, is_held_at};
+ghost use Rattle.pg_survey.specs.Differing.{LiveOf, Sees, SeesAt, SeesOne, Decides, is_held_at};
 
 use pg_index::IndexTable;
 use pg_node::NodeState;
@@ -24,7 +24,7 @@ pub(crate) fn is_differing(
     count: usize,
     names: &[Term],
 ) -> Result<bool, AllocError>
-    ensures { IfOk result (Tells (Differ (traffic_of world.now).nodes (lost_of world.now) count names.now)) }
+    ensures { IfOk result (Decides (Differ (traffic_of world.now).nodes (lost_of world.now) count names.now)) }
 {
     for name in names {
         if differ(alloc, world, count, name)? {
@@ -43,7 +43,7 @@ pub(crate) fn is_differing_free(
     count: usize,
     names: &[Term],
 ) -> Result<bool, AllocError>
-    ensures { IfOk result (Tells (DifferFree (traffic_of world.now).nodes (lost_of world.now) count names.now)) }
+    ensures { IfOk result (Decides (DifferFree (traffic_of world.now).nodes (lost_of world.now) count names.now)) }
 {
     let pending = world.pending_ends()?;
     if pending.len() > 0 {
@@ -66,7 +66,7 @@ fn differ_free(
     count: usize,
     name: &Term,
 ) -> Result<bool, AllocError>
-    ensures { IfOk result (Tells (DifferFreeOn (traffic_of world.now).nodes (lost_of world.now) count name.now)) }
+    ensures { IfOk result (Decides (DifferFreeOn (traffic_of world.now).nodes (lost_of world.now) count name.now)) }
 {
     if sees(world, count, name, false) {
         differ(alloc, world, count, name)
@@ -84,7 +84,7 @@ fn differ(
     count: usize,
     name: &Term,
 ) -> Result<bool, AllocError>
-    ensures { IfOk result (Tells (DifferOn (traffic_of world.now).nodes (lost_of world.now) count name.now)) }
+    ensures { IfOk result (Decides (DifferOn (traffic_of world.now).nodes (lost_of world.now) count name.now)) }
 {
     match first_live(world, count) {
         Some(first) => is_other(alloc, world, count, name, first),
@@ -167,7 +167,7 @@ fn live(node: &NodeState<IndexTable>, is_lost: bool) -> Option<&NodeState<IndexT
 
 /// Whether a node that is not lost sees the lock of one of some groups held.
 pub(crate) fn is_held(world: &FrameWorld<IndexTable>, count: usize, names: &[Term]) -> bool
-    ensures { Tells (SeesOne (traffic_of world.now).nodes (lost_of world.now) true count names.now) result }
+    ensures { Decides (SeesOne (traffic_of world.now).nodes (lost_of world.now) true count names.now) result }
 {
     for name in names {
         if sees(world, count, name, true) {
@@ -179,7 +179,7 @@ pub(crate) fn is_held(world: &FrameWorld<IndexTable>, count: usize, names: &[Ter
 
 /// Whether a node that is not lost sees the lock of a group held, or free.
 fn sees(world: &FrameWorld<IndexTable>, count: usize, name: &Term, held: bool) -> bool
-    ensures { Tells (Sees (traffic_of world.now).nodes (lost_of world.now) held count name.now) result }
+    ensures { Decides (Sees (traffic_of world.now).nodes (lost_of world.now) held count name.now) result }
 {
     for place in 0..count {
         if sees_at(world, place, name, held) {
@@ -191,7 +191,7 @@ fn sees(world: &FrameWorld<IndexTable>, count: usize, name: &Term, held: bool) -
 
 /// Whether a node is not lost, and sees the lock of a group so.
 fn sees_at(world: &FrameWorld<IndexTable>, place: usize, name: &Term, held: bool) -> bool
-    ensures { Tells (SeesAt (traffic_of world.now).nodes (lost_of world.now) held name.now place) result }
+    ensures { Decides (SeesAt (traffic_of world.now).nodes (lost_of world.now) held name.now place) result }
 {
     if world.is_lost(place) {
         return false;

@@ -15,7 +15,7 @@ use Rattle.pg_term.specs.declared.fault.TermFault.TheVariants.{BadAtom}
 use Rattle.pg_term.specs.Fault.{atom_of}
 use Rattle.pg_cluster.specs.Clients.{AllPairs}
 use Rattle.pg_cluster.specs.ClientsLaws.{all_same_on}
-use Rattle.pg_cluster.specs.Running.{Goes, clients_in}
+use Rattle.pg_cluster.specs.Running.{RunningGoes, clients_in}
 use Rattle.pg_cluster.specs.declared.running.Running.{Running}
 use Rattle.pg_talk.specs.Conversations.{AreBare, IsBare, all_polled, saturated}
 use Rattle.pg_talk.specs.declared.speaker.Speaker.{Speaker}
@@ -69,7 +69,7 @@ atom_is text name is = go (nat_lt 255 (length text)) is
 -- ---- what the clients do
 
 -- one after another
-pub goes_on : (a b c : Running) → Goes a b → Goes b c → Goes a c
+pub goes_on : (a b c : Running) → RunningGoes a b → RunningGoes b c → RunningGoes a c
 goes_on a b c first second = record {
   same = all_same_on (clients_in a) (clients_in b) (clients_in c) first.same second.same;
   cluster = second.cluster ∙ first.cluster;

@@ -5,10 +5,10 @@ use Rattle.pg_step.specs.declared.command.Command.{Command}
 use Rattle.pg_term.specs.declared.term.Term.{Term}
 use Rattle.pg_requests.specs.declared.input.Input.{Input}
 use Rattle.pg_requests.specs.declared.layout.NodePorts.{NodePorts}
-use Rattle.pg_requests.specs.Requests.{asked, input_in, input_of, lost}
+use Rattle.pg_requests.specs.Requests.{input_asked, input_in, input_of, lost}
 use Rattle.pg_talk.proofs.BodiesRead.{ends}
 
-asked_on : (client : Option ℕ) (command : Option Command) → ends (asked client command) ≡ false
+asked_on : (client : Option ℕ) (command : Option Command) → ends (input_asked client command) ≡ false
 asked_on (Some client) (Some command) = refl
 asked_on (Some client) None = refl
 asked_on None command = refl

@@ -12,7 +12,7 @@ use Rattle.pg_step.specs.declared.answer.Answer.{Answer}
 use Rattle.pg_step.specs.declared.command.Command.{Command}
 use Rattle.pg_term.specs.declared.term.Term.{Term, Tuple}
 use Rattle.pg_term.specs.declared.term.Term.TheVariants.{Int, Atom}
-use Rattle.pg_requests.specs.Replies.{bad_request_term, counted, error_term, node_lost_term}
+use Rattle.pg_requests.specs.Replies.{bad_request_term, count_reply, error_term, node_lost_term}
 use Rattle.pg_requests.specs.Replies.{numbered_term, refused_term, reply_term}
 use Rattle.std.specs.Str.{chars}
 use Rattle.pg_talk.specs.Conversations.{saturated}
@@ -25,7 +25,7 @@ true_is_not_false e = absurd (cc)
 
 -- ---- numbers, as terms have them
 
-counted_same : (a b : ℕ) → saturated a ≡ saturated b → counted a ≡ counted b
+counted_same : (a b : ℕ) → saturated a ≡ saturated b → count_reply a ≡ count_reply b
 counted_same a b e = ap (λ n. Int (pos n)) (omega (arith, e))
 
 pub numbered_same : (name : List ℕ) (port a b : ℕ) (reply : Term) → saturated a ≡ saturated b → numbered_term name port a reply ≡ numbered_term name port b reply

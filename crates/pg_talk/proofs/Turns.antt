@@ -21,21 +21,21 @@ use Rattle.pg_talk.specs.declared.service.desk.Desk.{Desk}
 use Rattle.pg_talk.specs.declared.service.serving.Serving.{Serving}
 use Rattle.pg_talk.specs.Conversations.{saturated}
 use Rattle.pg_talk.specs.Frames.{WritesReply}
-use Rattle.pg_talk.specs.Servings.{Advances, Comes, Goes, RepliesLost, RepliesNext, Serves, Takes, asked_at}
+use Rattle.pg_talk.specs.Servings.{Advances, Comes, ServingGoes, RepliesLost, RepliesNext, Serves, Takes, asked_at}
 use Rattle.pg_talk.specs.Servings.{desks_of, is_known_lost, kept_in, lost_at, nodes_of, replied_at, view_of}
 
 pub on_ok : {T E : Type 0} (r : Result T E) (P Q : Type 0) → OnOk r P → (P → Q) → OnOk r Q
 on_ok (Ok t) P Q p f = f p
 on_ok (Err e) P Q p f = tt
 
-pub goes_itself : (a : Serving) (x : Option (List ℕ)) → Goes a a x x
+pub goes_itself : (a : Serving) (x : Option (List ℕ)) → ServingGoes a a x x
 goes_itself a x = record { kept = refl; goes = λ given first inputs s. s }
 
-pub goes_then : (a b c : Serving) (x y z : Option (List ℕ)) → Goes a b x y → Goes b c y z → Goes a c x z
+pub goes_then : (a b c : Serving) (x y z : Option (List ℕ)) → ServingGoes a b x y → ServingGoes b c y z → ServingGoes a c x z
 goes_then a b c x y z one two = record { kept = two.kept ∙ one.kept; goes = λ given first inputs s. two.goes given first inputs (one.goes given first inputs s) }
 
 -- to what is seen so
-pub goes_to : (a b : Serving) (x y : Option (List ℕ)) → b.kept ≡ a.kept → ((given : Config) (first : Option (List ℕ)) (inputs : List Input) → Serves given first inputs (view_of a) x → Serves given first inputs (view_of b) y) → Goes a b x y
+pub goes_to : (a b : Serving) (x y : Option (List ℕ)) → b.kept ≡ a.kept → ((given : Config) (first : Option (List ℕ)) (inputs : List Input) → Serves given first inputs (view_of a) x → Serves given first inputs (view_of b) y) → ServingGoes a b x y
 goes_to a b x y kept goes = record { kept = kept; goes = goes }
 
 -- ---- where inputs come in
@@ -94,7 +94,7 @@ module _ (a b : Serving) (came came2 : List Input) (x y : Option (List ℕ)) whe
     serves = subst (λ view. Serves given before s.inputs view x) (sym view) s.serves;
   }
 
-  pub advances_by : Goes a b x y → came2 ≡ came → Advances a b came came2 x y
+  pub advances_by : ServingGoes a b x y → came2 ≡ came → Advances a b came came2 x y
   advances_by goes same given before s = record {
     inputs = s.inputs;
     whole = same ∙ s.whole ∙ ap (λ k. s.inputs ++ kept_in k) (sym goes.kept);
@@ -172,7 +172,7 @@ was_lost lost node fault (inr e) place again = lost_before lost node (inr (again
 
 -- ---- a turn
 
-module _ (a b c : Serving) (came came2 : List Input) (x y z : Option (List ℕ)) (took : Advances a b came came2 x y) (goes : Goes b c y z) where
+module _ (a b c : Serving) (came came2 : List Input) (x y z : Option (List ℕ)) (took : Advances a b came came2 x y) (goes : ServingGoes b c y z) where
   pub turn_moved : Advances a c came came2 x z
   turn_moved given first s = advances_by b c came2 came2 y z goes refl given first (took given first s)
 

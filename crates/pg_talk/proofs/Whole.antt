@@ -23,7 +23,7 @@ use Rattle.pg_cluster.specs.Running.{clients_in, config_in, losses_in, threads_i
 use Rattle.pg_cluster.specs.Threads.{AreMade, begun_by}
 use Rattle.pg_requests.specs.declared.input.Input.{Input}
 use Rattle.pg_requests.specs.declared.input.Input.TheVariants as forms
-use Rattle.pg_requests.specs.Layouts.{placed}
+use Rattle.pg_requests.specs.Layouts.{layout_of}
 use Rattle.pg_talk.specs.declared.service.desk.Desk.{Desk}
 use Rattle.pg_talk.specs.declared.service.run.Served.{Served}
 use Rattle.pg_talk.specs.declared.service.serving.ServedNode.{ServedNode}
@@ -168,12 +168,12 @@ over_by_end given (input ∷ inputs) told fault none some =
 
 -- The cluster was closed, and judged so. What came in is the first of what is read, and has its end: it is all.
 pub served_to_the_end : {S : Type 0} (remaining : S → Option (List ℕ)) (fails : S → S → Type 0) (given : Config) (wanted : ℕ) (source before after : Option (List ℕ)) (inputs further : List Input) (view : View)
-    (served : Served) → AreRead remaining fails (placed 0 given) wanted source (inputs ++ further) → view.over ≡ Some served.fault → list_all is_idle view.desks ≡ true
+    (served : Served) → AreRead remaining fails (layout_of 0 given) wanted source (inputs ++ further) → view.over ≡ Some served.fault → list_all is_idle view.desks ≡ true
     → IsJudged (config_in view.running).starts.items (losses_in view.running) (threads_in view.running) (clients_in view.running) served.verdict → Serves given before inputs view after
     → WasServed remaining fails given wanted source before after served
 served_to_the_end remaining fails given wanted source before after inputs further view served read over idle judged s = record {
   inputs = inputs;
-  read = read_whole (placed 0 given) (goes_on (placed 0 given)) remaining fails source [] wanted inputs further read
+  read = read_whole (layout_of 0 given) (goes_on (layout_of 0 given)) remaining fails source [] wanted inputs further read
       (over_by_end given inputs (none_told given) served.fault refl (sym s.knows.over ∙ over));
   over = sym s.knows.over ∙ over;
   threads = threads_in view.running;

@@ -2,7 +2,7 @@
 use Rattle.std.specs.Prelude.{◌≡◌, ℕ, List, Option, Some}
 use Rattle.pg_run.specs.declared.port.Client.{Client}
 use Rattle.pg_requests.specs.declared.input.Input.{Input}
-use Rattle.pg_requests.specs.Layouts.{placed}
+use Rattle.pg_requests.specs.Layouts.{layout_of}
 use Rattle.pg_step.specs.Config.{Config}
 use Rattle.rand_pcg.specs.Lcg.{Lcg}
 use Rattle.pg_cluster.specs.Threads.{Thread}
@@ -25,7 +25,7 @@ service_number_of faults.OutOfMemory = 10
 -- by which fault the input ended, if by one; the nodes that they lose were lost, and all of them were served.
 pub record WasServed {S : Type 0} (remaining : S → Option (List ℕ)) (fails : S → S → Type 0) (given : Config) (wanted : ℕ) (source before after : Option (List ℕ)) (served : Served) : Type 0 where
   pub inputs : List Input
-  pub read : AreRead remaining fails (placed 0 given) wanted source inputs
+  pub read : AreRead remaining fails (layout_of 0 given) wanted source inputs
   pub over : (told_by given inputs).over ≡ Some served.fault
   pub threads : List (Thread Lcg)
   pub clients : List Client

@@ -157,13 +157,13 @@ abbrev pub Advances : Serving → Serving → List Input → List Input → Opti
 Advances a b came came2 before after = (given : Config) (first : Option (List ℕ)) → Stands given first came a before → Stands given first came2 b after
 
 -- the same inputs are served still
-pub record Goes (a b : Serving) (before after : Option (List ℕ)) : Type 0 where
+pub record ServingGoes (a b : Serving) (before after : Option (List ℕ)) : Type 0 where
   pub kept : b.kept ≡ a.kept
   pub goes : (given : Config) (first : Option (List ℕ)) (inputs : List Input) → Serves given first inputs (view_of a) before → Serves given first inputs (view_of b) after
 
 -- and nothing is written
 abbrev pub Rests : Serving → Serving → Type 0
-Rests a b = (now : Option (List ℕ)) → Goes a b now now
+Rests a b = (now : Option (List ℕ)) → ServingGoes a b now now
 
 -- one input more is served
 pub record Takes (input : Input) (a b : Serving) (before after : Option (List ℕ)) : Type 0 where

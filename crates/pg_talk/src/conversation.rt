@@ -5,7 +5,7 @@ ghost use Rattle.std.specs.Io.KnownBytes.{Appends};
 ghost use Rattle.std.specs.List.{All, sum_by};
 ghost use Rattle.pg_run.specs.Ports.{IsSilent};
 ghost use Rattle.pg_run.specs.declared.port.Client.{Client};
-ghost use Rattle.pg_cluster.specs.Running.{clients_in, Goes};
+ghost use Rattle.pg_cluster.specs.Running.{clients_in, RunningGoes};
 ghost use Rattle.pg_talk.specs.Asking.{AllKeep, AllSpoke, Keeps, is_first};
 ghost use Rattle.pg_talk.specs.Conversations.{AreAsked, IsBare, TookPlace, all_polled, saturated};
 ghost use Rattle.pg_talk.specs.Outcomes.{agree_line, answered_line, is_good, nodes_line};
@@ -209,7 +209,7 @@ fn converse<O: Onlooker>(
     onlooker: &mut O,
 ) -> Result<u64, AllocError>
     requires silent { All IsSilent (clients_in running.old) }
-    ensures same { Goes running.old running.new }
+    ensures same { RunningGoes running.old running.new }
     ensures answered { IfOk result (λ answered. answered ≡ saturated (all_polled (clients_in running.new))) }
     ensures spoke { IfOk result (λ answered. AllSpoke asked.rounds (clients_in running.new)) }
 {
@@ -256,7 +256,7 @@ fn speak_all(
     running: &mut Running,
     speakers: &mut Vec<Speaker>,
 ) -> Result<bool, AllocError>
-    ensures same { Goes running.old running.new }
+    ensures same { RunningGoes running.old running.new }
     ensures keep { (rounds : ℕ) → AllKeep rounds speakers.old.items (clients_in running.old) → AllKeep rounds speakers.new.items (clients_in running.new) }
 {
     let mut moved = false;

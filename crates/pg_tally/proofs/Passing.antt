@@ -14,7 +14,7 @@ use Rattle.pg_tally.specs.declared.streaks.Hop.{Hop}
 use Rattle.pg_tally.specs.declared.streaks.Streak.{Streak}
 use Rattle.pg_tally.specs.declared.ways.Way.{Way}
 use Rattle.pg_tally.specs.Runs.{AreSettled, AreStreaks, IsBefore, IsGreatest, IsLongest}
-use Rattle.pg_tally.specs.Runs.{IsMarked, IsPassed, IsRun, IsRunTo, IsSettledAt, IsStreak, Leads}
+use Rattle.pg_tally.specs.Runs.{IsMarked, IsPassed, IsRun, IsRunTo, IsSettledAt, IsStreak, HopLeads}
 use Rattle.pg_tally.specs.Runs.{alone_of, followed, is_longer, len_at, no_streak, streak_of}
 use Rattle.pg_tally.specs.Walks.{ways_at}
 use Rattle.pg_tally.proofs.Walking.{is_same, no_ways, set_cases}
@@ -51,7 +51,7 @@ to_streak worlds marks streaks place streak e h =
     record { some = k.0; none = k.1; before = k.2 }
 
 -- a longer run was found
-longer : (worlds : List (Vec Way)) (marks : List Bool) (streaks : List Streak) (hop : Hop) (reached : ℕ) → AreStreaks worlds marks streaks → Leads worlds hop reached → reached < length streaks
+longer : (worlds : List (Vec Way)) (marks : List Bool) (streaks : List Streak) (hop : Hop) (reached : ℕ) → AreStreaks worlds marks streaks → HopLeads worlds hop reached → reached < length streaks
     → 1 ≤ len_at streaks reached → len_at streaks reached ≤ len_at streaks hop.place → AreStreaks worlds marks (set streaks reached (record { len = len_at streaks hop.place + 1; before = Some hop }))
 longer worlds marks streaks hop reached h leads within some l place =
     let new : Streak = record { len = len_at streaks hop.place + 1; before = Some hop } in
@@ -61,7 +61,7 @@ longer worlds marks streaks hop reached h leads within some l place =
       | inl at ↦ to_streak worlds marks all place new (subst (λ (p : ℕ). get_or all p no_streak ≡ new) (sym at) (get_or-set_same streaks reached new no_streak within)) (
         λ _. omega arith,
         λ none. absurd (let z = (h reached).none (subst (λ (p : ℕ). get_or marks p false ≡ false) at none) in omega arith),
-        (marked worlds marks streaks hop.place (h hop.place) (omega arith), subst (λ (p : ℕ). Leads worlds hop p) (sym at) leads, let m = g hop.place in omega arith),
+        (marked worlds marks streaks hop.place (h hop.place) (omega arith), subst (λ (p : ℕ). HopLeads worlds hop p) (sym at) leads, let m = g hop.place in omega arith),
       )
       | inr other ↦ to_streak worlds marks all place (streak_of streaks place) (get_or-set_other streaks reached place new no_streak other)
           ((h place).some, (h place).none, before_grows worlds marks streaks all place (len_at streaks place) (streak_of streaks place).before g (h place).before)
@@ -87,14 +87,14 @@ within streaks place l = elim (cases_lt place (length streaks)) as (λ _. place 
   | inr m ↦ absurd (let e = ap (λ (s : Streak). s.len) (get_or_past streaks place no_streak m) in omega arith)
 ]
 
-followed_by : (worlds : List (Vec Way)) (marks : List Bool) (streaks : List Streak) (hop : Hop) (reached : ℕ) (b : Bool) → is_longer streaks hop reached ≡ b → AreStreaks worlds marks streaks → Leads worlds hop reached
+followed_by : (worlds : List (Vec Way)) (marks : List Bool) (streaks : List Streak) (hop : Hop) (reached : ℕ) (b : Bool) → is_longer streaks hop reached ≡ b → AreStreaks worlds marks streaks → HopLeads worlds hop reached
     → AreStreaks worlds marks (cond b (set streaks reached (record { len = len_at streaks hop.place + 1; before = Some hop })) streaks)
 followed_by worlds marks streaks hop reached false e h leads = h
 followed_by worlds marks streaks hop reached true e h leads =
     let facts = both_hold (len_at streaks reached) (len_at streaks hop.place) (nat_le 1 (len_at streaks reached)) (nat_le (len_at streaks reached) (len_at streaks hop.place)) refl refl e in
     longer worlds marks streaks hop reached h leads (within streaks reached facts.0) facts.0 facts.1
 
-pub streaks_step : (worlds : List (Vec Way)) (marks : List Bool) (streaks : List Streak) (hop : Hop) (reached : ℕ) → AreStreaks worlds marks streaks → Leads worlds hop reached → AreStreaks worlds marks (followed streaks hop reached)
+pub streaks_step : (worlds : List (Vec Way)) (marks : List Bool) (streaks : List Streak) (hop : Hop) (reached : ℕ) → AreStreaks worlds marks streaks → HopLeads worlds hop reached → AreStreaks worlds marks (followed streaks hop reached)
 streaks_step worlds marks streaks hop reached h leads = followed_by worlds marks streaks hop reached (is_longer streaks hop reached) refl h leads
 
 -- a way that changes nothing
@@ -118,32 +118,32 @@ passed_step streaks hop reached same = passed_by streaks hop reached (is_longer 
 pub record IsTrying (worlds : List (Vec Way)) (marks : List Bool) (place count : ℕ) (old new : List Streak) (changed : Bool) : Type 0 where
   pub kept : AreStreaks worlds marks new
   pub same : changed ≡ false → new ≡ old
-  pub settled : changed ≡ false → (number to : ℕ) → number < count → Leads worlds (record { place = place; way = number }) to → IsPassed old place to
+  pub settled : changed ≡ false → (number to : ℕ) → number < count → HopLeads worlds (record { place = place; way = number }) to → IsPassed old place to
 
 pub none_tried : (worlds : List (Vec Way)) (marks : List Bool) (place : ℕ) (old : List Streak) (changed : Bool) → AreStreaks worlds marks old → IsTrying worlds marks place 0 old old changed
 none_tried worlds marks place old changed h = record { kept = h; same = λ _. refl; settled = λ _ number to l. absurd (omega arith) }
 
 -- a way leads to one place
-one_place : (worlds : List (Vec Way)) (hop : Hop) (a b : ℕ) → Leads worlds hop a → Leads worlds hop b → a ≡ b
+one_place : (worlds : List (Vec Way)) (hop : Hop) (a b : ℕ) → HopLeads worlds hop a → HopLeads worlds hop b → a ≡ b
 one_place worlds hop a b h k = sym h.place ∙ ap (λ (w : Way). w.place) (some_way h.way k.way (sym h.is ∙ k.is)) ∙ k.place
   where
     some_way : (v w : Way) → Some v ≡ Some w → v ≡ w
     some_way v w e = cc
 
 pub tried_same : (worlds : List (Vec Way)) (marks : List Bool) (place count : ℕ) (old now new : List Streak) (changed : Bool) (reached : ℕ) → IsTrying worlds marks place count old now changed
-    → Leads worlds (record { place = place; way = count }) reached → new ≡ followed now (record { place = place; way = count }) reached → new ≡ now → IsTrying worlds marks place (count + 1) old new changed
+    → HopLeads worlds (record { place = place; way = count }) reached → new ≡ followed now (record { place = place; way = count }) reached → new ≡ now → IsTrying worlds marks place (count + 1) old new changed
 tried_same worlds marks place count old now new changed reached h leads is same = record {
   kept = subst (λ (xs : List Streak). AreStreaks worlds marks xs) (sym is) (streaks_step worlds marks now (record { place = place; way = count }) reached h.kept leads);
   same = λ e. same ∙ h.same e;
   settled = λ e number to l other. elim (is_same count number) as (λ _. IsPassed old place to) [
-    | inl at ↦ subst (λ (p : ℕ). IsPassed old place p) (one_place worlds (record { place = place; way = count }) reached to leads (subst (λ (n : ℕ). Leads worlds (record { place = place; way = n }) to) at other))
+    | inl at ↦ subst (λ (p : ℕ). IsPassed old place p) (one_place worlds (record { place = place; way = count }) reached to leads (subst (λ (n : ℕ). HopLeads worlds (record { place = place; way = n }) to) at other))
         (subst (λ (xs : List Streak). IsPassed xs place reached) (h.same e) (passed_step now (record { place = place; way = count }) reached (sym is ∙ same)))
     | inr apart ↦ h.settled e number to (omega arith) other
   ];
 }
 
 pub tried_changed : (worlds : List (Vec Way)) (marks : List Bool) (place count more : ℕ) (old now new : List Streak) (changed : Bool) (reached : ℕ) → IsTrying worlds marks place count old now changed
-    → Leads worlds (record { place = place; way = count }) reached → new ≡ followed now (record { place = place; way = count }) reached → IsTrying worlds marks place more old new true
+    → HopLeads worlds (record { place = place; way = count }) reached → new ≡ followed now (record { place = place; way = count }) reached → IsTrying worlds marks place more old new true
 tried_changed worlds marks place count more old now new changed reached h leads is = record {
   kept = subst (λ (xs : List Streak). AreStreaks worlds marks xs) (sym is) (streaks_step worlds marks now (record { place = place; way = count }) reached h.kept leads);
   same = λ e. absurd (cc);
@@ -151,7 +151,7 @@ tried_changed worlds marks place count more old now new changed reached h leads 
 }
 
 -- the way of a number
-pub leads_by : (worlds : List (Vec Way)) (place number : ℕ) (ways : List Way) (d : Way) → ways_at worlds place ≡ ways → number < length ways → Leads worlds (record { place = place; way = number }) (get_or ways number d).place
+pub leads_by : (worlds : List (Vec Way)) (place number : ℕ) (ways : List Way) (d : Way) → ways_at worlds place ≡ ways → number < length ways → HopLeads worlds (record { place = place; way = number }) (get_or ways number d).place
 leads_by worlds place number ways d e l = record { way = get_or ways number d; is = ap (λ (xs : List Way). slice_get xs number) e ∙ slice_get-get_or ways number d l; place = refl }
 
 pub settled_at : (worlds : List (Vec Way)) (marks : List Bool) (place count : ℕ) (ways : List Way) (old new : List Streak) (changed : Bool) → IsTrying worlds marks place count old new changed
@@ -258,7 +258,7 @@ bounded worlds marks streaks place (hop ∷ hops) h settled run =
     let rest = bounded worlds marks streaks to hops h settled run.2.2 in
     let from = (h place).some run.0 in
     let end = (h to).some (starts worlds marks to hops run.2.2) in
-    let l = settled place hop.way to (subst (λ (p : ℕ). Leads worlds (record { place = p; way = hop.way }) to) run.1 leads) from end in
+    let l = settled place hop.way to (subst (λ (p : ℕ). HopLeads worlds (record { place = p; way = hop.way }) to) run.1 leads) from end in
     (rest.0, let m = rest.1 in omega arith)
 
 pub longest_found : (worlds : List (Vec Way)) (marks : List Bool) (streaks : List Streak) (last : ℕ) (run : Run) → AreStreaks worlds marks streaks → AreSettled worlds streaks → IsGreatest streaks last

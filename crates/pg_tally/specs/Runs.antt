@@ -13,7 +13,7 @@ abbrev pub IsMarked : List Bool → ℕ → Type 0
 IsMarked marks place = get_or marks place false ≡ true
 
 -- a way leads from a world to another
-pub record Leads (worlds : List (Vec Way)) (hop : Hop) (to : ℕ) : Type 0 where
+pub record HopLeads (worlds : List (Vec Way)) (hop : Hop) (to : ℕ) : Type 0 where
   pub way : Way
   pub is : slice_get (ways_at worlds hop.place) hop.way ≡ Some way
   pub place : way.place ≡ to
@@ -21,7 +21,7 @@ pub record Leads (worlds : List (Vec Way)) (hop : Hop) (to : ℕ) : Type 0 where
 -- Ways, one after another, from a marked world through marked worlds.
 abbrev pub IsRun : List (Vec Way) → List Bool → ℕ → List Hop → Type 0
 IsRun worlds marks place [] = IsMarked marks place
-IsRun worlds marks place (hop ∷ hops) = IsMarked marks place × (hop.place ≡ place) × ((to : ℕ) × Leads worlds hop to × IsRun worlds marks to hops)
+IsRun worlds marks place (hop ∷ hops) = IsMarked marks place × (hop.place ≡ place) × ((to : ℕ) × HopLeads worlds hop to × IsRun worlds marks to hops)
 
 -- a run that is as long as each other; None: no world is marked
 abbrev pub IsLongest : List (Vec Way) → List Bool → Option Run → Type 0
@@ -55,7 +55,7 @@ followed streaks hop reached = cond (is_longer streaks hop reached) (set streaks
 -- the run that ends with a world comes there from no longer one, if from any
 abbrev pub IsBefore : List (Vec Way) → List Bool → List Streak → ℕ → ℕ → Option Hop → Type 0
 IsBefore worlds marks streaks place len None = len ≤ 1
-IsBefore worlds marks streaks place len (Some hop) = IsMarked marks hop.place × Leads worlds hop place × (len ≤ len_at streaks hop.place + 1)
+IsBefore worlds marks streaks place len (Some hop) = IsMarked marks hop.place × HopLeads worlds hop place × (len ≤ len_at streaks hop.place + 1)
 
 -- what is known of the run that ends with a world
 pub record IsStreak (worlds : List (Vec Way)) (marks : List Bool) (streaks : List Streak) (place : ℕ) : Type 0 where
@@ -72,7 +72,7 @@ IsPassed streaks from to = 1 ≤ len_at streaks from → 1 ≤ len_at streaks to
 
 -- by none of the ways from a place
 abbrev pub IsSettledAt : List (Vec Way) → List Streak → ℕ → Type 0
-IsSettledAt worlds streaks place = (number to : ℕ) → Leads worlds (record { place = place; way = number }) to → IsPassed streaks place to
+IsSettledAt worlds streaks place = (number to : ℕ) → HopLeads worlds (record { place = place; way = number }) to → IsPassed streaks place to
 
 abbrev pub AreSettled : List (Vec Way) → List Streak → Type 0
 AreSettled worlds streaks = (place : ℕ) → IsSettledAt worlds streaks place

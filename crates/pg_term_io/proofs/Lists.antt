@@ -7,7 +7,7 @@ use Rattle.pg_term.specs.declared.fault.TermFault.{TermFault}
 use Rattle.pg_term.specs.declared.fault.TermFault.TheVariants.{Truncated, TooDeep}
 use Rattle.pg_term.specs.declared.term.Term.{Term, Tuple, List as Listed}
 use Rattle.pg_term.specs.Order.{kind_of}
-use Rattle.pg_term_io.specs.Lists.{list_from, GoesOn, IsOver, IsText}
+use Rattle.pg_term_io.specs.Lists.{list_from, ListGoesOn, IsOver, IsText}
 use Rattle.pg_term_io.specs.Numbers.{int_of}
 use Rattle.pg_term_io.specs.Reading.{Read, ◌>>=◌, number_at, bytes_at, items_at, item_at, tail_at, readers}
 use Rattle.pg_term_io.specs.Reading.{elements_behind, tail_behind, arity_at, item_behind, as_term, string_at, list_at}
@@ -34,7 +34,7 @@ and_others room n first = first >>= λ x. after_first x.0 (items_at (item_at roo
 
 module _ (room n : ℕ) (bytes : List ℕ) (ts : List Term) (rest : List ℕ) where
   with_tail : (t : Term) (mid : List ℕ) (us : List Term) (last : List ℕ) (tail : Read (List Term)) → item_at room bytes ≡ Ok (t, mid) → items_at (item_at room) n mid ≡ Ok (us, last) → tail_at room last ≡ tail
-      → then_tail (t ∷ us) tail ≡ Ok (ts, rest) → GoesOn room n bytes ts rest
+      → then_tail (t ∷ us) tail ≡ Ok (ts, rest) → ListGoesOn room n bytes ts rest
   unfolding list_from
   with_tail t mid us last (Ok v) here others tail e =
       let same : (t ∷ (us ++ v.0), v.1) ≡ (ts, rest) = cc in
@@ -48,16 +48,16 @@ module _ (room n : ℕ) (bytes : List ℕ) (ts : List Term) (rest : List ℕ) wh
       }
   with_tail t mid us last (Err f) here others tail e = absurd cc
 
-  with_others : (t : Term) (mid : List ℕ) (others : Read (List Term)) → item_at room bytes ≡ Ok (t, mid) → items_at (item_at room) n mid ≡ others → and_tail room (after_first t others) ≡ Ok (ts, rest) → GoesOn room n bytes ts rest
+  with_others : (t : Term) (mid : List ℕ) (others : Read (List Term)) → item_at room bytes ≡ Ok (t, mid) → items_at (item_at room) n mid ≡ others → and_tail room (after_first t others) ≡ Ok (ts, rest) → ListGoesOn room n bytes ts rest
   with_others t mid (Ok x) here others e = with_tail t mid x.0 x.1 (tail_at room x.1) here others refl e
   with_others t mid (Err f) here others e = absurd cc
 
-  with_first : (first : Read Term) → item_at room bytes ≡ first → and_tail room (and_others room n first) ≡ Ok (ts, rest) → GoesOn room n bytes ts rest
+  with_first : (first : Read Term) → item_at room bytes ≡ first → and_tail room (and_others room n first) ≡ Ok (ts, rest) → ListGoesOn room n bytes ts rest
   with_first (Ok x) here e = with_others x.0 x.1 (items_at (item_at room) n x.1) here refl e
   with_first (Err f) here e = absurd cc
 
   -- where elements stand there, the first of them
-  pub goes_on : list_from room (suc n) bytes ≡ Ok (ts, rest) → GoesOn room n bytes ts rest
+  pub goes_on : list_from room (suc n) bytes ≡ Ok (ts, rest) → ListGoesOn room n bytes ts rest
   unfolding list_from items_at
   goes_on e = with_first (item_at room bytes) refl e
 

@@ -19,7 +19,7 @@ list_from room count bytes = do
   Ok (items.0 ++ tail.0, tail.1)
 
 -- the first of these elements stands at the front of the bytes, and the others after it
-pub record GoesOn (room count : ℕ) (bytes : List ℕ) (elements : List Term) (rest : List ℕ) : Type 0 where
+pub record ListGoesOn (room count : ℕ) (bytes : List ℕ) (elements : List Term) (rest : List ℕ) : Type 0 where
   pub first : Term
   pub others : List Term
   pub behind : List ℕ
@@ -41,7 +41,7 @@ pub record IsOver (behind : List ℕ) (elements : List Term) (rest : List ℕ) :
 -- how a list with these elements goes on
 abbrev pub Continues : NextElement → List Term → List ℕ → Type 0
 Continues (End behind) elements rest = IsOver behind.now elements rest
-Continues (Item room count bytes) elements rest = GoesOn room count bytes.now elements rest
+Continues (Item room count bytes) elements rest = ListGoesOn room count bytes.now elements rest
 Continues NoItem elements rest = IsText elements
 
 -- an element that stands there may nest no more levels, and stands in the same bytes; fewer follow the list
@@ -82,7 +82,7 @@ next_from zero zero (tag ∷ bytes) = tail_next (λ count rest. nowhere) (list_t
 next_from (suc room) zero (tag ∷ bytes) = tail_next (next_from room) (list_tag (tag_of tag)) bytes
 
 -- a call answers just this
-abbrev pub Shows : NextElement → Next → Type 0
-Shows (End behind) next = next ≡ over behind.now
-Shows (Item room count bytes) next = next ≡ element room count bytes.now
-Shows NoItem next = next ≡ nowhere
+abbrev pub ShowsNext : NextElement → Next → Type 0
+ShowsNext (End behind) next = next ≡ over behind.now
+ShowsNext (Item room count bytes) next = next ≡ element room count bytes.now
+ShowsNext NoItem next = next ≡ nowhere

@@ -30,9 +30,9 @@ abbrev pub Walk : Type 0
 Walk = List ℕ → Result (List ℕ) TermFault
 
 -- a call answers just this: it takes no memory
-abbrev pub Tells : {X Y : Type 0} → (X → Y) → Result X TermFault → Result Y TermFault → Type 0
-Tells view (Ok x) read = read ≡ Ok (view x)
-Tells view (Err e) read = read ≡ Err e
+abbrev pub ScansAs : {X Y : Type 0} → (X → Y) → Result X TermFault → Result Y TermFault → Type 0
+ScansAs view (Ok x) read = read ≡ Ok (view x)
+ScansAs view (Err e) read = read ≡ Err e
 
 -- a call answers whether there is a value, else the fault
 abbrev pub Names : {X Y : Type 0} → Result X TermFault → Result Y TermFault → Type 0

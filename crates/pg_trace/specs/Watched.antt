@@ -26,7 +26,7 @@ abbrev pub sent_on : ℕ → ℕ → Sight
 sent_on line packet = record { line = line; seen = Sent packet }
 
 -- It knows the nodes by their names, and has seen that each packet that it knows was sent, in their order, before the first line.
-pub record Begins (starts : List Start) (watch : Watch) : Type 0 where
+pub record BeginsWatch (starts : List Start) (watch : Watch) : Type 0 where
   pub names : map string_bytes watch.names.items ≡ names_of starts
   pub line : watch.line ≡ 0
   pub sights : watch.sights.items ≡ map (sent_on 0) (range_with_len 0 (length watch.letters.items))

@@ -44,7 +44,7 @@ impl Watch {
     ghost use Rattle.std.specs.List.{range_with_len};
     ghost use Rattle.std.specs.Str.{encode_utf8_all};
     ghost use Rattle.pg_text.specs.Writing.{atom_text};
-    ghost use Rattle.pg_trace.specs.Watched.{Begins, SawAnswer, names_of, sent_on};
+    ghost use Rattle.pg_trace.specs.Watched.{BeginsWatch, SawAnswer, names_of, sent_on};
     ghost use Rattle.pg_world.specs.Bars.{bytes_lost_after};
     ghost use Rattle.pg_world.specs.ByteWorlds.{account_of, crossing_of, given_of, lost_of, room_of};
     ghost use Rattle.pg_world.specs.Changes.{StepChanges};
@@ -60,7 +60,7 @@ impl Watch {
         starts: &[Start],
         world: &World<T>,
     ) -> Result<Watch, AllocError>
-        ensures { IfOk result (Begins starts.now) }
+        ensures { IfOk result (BeginsWatch starts.now) }
     {
         let mut watch = Watch {
             alloc,
@@ -93,7 +93,7 @@ impl Watch {
         requires line { self.old.line ≡ 0 }
         requires letters { self.old.letters.items ≡ [] }
         requires sights { self.old.sights.items ≡ [] }
-        ensures { OnOk result (Begins starts.now self.new) }
+        ensures { OnOk result (BeginsWatch starts.now self.new) }
     {
         self.add_nodes(starts)?;
         self.see_begins(world, starts.len())

@@ -11,7 +11,7 @@ use Rattle.pg_machine.specs.Places.{is_pair}
 use Rattle.pg_machine.specs.Machine.{Event, node_of}
 use Rattle.pg_machine.specs.Happened.{Takes}
 use Rattle.pg_machine.specs.Clocked.{Stamped}
-use Rattle.pg_frame.specs.Pieces.{Bytes, AreShort, frames_of, sent as bytes_sent, taken as bytes_taken}
+use Rattle.pg_frame.specs.Pieces.{Bytes, AreShort, frames_of, sent as bytes_sent, piece_taken as bytes_taken}
 use Rattle.pg_step.specs.Config.{Config}
 use Rattle.pg_step.specs.Step.{Action}
 use Rattle.pg_node_state.specs.Frames.{IsSmallFrame, AreSmallFrames, frame_of, frames_to}

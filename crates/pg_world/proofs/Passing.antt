@@ -15,7 +15,7 @@ use Rattle.pg_message.specs.Reading.{packet_spelled}
 use Rattle.pg_machine.specs.Places.{is_pair}
 use Rattle.pg_machine.specs.Machine.{Event, Take, Do}
 use Rattle.pg_machine.specs.Clocked.{Timed, Stamped}
-use Rattle.pg_frame.specs.Pieces.{taken as bytes_taken}
+use Rattle.pg_frame.specs.Pieces.{piece_taken as bytes_taken}
 use Rattle.pg_opens.specs.Places.{whole_in, name_at as place_name}
 use Rattle.pg_step.specs.declared.answer.Answer.{Answer}
 use Rattle.pg_step.specs.declared.refusal.Refusal.{Refusal}
@@ -28,7 +28,7 @@ use Rattle.pg_node_state.specs.declared.state.done.Done.{Done}
 use Rattle.pg_node_state.specs.declared.state.fault.NodeFault.{NodeFault}
 use Rattle.pg_node_state.specs.declared.state.fault.NodeFault.TheVariants.{Refused, OutOfMemory, Message as BadMessage}
 use Rattle.pg_node_state.specs.declared.state.fault.NodeFault.TheVariants.{TooLong as FrameTooLong, Damaged}
-use Rattle.pg_node.specs.Bytes.{Tells, damages, marked, packet_in, packet_at, next_packet}
+use Rattle.pg_node.specs.Bytes.{ReadsNext, damages, marked, packet_in, packet_at, next_packet}
 use Rattle.pg_node_state.specs.Frames.{AreSmallFrames}
 use Rattle.pg_node.specs.Links.{Link, at_link}
 use Rattle.pg_node.specs.Nodes.{read_next, ComesInRoom}
@@ -40,7 +40,7 @@ use Rattle.pg_frame_world.specs.Effects.{effect_by}
 use Rattle.pg_world.specs.Crossings.{Crossing, link_at, bytes_at, packet_as, packets_between, CanCross}
 use Rattle.pg_world.specs.Crossings.{IsOnWay, IsWelcome, ShowsPast, ShowsBytesPast, EventComesTo}
 use Rattle.pg_account.specs.Losses.{is_lost}
-use Rattle.pg_account.specs.Histories.{asked_by}
+use Rattle.pg_account.specs.Histories.{update_asked_by}
 use Rattle.pg_starts.specs.Seen.{Seen}
 use Rattle.pg_frame_world.specs.Views.{peer_place}
 use Rattle.pg_account.specs.Histories.{Account}
@@ -168,7 +168,7 @@ module _ (config : Config) (lost : List ℕ) (crossing crossing2 : Crossing) (ac
   module _ (i p : ℕ) (stays : is_lost lost i ≡ false) (pair : is_pair (length crossing.nodes) i p ≡ true) (packet : Packet) (first : FirstRead lost w crossing i p packet) (node : Seen) (here : slice_get crossing.nodes i ≡ Some node) where
     module _ (after : Seen) (done : Done) (set : crossing2.nodes ≡ slice_set crossing.nodes i after)
         (names : after.names ≡ node.names) (ports : after.ports ≡ node.ports) (fits : AreSendable node.names done.sends.items) (small : AreSmallFrames done.sends.items)
-        (acts : Acts crossing crossing2 (Take i p) done.sends.items) (grew : Grew account account2 i (asked_by packet.message) done.began) (effect : Effect) (did : effect ≡ effect_by done) where
+        (acts : Acts crossing crossing2 (Take i p) done.sends.items) (grew : Grew account account2 i (update_asked_by packet.message) done.began) (effect : Effect) (did : effect ≡ effect_by done) where
       pub taken_shown : ComesInRoom node.names (step_take (whole_in node.names) (place_name node.names (peer_place i p + 1)) (stamped_of packet) node.state) (Ok done) after.state node.answers after.answers
           → EventComesTo config w (Take i p) (Ok (Happened effect)) (ShowsBytesPast config lost crossing2 account2)
       taken_shown comes = happened_as config w (Take i p) (effect_by done) effect did _ _ whole
@@ -186,11 +186,11 @@ module _ (config : Config) (lost : List ℕ) (crossing crossing2 : Crossing) (ac
               go (inr n) d = inr (λ both. n both.0)
               go (inl e) (inr n) = inr (λ both. n both.1)
 
-          whole : (v : TimedFrameWorld) → Left config crossing2.nodes (Take i p) done.sends.items (asked_by packet.message) done.began w v → ShowsBytesPast config lost crossing2 account2 v
+          whole : (v : TimedFrameWorld) → Left config crossing2.nodes (Take i p) done.sends.items (update_asked_by packet.message) done.began w v → ShowsBytesPast config lost crossing2 account2 v
           whole v left = record {
             traffic = event_shown config lost crossing crossing2 w v (Take i p) done.sends.items shows.traffic stays acts left.ways small adds
                 takes is_taken (λ x y t. sym t.1) left.nodes;
-            updates = updates_after account account2 w v i (asked_by packet.message) done.began shows.updates grew left.records;
+            updates = updates_after account account2 w v i (update_asked_by packet.message) done.began shows.updates grew left.records;
           }
 
 -- ---- what is refused
@@ -238,7 +238,7 @@ module _ (config : Config) (lost : List ℕ) (crossing : Crossing) (w : TimedFra
 
 -- ---- what is read
 
-pub tells_ok : (told : Result (Option Packet) NodeFault) (some : Option Packet) → Tells told (Ok some) → told ≡ Ok some
+pub tells_ok : (told : Result (Option Packet) NodeFault) (some : Option Packet) → ReadsNext told (Ok some) → told ≡ Ok some
 tells_ok (Ok (Some packet)) some h = sym h
 tells_ok (Ok None) some h = sym h
 tells_ok (Err (BadMessage other)) some h = sym h
@@ -248,12 +248,12 @@ tells_ok (Err FrameTooLong) some h = sym h
 tells_ok (Err Damaged) some h = sym h
 
 -- what was read is the next packet
-pub read_ok : (lost : Bool) (link : Link) (some : Option Packet) → Tells (read_next lost link) (Ok some) → next_packet link ≡ Ok some
+pub read_ok : (lost : Bool) (link : Link) (some : Option Packet) → ReadsNext (read_next lost link) (Ok some) → next_packet link ≡ Ok some
 read_ok true link some told = absurd (cc)
 read_ok false link some told = tells_ok (next_packet link) some told
 
 -- what can be read is refused only where memory runs out
-pub only_memory : (o : Option Packet) (fault : NodeFault) → Tells (Ok o) (Err fault) → fault ≡ OutOfMemory
+pub only_memory : (o : Option Packet) (fault : NodeFault) → ReadsNext (Ok o) (Err fault) → fault ≡ OutOfMemory
 only_memory (Some packet) OutOfMemory h = refl
 only_memory (Some packet) (Refused refusal) h = absurd (cc)
 only_memory (Some packet) (BadMessage fault) h = absurd (cc)

@@ -3,7 +3,7 @@ use Rattle.std.proofs.Common.{◌≡◌, ◌≢◌, ℕ, Bool, true, false, List
 use Rattle.pg_frame.specs.Frames.{front_of, too_long}
 use Rattle.pg_message.specs.declared.packet.Packet.{Packet}
 use Rattle.pg_frame.specs.Pieces.{Bytes, ArePackets, AreShort, AreCut, FirstPacket, FirstOfCut}
-use Rattle.pg_frame.specs.Pieces.{frames_of, put, pull, sent as bytes_sent, taken as bytes_taken}
+use Rattle.pg_frame.specs.Pieces.{frames_of, put, pull, sent as bytes_sent, piece_taken as bytes_taken}
 use Rattle.pg_world.specs.Crossings.{written_of, IsOnWay}
 
 -- ---- bytes move

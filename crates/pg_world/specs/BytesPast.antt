@@ -13,7 +13,7 @@ use Rattle.pg_world.specs.BytesLosingRuns.{bytes_past_losses}
 use Rattle.pg_world.specs.CrossingRuns.{AreLeft, CrossesAll}
 use Rattle.pg_world.specs.Crossings.{Crossing}
 use Rattle.pg_account.specs.Histories.{Account}
-use Rattle.pg_frame_world.specs.Past.{HasPast, GoesOn, RunsOn}
+use Rattle.pg_frame_world.specs.Past.{HasPast, PastGoesOn, RunsOn}
 
 -- nodes and the bytes on the way between them, of which these are lost, and what is kept of the updates, have a past
 abbrev pub BytesHavePast : Config → Crossing → Account → List ℕ → Type 0
@@ -32,7 +32,7 @@ pub record BytesMissed (given : Config) (crossing : Crossing) (account : Account
 -- what a step made of them
 abbrev pub BytesGoOn : Config → Crossing → Account → List ℕ → Step → Result Stepped NodeFault → Crossing → Account → List ℕ → Type 0
 BytesGoOn given old account lost step result new later now =
-    GoesOn given (λ config u. ShowsLosingBytes config old account lost u) (λ config u. ShowsLosingBytes config new later now u) (λ config u Shown. StepLeaves config u step result Shown)
+    PastGoesOn given (λ config u. ShowsLosingBytes config old account lost u) (λ config u. ShowsLosingBytes config new later now u) (λ config u Shown. StepLeaves config u step result Shown)
 
 -- what steps made of them, one after another
 abbrev pub BytesRunOn : Config → Crossing → Account → List ℕ → List Step → List ℕ → Crossing → Account → List ℕ → Type 0

@@ -4,7 +4,7 @@ use Rattle.pg_machine.specs.Machine.{start_of}
 use Rattle.pg_step.specs.Config.{Config}
 use Rattle.pg_step.specs.FrameMachine.{frame_machine}
 use Rattle.pg_opens.specs.Places.{name_at}
-use Rattle.pg_node.specs.Begun.{Begins}
+use Rattle.pg_node.specs.Begun.{BeginsLinked}
 use Rattle.pg_node.specs.Links.{Link}
 use Rattle.pg_world.specs.Changes.{links_at}
 use Rattle.pg_world.specs.Crossings.{Crossing, ShowsBytes}
@@ -15,7 +15,7 @@ use Rattle.pg_account.specs.Histories.{Account}
 
 -- the frame that tells the groups of a node goes out to each of so many peers
 abbrev pub OpensLinks : ℕ → Seen → (ℕ → Link) → Type 0
-OpensLinks peers node links = Begins node.state.state.table (name_at node.names 0) peers links
+OpensLinks peers node links = BeginsLinked node.state.state.table (name_at node.names 0) peers links
 
 -- a world of bytes shows the start of a configuration, with the groups of each node in order
 abbrev pub BytesBegin : Config → Crossing → Account → Type 0

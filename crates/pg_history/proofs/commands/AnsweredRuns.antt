@@ -20,7 +20,7 @@ use Rattle.pg_step.specs.Attempts.{same_op}
 use Rattle.pg_step.specs.Step.{CLOCK_LIMIT, Action}
 use Rattle.pg_step.specs.Config.{Config}
 use Rattle.pg_step.specs.FrameMachine.{machine_of, FrameWorld}
-use Rattle.pg_history.specs.History.{Answers, answers_by, answered_count, command_at, IsAnsweredOk, ok_means_lock}
+use Rattle.pg_history.specs.History.{AnswerList, answers_by, answered_count, command_at, IsAnsweredOk, ok_means_lock}
 use Rattle.pg_machine.proofs.Steps.{changes, happened}
 use Rattle.pg_machine.proofs.Plain.{plain_from_start}
 use Rattle.pg_history.specs.Reached.{TimedFrameWorld, Reaches}
@@ -32,14 +32,14 @@ use Rattle.pg_history.proofs.commands.Answered.{Answering, Silent, Behind, AtOnc
 
 -- ---- one answer more
 
-module _ (op : OpId) (r : Response) (s t : Answers) (answers : t ≡ with_answer s op r) where
+module _ (op : OpId) (r : Response) (s t : AnswerList) (answers : t ≡ with_answer s op r) where
   ok_it : r ≡ Given reply.Ok → IsAnsweredOk op t
-  ok_it is = subst (λ (f : Answers). Contains (f op.port) (op.number, Given reply.Ok)) (sym answers)
+  ok_it is = subst (λ (f : AnswerList). Contains (f op.port) (op.number, Given reply.Ok)) (sym answers)
       (subst (λ xs. Contains xs (op.number, Given reply.Ok)) (sym (upd_at nat_eq s op.port (s op.port ++ (op.number, r) ∷ []) (eq-eqb op.port op.port refl)))
       (subst (λ x. Contains (s op.port ++ (op.number, x) ∷ []) (op.number, Given reply.Ok)) (sym is) (Contains-push (s op.port) (op.number, Given reply.Ok))))
 
   ok_still : (other : OpId) → IsAnsweredOk other s → IsAnsweredOk other t
-  ok_still other ok = subst (λ (f : Answers). Contains (f other.port) it) (sym answers)
+  ok_still other ok = subst (λ (f : AnswerList). Contains (f other.port) it) (sym answers)
       (upd_by nat_eq s op.port (λ xs. Contains xs it) (s op.port ++ (op.number, r) ∷ []) other.port
       (λ same. Contains-append_left (s op.port) ((op.number, r) ∷ []) it (subst (λ p. Contains (s p) it) (sym (eqb-true op.port other.port same)) ok)) (λ _. ok))
     where
@@ -50,7 +50,7 @@ module _ (op : OpId) (r : Response) (s t : Answers) (answers : t ≡ with_answer
   ok_was : (other : OpId) → IsAnsweredOk other t → IsAnsweredOk other s ⊎ ((op ≡ other) × (r ≡ Given reply.Ok))
   ok_was other ok = upd_by nat_eq s op.port (λ xs. Contains xs it → IsAnsweredOk other s ⊎ ((op ≡ other) × (r ≡ Given reply.Ok))) (s op.port ++ (op.number, r) ∷ []) other.port
       (λ same has. go (eqb-true op.port other.port same) (Contains-push_cases (s op.port) (op.number, r) it has)) (λ _ has. inl has)
-      (subst (λ (f : Answers). Contains (f other.port) it) answers ok)
+      (subst (λ (f : AnswerList). Contains (f other.port) it) answers ok)
     where
       it : ℕ × Response
       it = (other.number, Given reply.Ok)
@@ -106,10 +106,10 @@ module _ (i j : ℕ) (es fs : List (Event Action)) (ts : List (ℕ × Report)) (
       }
 
   module _ (own : j ≡ i) where
-    abbrev s : Answers
+    abbrev s : AnswerList
     s = answers_by i ts
 
-    abbrev t : Answers
+    abbrev t : AnswerList
     t = answers_by i later
 
     now_is : (o : Option (OpId × Response)) → reported.gave ≡ o → t ≡ and_gave s o

@@ -26,7 +26,7 @@ use Rattle.pg_step.specs.State.{State, Response, live_nodes}
 use Rattle.pg_step.specs.Step.{CLOCK_LIMIT, Action, Issue, Retry, acted}
 use Rattle.pg_step.specs.Turns.{NodeTurn, Report}
 use Rattle.pg_history.specs.Counted.{CountsCommands, open_at, open_in}
-use Rattle.pg_history.specs.History.{Answers, answers_by}
+use Rattle.pg_history.specs.History.{AnswerList, answers_by}
 use Rattle.pg_history.specs.Reached.{Reaches, TimedFrameWorld}
 use Rattle.pg_history.proofs.commands.Answered.{NoCommand}
 use Rattle.pg_history.proofs.commands.Counting.{Counts, Keeps, gave_at, counted_keeps_all}
@@ -116,7 +116,7 @@ counts_came (Own (Issue port c)) counts p = go (cases_eq port p)
         zero : (n : ℕ) → n ≡ n + 0
         zero n = omega arith
 
-given_length : (x : Answers) (gave : Option (OpId × Response)) (port : ℕ) → length (and_gave x gave port) ≡ length (x port) + gave_at port gave
+given_length : (x : AnswerList) (gave : Option (OpId × Response)) (port : ℕ) → length (and_gave x gave port) ≡ length (x port) + gave_at port gave
 given_length x None port = omega arith
 given_length x (Some (op, r)) port = go (cases_eq op.port port)
   where
@@ -135,7 +135,7 @@ pub record AllCounts (config : Config) (w : FrameWorld) (i : ℕ) : Type 0 where
   pub counts : Counts (ports_at config i) (w.node i)
   pub answered : (port : ℕ) → (w.node i).counts port ≡ length (answers_by i w.reported port) + open_at port (w.node i)
 
-abbrev Answering : FrameWorld → ℕ → State → Answers → Type 0
+abbrev Answering : FrameWorld → ℕ → State → AnswerList → Type 0
 Answering w i s x = (port : ℕ) → s.counts port ≡ length (x port) + open_at port s
 
 pub event_counts : (config : Config) (w v : FrameWorld) (e : Event Action) → Happened (machine_of config) w e v → ((i : ℕ) → AllCounts config w i) → (i : ℕ) → AllCounts config v i

@@ -13,17 +13,17 @@ use Rattle.pg_step.specs.State.{State, Stage, Response}
 use Rattle.pg_step.specs.State.Stage.{Closed, Waiting, Asking, Changing}
 use Rattle.pg_step.specs.Turns.{Report}
 use Rattle.pg_step.specs.Attempts.{same_op}
-use Rattle.pg_history.specs.History.{Answers, is_op as tells_op, has_answer, answers_to}
+use Rattle.pg_history.specs.History.{AnswerList, is_op as tells_op, has_answer, answers_to}
 use Rattle.pg_history.specs.ReferencesFit.{ReferencesFit}
 use Rattle.pg_history.proofs.references.Fitting.{op_is}
 
 -- ---- answers, with one more
 
-abbrev pub with_answer : Answers → OpId → Response → Answers
+abbrev pub with_answer : AnswerList → OpId → Response → AnswerList
 with_answer answers op response = upd nat_eq answers op.port (answers op.port ++ (op.number, response) ∷ [])
 
 -- the answers after a turn that gave this
-abbrev pub and_gave : Answers → Option (OpId × Response) → Answers
+abbrev pub and_gave : AnswerList → Option (OpId × Response) → AnswerList
 and_gave answers None = answers
 and_gave answers (Some (op, response)) = with_answer answers op response
 
@@ -40,7 +40,7 @@ may_begin has (Changing n) = 0
 may_begin has Closed = cond has 0 1
 may_begin has _ = 1
 
-abbrev pub chance : OpId → Answers → State → ℕ
+abbrev pub chance : OpId → AnswerList → State → ℕ
 chance op x s = may_begin (has_answer op x) (s.stages op)
 
 abbrev pub begun_by : OpId → Option (OpId × Update) → ℕ
@@ -51,7 +51,7 @@ abbrev pub answered_by : OpId → Option OpId → ℕ
 answered_by op o = cond (tells_op op o) 1 0
 
 -- From the state s, with these answers, a turn that told this came to the state t.
-pub record Stands (op : OpId) (x : Answers) (s t : State) (reported : Report) : Type 0 where
+pub record Stands (op : OpId) (x : AnswerList) (s t : State) (reported : Report) : Type 0 where
   -- who begins has no chance more, and no chance comes
   pub spends : begun_by op reported.began + chance op (and_gave x reported.gave) t ≤ chance op x s
   -- what was begun is under way until it is answered
@@ -74,7 +74,7 @@ no_more : (n k : ℕ) → n ≤ k → 0 + n ≤ k
 no_more n k within = omega arith
 
 -- a command whose stage stays
-pub stands_still : (op : OpId) (x : Answers) (s t : State) (reported : Report) → t.stages op ≡ s.stages op → begun_by op reported.began ≡ 0 → answered_by op reported.answered ≡ 0
+pub stands_still : (op : OpId) (x : AnswerList) (s t : State) (reported : Report) → t.stages op ≡ s.stages op → begun_by op reported.began ≡ 0 → answered_by op reported.answered ≡ 0
     → (has_answer op x ≡ true → has_answer op (and_gave x reported.gave) ≡ true) → Stands op x s t reported
 stands_still op x s t reported stage began answered has =
     let y = and_gave x reported.gave in
@@ -86,7 +86,7 @@ stands_still op x s t reported stage began answered has =
     }
 
 -- a command that comes from one stage to another
-pub stands_by : (op : OpId) (x : Answers) (s t : State) (reported : Report) (old new : Stage) (began answered : ℕ) → s.stages op ≡ old → t.stages op ≡ new
+pub stands_by : (op : OpId) (x : AnswerList) (s t : State) (reported : Report) (old new : Stage) (began answered : ℕ) → s.stages op ≡ old → t.stages op ≡ new
     → begun_by op reported.began ≡ began → answered_by op reported.answered ≡ answered
     → began + may_begin (has_answer op (and_gave x reported.gave)) new ≤ may_begin (has_answer op x) old → under_way new + answered ≡ under_way old + began → Stands op x s t reported
 stands_by op x s t reported old new began answered was is begins answers chances counts =
@@ -111,10 +111,10 @@ each_op Q op own others other = go (same_op op other) (same_op other op) refl re
 -- ---- answers
 
 -- a command has one answer, or none
-abbrev pub HasOne : OpId → Answers → Type 0
+abbrev pub HasOne : OpId → AnswerList → Type 0
 HasOne op x = answers_to op x ≤ cond (has_answer op x) 1 0
 
-pub one_at_most : (op : OpId) (x : Answers) → HasOne op x → answers_to op x ≤ 1
+pub one_at_most : (op : OpId) (x : AnswerList) → HasOne op x → answers_to op x ≤ 1
 one_at_most op x one = go (has_answer op x) one
   where
     go : (b : Bool) → answers_to op x ≤ cond b 1 0 → answers_to op x ≤ 1
@@ -139,9 +139,9 @@ any_one true y e f = refl
 any_one false true e f = absurd (cc)
 any_one false false e f = absurd (cc)
 
-module _ (op : OpId) (r : Response) (s t : Answers) (answers : t ≡ with_answer s op r) where
+module _ (op : OpId) (r : Response) (s t : AnswerList) (answers : t ≡ with_answer s op r) where
   has_by : (other : OpId) → has_answer other t ≡ list_any (λ a. nat_eq a.0 other.number) (with_answer s op r other.port)
-  has_by other = ap (λ (f : Answers). list_any (λ a. nat_eq a.0 other.number) (f other.port)) answers
+  has_by other = ap (λ (f : AnswerList). list_any (λ a. nat_eq a.0 other.number) (f other.port)) answers
 
   pub has_it : has_answer op t ≡ true
   has_it =
@@ -172,7 +172,7 @@ module _ (op : OpId) (r : Response) (s t : Answers) (answers : t ≡ with_answer
       number same = sym (ap (λ b. b && nat_eq op.number other.number) same) ∙ apart
 
   counts_by : (other : OpId) → answers_to other t ≡ count_by (λ a. nat_eq a.0 other.number) (with_answer s op r other.port)
-  counts_by other = ap (λ (f : Answers). count_by (λ a. nat_eq a.0 other.number) (f other.port)) answers
+  counts_by other = ap (λ (f : AnswerList). count_by (λ a. nat_eq a.0 other.number) (f other.port)) answers
 
   counts_it : answers_to op t ≡ answers_to op s + 1
   counts_it = counts_by op ∙ ap (count_by test) (upd_at nat_eq s op.port (s op.port ++ (op.number, r) ∷ []) (eq-eqb op.port op.port refl))
@@ -221,7 +221,7 @@ module _ (op : OpId) (r : Response) (s t : Answers) (answers : t ≡ with_answer
 
 -- ---- what is kept
 
-pub record Kept (x : Answers) (s : State) : Type 0 where
+pub record Kept (x : AnswerList) (s : State) : Type 0 where
   pub fitting : ReferencesFit s
   -- a command with an answer has come in, and is open no more
   pub over : (op : OpId) → has_answer op x ≡ true → (s.stages op ≡ Closed) × (op.number ≤ s.counts op.port)

@@ -20,7 +20,7 @@ use Rattle.pg_step.specs.Attempts.{same_op}
 use Rattle.pg_step.specs.Commands.{next_op, count_command}
 use Rattle.pg_step.specs.Config.{Config, name_at, nodes_at, ports_at}
 use Rattle.pg_step.specs.FrameMachine.{node_step, machine_of, FrameWorld}
-use Rattle.pg_history.specs.History.{Answers, answer_at, answer_by, answers_by, Entry, entry_of, entries}
+use Rattle.pg_history.specs.History.{AnswerList, answer_at, answer_by, answers_by, Entry, entry_of, entries}
 use Rattle.pg_history.specs.History.{times, answered_count, has_answer, answers_to, is_op as tells_op}
 use Rattle.pg_machine.proofs.Steps.{changes}
 use Rattle.pg_machine.proofs.Sequences.{kept}
@@ -39,7 +39,7 @@ use Rattle.pg_history.proofs.commands.StandTurns.{Unanswered, KeepsQuiet, KeepsA
 -- ---- a step
 
 -- a command that comes in has no answer
-new_unanswered : (x : Answers) (s : State) → Kept x s → (port : ℕ) → Unanswered x (next_op port s) ((count_command port s).state)
+new_unanswered : (x : AnswerList) (s : State) → Kept x s → (port : ℕ) → Unanswered x (next_op port s) ((count_command port s).state)
 new_unanswered x s all port = (new_op s all.fitting port, go (has_answer (next_op port s) x) refl)
   where
     late : s.counts port + 1 ≤ s.counts port → ⊥
@@ -49,7 +49,7 @@ new_unanswered x s all port = (new_op s all.fitting port, go (has_answer (next_o
     go false is = is
     go true is = absurd (late (all.over (next_op port s) is).1)
 
-step_stands : (x : Answers) (config : Config) (i : ℕ) (s : State) (input : Input Message Action) (turn : Turn State Message Report) → node_step config i s input ≡ Some turn
+step_stands : (x : AnswerList) (config : Config) (i : ℕ) (s : State) (input : Input Message Action) (turn : Turn State Message Report) → node_step config i s input ≡ Some turn
     → Kept x s → Kept (and_gave x turn.reported.gave) turn.state × ((op : OpId) → Stands op x s turn.state turn.reported)
 step_stands x config i s (Taken p message) turn is all =
     let m = live_nodes (nodes_at config i) s in
@@ -112,7 +112,7 @@ more_answered i j op (t ∷ ts) reported =
 
 -- ---- answers
 
-with_answer_at : (x : Answers) (op : OpId) (r : Response) (port : ℕ) → with_answer x op r port ≡ cond (nat_eq op.port port) (x op.port ++ (op.number, r) ∷ []) (x port)
+with_answer_at : (x : AnswerList) (op : OpId) (r : Response) (port : ℕ) → with_answer x op r port ≡ cond (nat_eq op.port port) (x op.port ++ (op.number, r) ∷ []) (x port)
 unfolding upd
 with_answer_at x op r port = refl
 
@@ -125,16 +125,16 @@ more_answers i j ts reported = λ k port. (told_append (answer_by i port) ts ((j
     given port op r true e = ap (λ p. answers_by i ts p ++ (op.number, r) ∷ []) (sym (eqb-true op.port port e))
     given port op r false e = append-nil (answers_by i ts port)
 
-    go : (port : ℕ) (b : Bool) (o : Option (OpId × Response)) → answers_by i ts port ++ cond b (answer_at port o) [] ≡ cond {A = Answers} b (and_gave (answers_by i ts) o) (answers_by i ts) port
+    go : (port : ℕ) (b : Bool) (o : Option (OpId × Response)) → answers_by i ts port ++ cond b (answer_at port o) [] ≡ cond {A = AnswerList} b (and_gave (answers_by i ts) o) (answers_by i ts) port
     go port false o = append-nil (answers_by i ts port)
     go port true None = append-nil (answers_by i ts port)
     go port true (Some (op, r)) = given port op r (nat_eq op.port port) refl ∙ sym (with_answer_at (answers_by i ts) op r port)
 
 pub own_answers : (i j : ℕ) (ts : List (ℕ × Report)) (reported : Report) → j ≡ i → answers_by i (ts ++ (j, reported) ∷ []) ≡ and_gave (answers_by i ts) reported.gave
-own_answers i j ts reported own = more_answers i j ts reported ∙ ap (λ b. cond {A = Answers} b (and_gave (answers_by i ts) reported.gave) (answers_by i ts)) (eq-eqb j i own)
+own_answers i j ts reported own = more_answers i j ts reported ∙ ap (λ b. cond {A = AnswerList} b (and_gave (answers_by i ts) reported.gave) (answers_by i ts)) (eq-eqb j i own)
 
 pub other_answers : (i j : ℕ) (ts : List (ℕ × Report)) (reported : Report) → j ≢ i → answers_by i (ts ++ (j, reported) ∷ []) ≡ answers_by i ts
-other_answers i j ts reported other = more_answers i j ts reported ∙ ap (λ b. cond {A = Answers} b (and_gave (answers_by i ts) reported.gave) (answers_by i ts)) (ne_eqb j i other)
+other_answers i j ts reported other = more_answers i j ts reported ∙ ap (λ b. cond {A = AnswerList} b (and_gave (answers_by i ts) reported.gave) (answers_by i ts)) (ne_eqb j i other)
 
 -- ---- runs
 

@@ -17,7 +17,7 @@ use Rattle.pg_step.specs.Turns.{NodeTurn, Report, nothing, becomes, and_then, fi
 use Rattle.pg_step.specs.Attempts.{same_op, new_attempt, ask, give_up, begin, finish, count_answer, count_ok, strange}
 use Rattle.pg_step.specs.Peers.{lock_request, update_request, lock_freed}
 use Rattle.pg_step.specs.Commands.{answer, open_command, make, count_command}
-use Rattle.pg_history.specs.History.{Answers, has_answer}
+use Rattle.pg_history.specs.History.{AnswerList, has_answer}
 use Rattle.pg_history.proofs.steps.Single.{AnyUpdate, OfSingle}
 use Rattle.pg_history.proofs.references.Fitting.{Keeps, NewOp, op_is, is_op, fit_at}
 use Rattle.pg_history.proofs.references.FittingTurns.{waits_closed, asks_closed}
@@ -26,7 +26,7 @@ use Rattle.pg_history.proofs.commands.Stand.{Stands, Kept, begun_by, answered_by
 use Rattle.pg_history.proofs.commands.Stand.{may_begin, stands_still, stands_by, each_op, with_answer}
 use Rattle.pg_history.proofs.commands.Stand.{and_gave, has_it, has_still, had, one_each, open_is_in}
 
-module _ (x : Answers) where
+module _ (x : AnswerList) where
   -- a new command has no answer
   abbrev pub Unanswered : OpId → State → Type 0
   Unanswered op s = NewOp op s × (has_answer op x ≡ false)

@@ -30,7 +30,7 @@ use Rattle.pg_step.specs.declared.refusal.Refusal.{Refusal}
 use Rattle.pg_step.specs.declared.refusal.Refusal.TheVariants.{NotAMessage, NoSuchPlace}
 use Rattle.pg_step.specs.declared.refusal.Refusal.TheVariants.{NotWaiting, NodeLost, ClockFull}
 use Rattle.pg_history.specs.Reached.{TimedFrameWorld, Reaches}
-use Rattle.pg_history.specs.ReferencesFit.{Follows}
+use Rattle.pg_history.specs.ReferencesFit.{UseFollows}
 use Rattle.pg_history.proofs.steps.Single.{Makes, ok_is}
 use Rattle.pg_history.proofs.steps.Lossless.{takes_all, nobody_timed}
 use Rattle.pg_history.proofs.steps.Lasting.{stay_merged}
@@ -49,7 +49,7 @@ IsGathering (Updating op u c replied) said = not (is_of_lock said) ≡ true
 IsGathering _ said = ⊥
 
 -- the kind stays the same as long as the reference is in use
-same_kind : (a b : Use) (said : Said) → Follows a b → IsGathering b said → is_kind a said ≡ true
+same_kind : (a b : Use) (said : Said) → UseFollows a b → IsGathering b said → is_kind a said ≡ true
 same_kind Fresh b said f g = refl
 same_kind (Owning name n) b said f g = refl
 same_kind Spent b said f g = refl
@@ -94,11 +94,11 @@ module _ (m : Nodes) (p : Node) (n : ℕ) (said : Said) where
 
 -- ---- any message
 
-module _ (m : Nodes) (p : Node) (s v : State) (merged : (q : Node) → s.merged q ≡ true → v.merged q ≡ true) (follows : (c : ℕ) → Follows (s.uses c) (v.uses c)) where
-  use_follows : (r : RefParts) → Follows (use_of m r s) (use_of m r v)
+module _ (m : Nodes) (p : Node) (s v : State) (merged : (q : Node) → s.merged q ≡ true → v.merged q ≡ true) (follows : (c : ℕ) → UseFollows (s.uses c) (v.uses c)) where
+  use_follows : (r : RefParts) → UseFollows (use_of m r s) (use_of m r v)
   use_follows r = go (ref_eq (own_reference m (number_in r)) r) (follows (number_in r))
     where
-      go : (b : Bool) → Follows (s.uses (number_in r)) (v.uses (number_in r)) → Follows (cond b (s.uses (number_in r)) Spent) (cond b (v.uses (number_in r)) Spent)
+      go : (b : Bool) → UseFollows (s.uses (number_in r)) (v.uses (number_in r)) → UseFollows (cond b (s.uses (number_in r)) Spent) (cond b (v.uses (number_in r)) Spent)
       go true f = f
       go false f = tt
 

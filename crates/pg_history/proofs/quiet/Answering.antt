@@ -27,7 +27,7 @@ use Rattle.pg_machine.proofs.Sequences.{whole}
 use Rattle.pg_machine.proofs.Steps.{happened}
 use Rattle.pg_history.specs.Counted.{is_open, open_at, open_in}
 use Rattle.pg_history.specs.History.{IsAnsweredOk, answers_by, has_answer}
-use Rattle.pg_history.specs.Quiet.{HasRoom, IsQuiet, NoneOpen, OnlyTakes}
+use Rattle.pg_history.specs.Quiet.{HasClockRoom, IsQuiet, NoneOpen, OnlyTakes}
 use Rattle.pg_history.specs.Quiet.{OnlyTakesAndRetries, RetryGoes, most_events, peer_count}
 use Rattle.pg_history.specs.Reached.{TimedFrameWorld, Reaches}
 use Rattle.pg_history.proofs.commands.CountRuns.{AllCounts, all_counted}
@@ -274,7 +274,7 @@ module _ (config : Config) (apart : IsDistinct same_atom (names_of config)) wher
   abbrev enough : ℕ
   enough = 1 + 5 * peer_count config
 
-  module _ (events : List (Event Action)) (w : TimedFrameWorld) (l : Reaches config events w) (quiet : IsQuiet config (plain w)) (found : OpenOne w) (room : HasRoom config w enough) where
+  module _ (events : List (Event Action)) (w : TimedFrameWorld) (l : Reaches config events w) (quiet : IsQuiet config (plain w)) (found : OpenOne w) (room : HasClockRoom config w enough) where
     abbrev i : ℕ
     i = found.place
 
@@ -292,7 +292,7 @@ module _ (config : Config) (apart : IsDistinct same_atom (names_of config)) wher
     goes : (count : ℕ) (d : Driven count) → RetryGoes config i op (length d.takes) d.world
     goes count d = retry_goes config apart i found.here events w l quiet op found.is room d.takes d.only d.world d.leads
 
-    some_room : HasRoom config w 1
+    some_room : HasClockRoom config w 1
     some_room j here = let all : (w.node j).clock + (1 + 5 * peer_count config) ≤ CLOCK_LIMIT = room j here in omega (arith, all)
 
     one_more : (count : ℕ) → count < 5 * peer_count config → Driven count → Driven (suc count)
@@ -371,21 +371,21 @@ module _ (config : Config) (apart : IsDistinct same_atom (names_of config)) wher
       let all : (w.node found.place).state.opened ≤ opened w = total_term n found.place (λ i. (w.node i).state.opened) ((Decides-ltb found.place n).0 found.here) in
       omega (arith, one, all)
 
-  answered_within : (k : ℕ) (events : List (Event Action)) (w : TimedFrameWorld) → Reaches config events w → IsQuiet config (plain w) → opened w ≤ k → HasRoom config w (enough * k) → OpenOne w ⊎ NoneOpen config (plain w) → AllAnswered w
+  answered_within : (k : ℕ) (events : List (Event Action)) (w : TimedFrameWorld) → Reaches config events w → IsQuiet config (plain w) → opened w ≤ k → HasClockRoom config w (enough * k) → OpenOne w ⊎ NoneOpen config (plain w) → AllAnswered w
   answered_within k events w l quiet few room (inr none) = record { more = []; world = w; only = tt; leads = refl; none_open = none; quiet = quiet }
   answered_within zero events w l quiet few room (inl found) = let some : 1 ≤ opened w = some_opened events w l found in absurd (omega (arith, some, few))
   answered_within (suc k) events w l quiet few room (inl found) =
       let sum : enough * suc k ≡ enough * k + enough = mul-suc enough k in
-      let free : HasRoom config w enough = λ i here. let all : (w.node i).clock + enough * suc k ≤ CLOCK_LIMIT = room i here in omega (arith, all, sum) in
+      let free : HasClockRoom config w enough = λ i here. let all : (w.node i).clock + enough * suc k ≤ CLOCK_LIMIT = room i here in omega (arith, all, sum) in
       let one = one_answered events w l quiet found free in
       let less : opened one.world < opened w = one.fewer in
       let many : length one.more ≡ enough = one.many in
       let reached = whole (frame_machine config) events one.more (start_of (frame_machine config)) w one.world l one.leads in
-      let left : HasRoom config one.world (enough * k) = room_run config one.more w one.world (enough * k) one.leads (on_time config apart events w l)
+      let left : HasClockRoom config one.world (enough * k) = room_run config one.more w one.world (enough * k) one.leads (on_time config apart events w l)
       (λ i here. let all : (w.node i).clock + enough * suc k ≤ CLOCK_LIMIT = room i here in omega (arith, all, sum, many)) in
       behind w one.world one.more one.only one.leads (answered_within k (events ++ one.more) one.world reached one.rests (omega (arith, less, few)) left (open_or_none (events ++ one.more) one.world reached))
 
-  pub all_answered : (events : List (Event Action)) (w : TimedFrameWorld) → Reaches config events w → HasRoom config w (most_events config (plain w)) → AllAnswered w
+  pub all_answered : (events : List (Event Action)) (w : TimedFrameWorld) → Reaches config events w → HasClockRoom config w (most_events config (plain w)) → AllAnswered w
   all_answered events w l room = behind w rest.world rest.takes only rest.leads
       (answered_within (opened w) (events ++ rest.takes) rest.world reached rest.quiet few rest.left (open_or_none (events ++ rest.takes) rest.world reached))
     where

@@ -23,7 +23,7 @@ use Rattle.pg_machine.proofs.Plain.{plain_event, plain_leads}
 use Rattle.pg_machine.proofs.Sequences.{whole}
 use Rattle.pg_machine.proofs.Steps.{changes, happened, pair_apart}
 use Rattle.pg_machine.proofs.Timing.{timely_run, timely_start}
-use Rattle.pg_history.specs.Quiet.{HasRoom, IsQuiet, OnlyTakes, most_takes}
+use Rattle.pg_history.specs.Quiet.{HasClockRoom, IsQuiet, OnlyTakes, most_takes}
 use Rattle.pg_history.specs.Reached.{TimedFrameWorld, Reaches}
 use Rattle.pg_history.proofs.ends.Apart.{pair_first, pair_second, pair_swapped}
 use Rattle.pg_history.proofs.places.Clauses.{harmless}
@@ -168,7 +168,7 @@ module _ (config : Config) (apart : IsDistinct same_atom (names_of config)) wher
   pub on_time : (events : List (Event Action)) (w : TimedFrameWorld) → Reaches config events w → IsTimely CLOCK_LIMIT w
   on_time events w l = timely_run (machine_of config) CLOCK_LIMIT events (start_of (frame_machine config)) w l (timely_start (machine_of config) CLOCK_LIMIT)
 
-  pub next_is_taken : (events : List (Event Action)) (w : TimedFrameWorld) → Reaches config events w → HasRoom config w 1 → (x y : ℕ) (packet : Stamped Message) (rest : List (Stamped Message)) → is_pair n x y ≡ true
+  pub next_is_taken : (events : List (Event Action)) (w : TimedFrameWorld) → Reaches config events w → HasClockRoom config w 1 → (x y : ℕ) (packet : Stamped Message) (rest : List (Stamped Message)) → is_pair n x y ≡ true
       → w.wire x y ≡ packet ∷ rest → (u : TimedFrameWorld) × (happens (frame_machine config) w (Take y x) ≡ Some u)
   next_is_taken events w l room x y packet rest pair is =
       let swapped = pair_swapped n x y pair in
@@ -223,7 +223,7 @@ module _ (config : Config) (apart : IsDistinct same_atom (names_of config)) wher
     pub only : OnlyTakes takes
     pub leads : Leads (frame_machine config) w takes world
     pub quiet : IsQuiet config (plain world)
-    pub left : HasRoom config world room
+    pub left : HasClockRoom config world room
 
   later : (events : List (Event Action)) (w u : TimedFrameWorld) (i p : ℕ) → Reaches config events w → happens (frame_machine config) w (Take i p) ≡ Some u → Reaches config (events ++ Take i p ∷ []) u
   later events w u i p l is = whole (frame_machine config) events (Take i p ∷ []) (start_of (frame_machine config)) w u l (u, is, refl)
@@ -233,8 +233,8 @@ module _ (config : Config) (apart : IsDistinct same_atom (names_of config)) wher
       weighs_less (plain w) (plain u) i p (happened (machine_of config) (plain w) (plain u) (Take i p) (plain_event (machine_of config) CLOCK_LIMIT w u (Take i p) is)) (nobody_timed config events w l) (all_made events w l)
 
   -- one packet is taken, and what follows it
-  rests_behind : (events : List (Event Action)) (w : TimedFrameWorld) → Reaches config events w → (k room : ℕ) → HasRoom config w (suc k + room) → (next : Next w)
-      → ((u : TimedFrameWorld) → happens (frame_machine config) w (Take next.to next.from) ≡ Some u → HasRoom config u (k + room) → Rests u room) → Rests w room
+  rests_behind : (events : List (Event Action)) (w : TimedFrameWorld) → Reaches config events w → (k room : ℕ) → HasClockRoom config w (suc k + room) → (next : Next w)
+      → ((u : TimedFrameWorld) → happens (frame_machine config) w (Take next.to next.from) ≡ Some u → HasClockRoom config u (k + room) → Rests u room) → Rests w room
   rests_behind events w l k room free next again =
       let one = next_is_taken events w l (λ i here. let all : (w.node i).clock + (suc k + room) ≤ CLOCK_LIMIT = free i here in omega (arith, all)) next.from next.to next.packet next.rest next.pair next.is in
       let left = room_left config w one.0 (Take next.to next.from) (happened (frame_machine config) w one.0 (Take next.to next.from) one.1) (k + room) (on_time events w l)
@@ -242,7 +242,7 @@ module _ (config : Config) (apart : IsDistinct same_atom (names_of config)) wher
       let rest = again one.0 one.1 left in
       record { takes = Take next.to next.from ∷ rest.takes; world = rest.world; only = rest.only; leads = (one.0, one.1, rest.leads); quiet = rest.quiet; left = rest.left }
 
-  rests_here : (w : TimedFrameWorld) (k room : ℕ) → HasRoom config w (k + room) → IsQuiet config (plain w) → Rests w room
+  rests_here : (w : TimedFrameWorld) (k room : ℕ) → HasClockRoom config w (k + room) → IsQuiet config (plain w) → Rests w room
   rests_here w k room free quiet = record {
     takes = [];
     world = w;
@@ -252,12 +252,12 @@ module _ (config : Config) (apart : IsDistinct same_atom (names_of config)) wher
     left = λ i here. let all : (w.node i).clock + (k + room) ≤ CLOCK_LIMIT = free i here in omega (arith, all);
   }
 
-  rests_within : (k room : ℕ) (events : List (Event Action)) (w : TimedFrameWorld) → Reaches config events w → world_weight (plain w) ≤ k → HasRoom config w (k + room) → Next w ⊎ IsQuiet config (plain w) → Rests w room
+  rests_within : (k room : ℕ) (events : List (Event Action)) (w : TimedFrameWorld) → Reaches config events w → world_weight (plain w) ≤ k → HasClockRoom config w (k + room) → Next w ⊎ IsQuiet config (plain w) → Rests w room
   rests_within k room events w l light free (inr quiet) = rests_here w k room free quiet
   rests_within zero room events w l light free (inl next) = let some : 1 ≤ world_weight (plain w) = next_weighs w next in absurd (omega (arith, some, light))
   rests_within (suc k) room events w l light free (inl next) = rests_behind events w l k room free next
       (λ u is left. let less : world_weight (plain u) + 1 ≤ world_weight (plain w) = lighter events w u next.to next.from l is in
       rests_within k room (events ++ Take next.to next.from ∷ []) u (later events w u next.to next.from l is) (omega (arith, less, light)) left (next_or_quiet u))
 
-  pub comes_to_rest : (events : List (Event Action)) (w : TimedFrameWorld) → Reaches config events w → (room : ℕ) → HasRoom config w (most_takes config (plain w) + room) → Rests w room
+  pub comes_to_rest : (events : List (Event Action)) (w : TimedFrameWorld) → Reaches config events w → (room : ℕ) → HasClockRoom config w (most_takes config (plain w) + room) → Rests w room
   comes_to_rest events w l room free = rests_within (most_takes config (plain w)) room events w l (few_takes config apart events w l) free (next_or_quiet w)

@@ -35,7 +35,7 @@ use Rattle.pg_machine.proofs.Timing.{timely_run, timely_start}
 use Rattle.pg_machine.specs.Timely.{IsTimely}
 use Rattle.pg_history.specs.Counted.{is_open}
 use Rattle.pg_history.specs.History.{IsAnsweredOk, answers_by}
-use Rattle.pg_history.specs.Quiet.{HasRoom, IsQuiet, OnlyTakes, RetryGoes, is_waiting, peer_count}
+use Rattle.pg_history.specs.Quiet.{HasClockRoom, IsQuiet, OnlyTakes, RetryGoes, is_waiting, peer_count}
 use Rattle.pg_history.specs.Reached.{TimedFrameWorld, Reaches}
 use Rattle.pg_history.proofs.commands.CountRuns.{all_counted}
 use Rattle.pg_history.proofs.ends.Apart.{pair_second, pair_swapped}
@@ -398,7 +398,7 @@ module _ (config : Config) (apart : IsDistinct same_atom (names_of config)) (h :
   timely = timely_run (machine_of config) CLOCK_LIMIT events (start_of (frame_machine config)) w reached (timely_start (machine_of config) CLOCK_LIMIT)
 
   -- the retry is no event that is refused
-  pub retry_happens : HasRoom config w 1 → (v : TimedFrameWorld) × (happens (frame_machine config) w (Do h (Retry op)) ≡ Some v)
+  pub retry_happens : HasClockRoom config w 1 → (v : TimedFrameWorld) × (happens (frame_machine config) w (Do h (Retry op)) ≡ Some v)
   retry_happens room = does config w h (Retry op) here room (place_turn config (attempt m op waiting.0 s)) (
       ap (λ z. placed config (acted m z (ports_at config h) (Retry op) s)) (live_all m s (rests.bridged.nobody h))
       ∙ ap (λ b. placed config (cond b (cond (waits m (s.stages op) s) (Ok (tried_again (s.stages op) m op s)) (Err NotWaiting)) (Err NoSuchPlace))) there
@@ -413,7 +413,7 @@ module _ (config : Config) (apart : IsDistinct same_atom (names_of config)) (h :
       there : nat_lt op.port (ports_at config h) ≡ true
       there = lt-ltb op.port (ports_at config h) ((all_counted config w events h reached).counts.within op opened).1
 
-  module _ (room : HasRoom config w (1 + 5 * peer_count config)) (es : List (Event Action)) (only : OnlyTakes es) (v : TimedFrameWorld) (l : Leads (frame_machine config) w (Do h (Retry op) ∷ es) v) where
+  module _ (room : HasClockRoom config w (1 + 5 * peer_count config)) (es : List (Event Action)) (only : OnlyTakes es) (v : TimedFrameWorld) (l : Leads (frame_machine config) w (Do h (Retry op) ∷ es) v) where
     abbrev u : Update
     u = waiting.0
 
@@ -448,7 +448,7 @@ module _ (config : Config) (apart : IsDistinct same_atom (names_of config)) (h :
     timely_later : IsTimely CLOCK_LIMIT v
     timely_later = timely_run (machine_of config) CLOCK_LIMIT (Do h (Retry op) ∷ es) w v l timely
 
-    room_later : HasRoom config v now
+    room_later : HasClockRoom config v now
     room_later = room_run config (Do h (Retry op) ∷ es) w v now l timely (λ i there. let before : (w.node i).clock + (1 + 5 * peer_count config) ≤ CLOCK_LIMIT = room i there in omega (arith, before, sum))
 
     as_many : nat_lt (peer_count config) now ≡ nat_lt (length es) (4 * peer_count config)

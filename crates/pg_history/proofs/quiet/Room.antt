@@ -22,14 +22,14 @@ use Rattle.pg_machine.proofs.Steps.{happened, happens_so}
 use Rattle.pg_machine.specs.Runs.{Leads}
 use Rattle.pg_machine.proofs.Timing.{ticks}
 use Rattle.pg_machine.proofs.Timing.{timely as on_time_after}
-use Rattle.pg_history.specs.Quiet.{HasRoom}
+use Rattle.pg_history.specs.Quiet.{HasClockRoom}
 use Rattle.pg_history.specs.Reached.{TimedFrameWorld}
 use Rattle.pg_history.proofs.ends.Apart.{pair_first, pair_second}
 use Rattle.pg_history.proofs.places.Shown.{IsHere}
 use Rattle.pg_history.proofs.steps.Ways.{packet_there, pair_there}
 
 module _ (config : Config) where
-  next_within : (w v : TimedFrameWorld) (e : Event Action) (happened : Happened (frame_machine config) w e v) (k : ℕ) → IsTimely CLOCK_LIMIT w → HasRoom config w (suc k) → IsHere config (node_of e)
+  next_within : (w v : TimedFrameWorld) (e : Event Action) (happened : Happened (frame_machine config) w e v) (k : ℕ) → IsTimely CLOCK_LIMIT w → HasClockRoom config w (suc k) → IsHere config (node_of e)
       → (input : Input (Stamped Message) Action) → happened.input ≡ input → next_clock (w.node (node_of e)).clock input + k ≤ CLOCK_LIMIT
   next_within w v e happened k timely room here (Own action) is = let own : (w.node (node_of e)).clock + suc k ≤ CLOCK_LIMIT = room (node_of e) here in omega (arith, own)
   next_within w v e happened k timely room here (Taken p x) is =
@@ -40,7 +40,7 @@ module _ (config : Config) where
       let peer : (w.node p).clock + suc k ≤ CLOCK_LIMIT = room p there in
       omega (arith, stamp, own, peer)
 
-  pub room_left : (w v : TimedFrameWorld) (e : Event Action) (happened : Happened (frame_machine config) w e v) (k : ℕ) → IsTimely CLOCK_LIMIT w → HasRoom config w (suc k) → HasRoom config v k
+  pub room_left : (w v : TimedFrameWorld) (e : Event Action) (happened : Happened (frame_machine config) w e v) (k : ℕ) → IsTimely CLOCK_LIMIT w → HasClockRoom config w (suc k) → HasClockRoom config v k
   room_left w v e happened k timely room i here = go (cases_eq i (node_of e))
     where
       go : (i ≡ node_of e) ⊎ (i ≡ node_of e → ⊥) → (v.node i).clock + k ≤ CLOCK_LIMIT
@@ -53,8 +53,8 @@ module _ (config : Config) where
           let before : (w.node i).clock + suc k ≤ CLOCK_LIMIT = room i here in
           omega (arith, same, before)
 
-  pub room_run : (es : List (Event Action)) (x v : TimedFrameWorld) (k : ℕ) → Leads (frame_machine config) x es v → IsTimely CLOCK_LIMIT x → HasRoom config x (length es + k) → HasRoom config v k
-  room_run [] x v k l on_time room = subst (λ z. HasRoom config z k) l (λ i there. let before : (x.node i).clock + (0 + k) ≤ CLOCK_LIMIT = room i there in omega (arith, before))
+  pub room_run : (es : List (Event Action)) (x v : TimedFrameWorld) (k : ℕ) → Leads (frame_machine config) x es v → IsTimely CLOCK_LIMIT x → HasClockRoom config x (length es + k) → HasClockRoom config v k
+  room_run [] x v k l on_time room = subst (λ z. HasClockRoom config z k) l (λ i there. let before : (x.node i).clock + (0 + k) ≤ CLOCK_LIMIT = room i there in omega (arith, before))
   room_run (e ∷ es) x v k l on_time room =
       let event = happened (frame_machine config) x l.0 e l.1 in
       room_run es l.0 v k l.2 (on_time_after (machine_of config) CLOCK_LIMIT x l.0 e event on_time) (room_left x l.0 e event (length es + k) on_time (λ i there. let before : (x.node i).clock + (suc (length es) + k) ≤ CLOCK_LIMIT = room i there in omega (arith, before)))
@@ -68,7 +68,7 @@ module _ (config : Config) where
       let all = map_is_some plain (happens (frame_machine config) v e) u (plain_happens (machine_of config) CLOCK_LIMIT v e ∙ ap (λ b. cond b (happens (machine_of config) (plain v) e) None) allows ∙ happened) in
       (all.0, all.1)
 
-  pub does : (v : TimedFrameWorld) (i : ℕ) (action : Action) → IsHere config i → HasRoom config v 1 → (turn : Turn State Message Report) → node_step config i (v.node i).state (Own action) ≡ Some turn
+  pub does : (v : TimedFrameWorld) (i : ℕ) (action : Action) → IsHere config i → HasClockRoom config v 1 → (turn : Turn State Message Report) → node_step config i (v.node i).state (Own action) ≡ Some turn
       → (x : TimedFrameWorld) × (happens (frame_machine config) v (Do i action) ≡ Some x)
   does v i action here room turn made =
       let own : (v.node i).clock + 1 ≤ CLOCK_LIMIT = room i here in
@@ -79,7 +79,7 @@ module _ (config : Config) where
   some_turn None some = absurd (some refl)
   some_turn (Some turn) some = (turn, refl)
 
-  pub takes_next : (v : TimedFrameWorld) (i p : ℕ) (packet : Stamped Message) (rest : List (Stamped Message)) → IsTimely CLOCK_LIMIT v → is_pair (length config) i p ≡ true → HasRoom config v 1
+  pub takes_next : (v : TimedFrameWorld) (i p : ℕ) (packet : Stamped Message) (rest : List (Stamped Message)) → IsTimely CLOCK_LIMIT v → is_pair (length config) i p ≡ true → HasClockRoom config v 1
       → v.wire p i ≡ packet ∷ rest → node_step config i (v.node i).state (Taken p packet.packet) ≢ None → (x : TimedFrameWorld) × (happens (frame_machine config) v (Take i p) ≡ Some x)
   takes_next v i p packet rest timely pair room first some =
       let made = some_turn (node_step config i (v.node i).state (Taken p packet.packet)) some in

@@ -23,7 +23,7 @@ use Rattle.pg_step.specs.FrameMachine.{node_step, machine_of, frame_machine, Fra
 use Rattle.pg_machine.proofs.Sequences.{kept}
 use Rattle.pg_machine.proofs.Plain.{plain_leads}
 use Rattle.pg_history.specs.Reached.{TimedFrameWorld, Reaches}
-use Rattle.pg_history.specs.ReferencesFit.{ReferencesFit, Follows}
+use Rattle.pg_history.specs.ReferencesFit.{ReferencesFit, UseFollows}
 use Rattle.pg_history.proofs.steps.Single.{AnyUpdate, OfSingle, acted_so, taken_so}
 use Rattle.pg_history.proofs.steps.Made.{took_so, did_so}
 use Rattle.pg_history.proofs.steps.Ways.{state_after}
@@ -33,7 +33,7 @@ use Rattle.pg_history.proofs.references.Fitting.{same_fitting}
 
 -- ---- uses
 
-follows_same : (x : Use) → Follows x x
+follows_same : (x : Use) → UseFollows x x
 follows_same Fresh = tt
 follows_same (Locking op u lead st) = (refl, refl)
 follows_same (Owning name n) = (refl, refl)
@@ -41,24 +41,24 @@ follows_same (Updating op u c replied) = (refl, refl, refl)
 follows_same Spent = tt
 
 -- a use may end at any time
-may_end : (x : Use) → Follows x Spent
+may_end : (x : Use) → UseFollows x Spent
 may_end Fresh = tt
 may_end (Locking op u lead st) = tt
 may_end (Owning name n) = tt
 may_end (Updating op u c replied) = tt
 may_end Spent = tt
 
-from_fresh : (x later : Use) → x ≡ Fresh → Follows x later
-from_fresh x later is = subst (λ y. Follows y later) (sym is) tt
+from_fresh : (x later : Use) → x ≡ Fresh → UseFollows x later
+from_fresh x later is = subst (λ y. UseFollows y later) (sym is) tt
 
-spent_stays : (z : Use) → Follows Spent z → z ≡ Spent
+spent_stays : (z : Use) → UseFollows Spent z → z ≡ Spent
 spent_stays Fresh q = absurd q
 spent_stays (Locking op u lead st) q = absurd q
 spent_stays (Owning name n) q = absurd q
 spent_stays (Updating op u c replied) q = absurd q
 spent_stays Spent q = refl
 
-follows_then : (x y z : Use) → Follows x y → Follows y z → Follows x z
+follows_then : (x y z : Use) → UseFollows x y → UseFollows y z → UseFollows x z
 follows_then Fresh y z p q = tt
 follows_then (Locking o1 u1 l1 s1) Fresh z p q = absurd p
 follows_then (Locking o1 u1 l1 s1) (Locking o2 u2 l2 s2) Fresh p q = absurd q
@@ -72,7 +72,7 @@ follows_then (Locking o1 u1 l1 s1) (Owning m2 n2) (Owning m3 n3) p q = sym q.0 �
 follows_then (Locking o1 u1 l1 s1) (Owning m2 n2) (Updating o3 u3 c3 r3) p q = absurd q
 follows_then (Locking o1 u1 l1 s1) (Owning m2 n2) Spent p q = tt
 follows_then (Locking o1 u1 l1 s1) (Updating o2 u2 c2 r2) z p q = absurd p
-follows_then (Locking o1 u1 l1 s1) Spent z p q = subst (Follows (Locking o1 u1 l1 s1)) (sym (spent_stays z q)) tt
+follows_then (Locking o1 u1 l1 s1) Spent z p q = subst (UseFollows (Locking o1 u1 l1 s1)) (sym (spent_stays z q)) tt
 follows_then (Owning m1 n1) Fresh z p q = absurd p
 follows_then (Owning m1 n1) (Locking o2 u2 l2 s2) z p q = absurd p
 follows_then (Owning m1 n1) (Owning m2 n2) Fresh p q = absurd q
@@ -81,7 +81,7 @@ follows_then (Owning m1 n1) (Owning m2 n2) (Owning m3 n3) p q = (p.0 ∙ q.0, p.
 follows_then (Owning m1 n1) (Owning m2 n2) (Updating o3 u3 c3 r3) p q = absurd q
 follows_then (Owning m1 n1) (Owning m2 n2) Spent p q = tt
 follows_then (Owning m1 n1) (Updating o2 u2 c2 r2) z p q = absurd p
-follows_then (Owning m1 n1) Spent z p q = subst (Follows (Owning m1 n1)) (sym (spent_stays z q)) tt
+follows_then (Owning m1 n1) Spent z p q = subst (UseFollows (Owning m1 n1)) (sym (spent_stays z q)) tt
 follows_then (Updating o1 u1 c1 r1) Fresh z p q = absurd p
 follows_then (Updating o1 u1 c1 r1) (Locking o2 u2 l2 s2) z p q = absurd p
 follows_then (Updating o1 u1 c1 r1) (Owning m2 n2) z p q = absurd p
@@ -90,25 +90,25 @@ follows_then (Updating o1 u1 c1 r1) (Updating o2 u2 c2 r2) (Locking o3 u3 l3 s3)
 follows_then (Updating o1 u1 c1 r1) (Updating o2 u2 c2 r2) (Owning m3 n3) p q = absurd q
 follows_then (Updating o1 u1 c1 r1) (Updating o2 u2 c2 r2) (Updating o3 u3 c3 r3) p q = (p.0 ∙ q.0, p.1 ∙ q.1, p.2 ∙ q.2)
 follows_then (Updating o1 u1 c1 r1) (Updating o2 u2 c2 r2) Spent p q = tt
-follows_then (Updating o1 u1 c1 r1) Spent z p q = subst (Follows (Updating o1 u1 c1 r1)) (sym (spent_stays z q)) tt
-follows_then Spent y z p q = subst (λ x. Follows x z) (spent_stays y p) q
+follows_then (Updating o1 u1 c1 r1) Spent z p q = subst (UseFollows (Updating o1 u1 c1 r1)) (sym (spent_stays z q)) tt
+follows_then Spent y z p q = subst (λ x. UseFollows x z) (spent_stays y p) q
 
 -- ---- single turns
 
 -- each use follows
 abbrev AllFollow : State → State → Type 0
-AllFollow s t = (c : ℕ) → Follows (s.uses c) (t.uses c)
+AllFollow s t = (c : ℕ) → UseFollows (s.uses c) (t.uses c)
 
 abbrev Goes : State → NodeTurn → Type 0
 Goes s t = ReferencesFit s → ReferencesFit t.state × AllFollow s t.state
 
 -- one use changes
-put : (uses : ℕ → Use) (k : ℕ) (new : Use) → Follows (uses k) new → (c : ℕ) → Follows (uses c) (upd nat_eq uses k new c)
-put uses k new f c = upd_by nat_eq uses k (λ x. Follows (uses c) x) new c (λ same. subst (λ d. Follows (uses d) new) (eqb-true k c same) f) (λ _. follows_same (uses c))
+put : (uses : ℕ → Use) (k : ℕ) (new : Use) → UseFollows (uses k) new → (c : ℕ) → UseFollows (uses c) (upd nat_eq uses k new c)
+put uses k new f c = upd_by nat_eq uses k (λ x. UseFollows (uses c) x) new c (λ same. subst (λ d. UseFollows (uses d) new) (eqb-true k c same) f) (λ _. follows_same (uses c))
 
 -- what is asked or answered changes
-relocks : (uses : ℕ → Use) (c : ℕ) (op : OpId) (u : Update) (lead : Node) (st later : Node → Status) → uses c ≡ Locking op u lead st → (d : ℕ) → Follows (uses d) (upd nat_eq uses c (Locking op u lead later) d)
-relocks uses c op u lead st later is = put uses c (Locking op u lead later) (subst (λ x. Follows x (Locking op u lead later)) (sym is) (refl, refl))
+relocks : (uses : ℕ → Use) (c : ℕ) (op : OpId) (u : Update) (lead : Node) (st later : Node → Status) → uses c ≡ Locking op u lead st → (d : ℕ) → UseFollows (uses d) (upd nat_eq uses c (Locking op u lead later) d)
+relocks uses c op u lead st later is = put uses c (Locking op u lead later) (subst (λ x. UseFollows x (Locking op u lead later)) (sym is) (refl, refl))
 
 both : (s t v : State) → (ReferencesFit s → ReferencesFit t × AllFollow s t) → (ReferencesFit t → ReferencesFit v × AllFollow t v) → ReferencesFit s → ReferencesFit v × AllFollow s v
 both s t v a b fitting =
@@ -120,15 +120,15 @@ none : (s : State) → AllFollow s s
 none s c = follows_same (s.uses c)
 
 module _ (m : Nodes) (s : State) (fitting : ReferencesFit s) where
-  attempts : (lead : Node) (op : OpId) (u : Update) (c : ℕ) → Follows (s.uses c) (upd nat_eq s.uses (s.references + 1) (Locking op u lead (λ q. Unasked)) c)
+  attempts : (lead : Node) (op : OpId) (u : Update) (c : ℕ) → UseFollows (s.uses c) (upd nat_eq s.uses (s.references + 1) (Locking op u lead (λ q. Unasked)) c)
   attempts lead op u = put s.uses (s.references + 1) (Locking op u lead (λ q. Unasked))
       (from_fresh (s.uses (s.references + 1)) (Locking op u lead (λ q. Unasked)) (fitting.fresh (s.references + 1) (omega arith)))
 
   begins : (c : ℕ) (op : OpId) (u : Update) (lead : Node) (st : Node → Status) → s.uses c ≡ Locking op u lead st
-      → (d : ℕ) → Follows (s.uses d) (upd nat_eq (upd nat_eq s.uses c (Owning (name_of u) (s.references + 1))) (s.references + 1) (Updating op u c (same_atom m.own)) d)
+      → (d : ℕ) → UseFollows (s.uses d) (upd nat_eq (upd nat_eq s.uses c (Owning (name_of u) (s.references + 1))) (s.references + 1) (Updating op u c (same_atom m.own)) d)
   begins c op u lead st is d =
       follows_then (s.uses d) (owned d) (upd nat_eq owned r change d)
-      (put s.uses c own (subst (λ x. Follows x own) (sym is) refl) d)
+      (put s.uses c own (subst (λ x. UseFollows x own) (sym is) refl) d)
       (put owned r change (from_fresh (owned r) change (elsewhere s.uses c own r apart ∙ fresh)) d)
     where
       r : ℕ
@@ -175,7 +175,7 @@ follows_singly m = record {
   heard = λ c op u lead st p status s is was fitting. (k.heard c op u lead st p status s is was fitting, relocks s.uses c op u lead st _ is);
   confirmed = λ n op u c replied p s is was fitting. (
     k.confirmed n op u c replied p s is was fitting,
-    put s.uses n (Updating op u c (upd same_atom replied p true)) (subst (λ x. Follows x (Updating op u c (upd same_atom replied p true))) (sym is) (refl, refl, refl)),
+    put s.uses n (Updating op u c (upd same_atom replied p true)) (subst (λ x. UseFollows x (Updating op u c (upd same_atom replied p true))) (sym is) (refl, refl, refl)),
   );
   odd = λ what s fitting. (fitting, none s);
   requested = λ p reference name s fitting. (k.requested p reference name s fitting, none s);
@@ -189,7 +189,7 @@ follows_singly m = record {
 -- ---- runs
 
 same_state : (s t : State) → t.references ≡ s.references → t.uses ≡ s.uses → t.stages ≡ s.stages → t.counts ≡ s.counts → ReferencesFit s → ReferencesFit t × AllFollow s t
-same_state s t references uses stages counts fitting = (same_fitting s t references uses stages counts fitting, λ c. subst (λ f. Follows (s.uses c) (f c)) (sym uses) (follows_same (s.uses c)))
+same_state s t references uses stages counts fitting = (same_fitting s t references uses stages counts fitting, λ c. subst (λ f. UseFollows (s.uses c) (f c)) (sym uses) (follows_same (s.uses c)))
 
 step_follows : (config : Config) (i : ℕ) (s : State) (input : Input Message Action) (turn : Turn State Message Report) → node_step config i s input ≡ Some turn → ReferencesFit s → ReferencesFit turn.state × AllFollow s turn.state
 step_follows config i s (Taken p x) turn is fitting =
@@ -218,7 +218,7 @@ module _ (config : Config) (first : FrameWorld) where
       (λ _. gone j)
 
 pub follows_timed : (config : Config) (w v : TimedFrameWorld) (before events : List (Event Action)) (i c : ℕ) → Reaches config before w → Leads (frame_machine config) w events v
-    → Follows (((plain w).node i).uses c) (((plain v).node i).uses c)
+    → UseFollows (((plain w).node i).uses c) (((plain v).node i).uses c)
 follows_timed config w v before events i c reached l =
     (kept (machine_of config) (HasGone config (plain w)) (event_follows config (plain w)) events (plain w) (plain v)
     (plain_leads (machine_of config) CLOCK_LIMIT events w v l) (λ j. (fitting_timed config before w reached j, none ((plain w).node j))) i).1 c

@@ -10,7 +10,7 @@ ghost use Rattle.pg_group.specs.Value.{count_in};
 ghost use Rattle.pg_ends.specs.declared.processes.TheConstants.{MAX_PROCESSES};
 ghost use Rattle.pg_message.specs.Writing.{body_of, term_of_packet};
 ghost use Rattle.pg_opens.specs.Places.{name_at};
-ghost use Rattle.pg_node.specs.Begun.{Begins, CantBegin, IsOpened, CantOpen};
+ghost use Rattle.pg_node.specs.Begun.{BeginsLinked, CantBegin, IsOpened, CantOpen};
 ghost use Rattle.pg_node.specs.Links.{link_of, links_in};
 ghost use Rattle.pg_node_state.specs.States.{names_of as names_known, kept_by};
 
@@ -49,7 +49,7 @@ impl<T: GroupTable + Drop> Node<T> {
         ensures state { IfOk result (λ node. state_of (held_by node) ≡ record { clock = 0; state = new_state (T.contents table) config.made }) }
         ensures ports { IfOk result (λ node. ports_of (held_by node) ≡ config.ports) }
         ensures answers { IfOk result (λ node. answers_of (held_by node) ≡ (λ port. [])) }
-        ensures begun { IfOk result (λ node. Begins (T.contents table) config.own (length config.peers.items) (links_of node)) }
+        ensures begun { IfOk result (λ node. BeginsLinked (T.contents table) config.own (length config.peers.items) (links_of node)) }
         ensures fault { IfErr result (λ fault. CantBegin (T.contents table) config.own fault) }
     {
         match started(alloc, config, table) {
@@ -67,7 +67,7 @@ impl<T: GroupTable + Drop> Node<T> {
     pub fn opened(alloc: Global, state: NodeState<T>) -> Result<Node<T>, NodeFault>
         ensures state { IfOk result (λ node. held_by node ≡ state) }
         ensures begun { (peers : ℕ) → peers + 1 ≡ length (names_of state)
-            → IfOk result (λ node. Begins (kept_by state).table (name_at (names_of state) 0) peers (links_of node)) }
+            → IfOk result (λ node. BeginsLinked (kept_by state).table (name_at (names_of state) 0) peers (links_of node)) }
         ensures fault { IfErr result (λ fault. CantBegin (kept_by state).table (name_at (names_of state) 0) fault) }
     {
         let piece = match Vec::from_elem(alloc, 0, PIECE_LEN) {
@@ -100,7 +100,7 @@ fn opening_wires<T: GroupTable + Drop>(
 ) -> Result<Vec<Wire>, NodeFault>
     ensures len { IfOk result (λ wires. length wires.items + 1 ≡ length (names_known state.now)) }
     ensures begun { (peers : ℕ) → peers + 1 ≡ length (names_known state.now)
-        → IfOk result (λ wires. Begins (kept_by state.now).table (name_at (names_known state.now) 0) peers (links_in wires.items)) }
+        → IfOk result (λ wires. BeginsLinked (kept_by state.now).table (name_at (names_known state.now) 0) peers (links_in wires.items)) }
     ensures fault { IfErr result (λ fault. CantBegin (kept_by state.now).table (name_at (names_known state.now) 0) fault) }
 {
     match state.announcement() {

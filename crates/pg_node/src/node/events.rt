@@ -15,7 +15,7 @@ use std::alloc::AllocError;
 impl<T: GroupTable + Drop> Node<T> {
     ghost use Rattle.pg_opens.specs.Places.{name_at};
     ghost use Rattle.pg_step.specs.Step.{Issue, Retry, step_act, step_take};
-    ghost use Rattle.pg_node.specs.Bytes.{Tells, next_packet, marked, passed, closed};
+    ghost use Rattle.pg_node.specs.Bytes.{ReadsNext, next_packet, marked, passed, closed};
     ghost use Rattle.pg_node.specs.Nodes.{held_by, links_of, has_lost, read_next, step_link};
     ghost use Rattle.pg_node.specs.Nodes.{taken_of, TakesNext, ComesInRoom, sent_out, step_lose};
     ghost use Rattle.pg_node_state.specs.Frames.{AreSmallFrames};
@@ -119,7 +119,7 @@ impl<T: GroupTable + Drop> Node<T> {
     /// Cost: that of the body's length.
     pub fn next(&mut self, peer: usize) -> Result<Option<Packet>, NodeFault>
         requires place { peer + 1 < length (names_of (held_by self.old)) }
-        ensures told { Tells (read_next (has_lost (held_by self.old) peer) (links_of self.old peer)) result }
+        ensures told { ReadsNext (read_next (has_lost (held_by self.old) peer) (links_of self.old peer)) result }
         ensures few { IfOk result (λ some. IfSome some (λ packet. IsShort (2 ^ 32) packet.message)) }
         ensures same { OnOk result (links_of self.new ≡ links_of self.old) }
         ensures marked { IfErr result (λ fault. links_of self.new ≡ at_link peer (λ l. marked l fault) (links_of self.old)) }

@@ -34,9 +34,9 @@ impl Wire {
     ghost use Rattle.pg_message.specs.Members.{IsShort};
     ghost use Rattle.pg_node_state.specs.declared.state.fault.NodeFault.TheVariants.{Damaged, OutOfMemory};
     ghost use Rattle.pg_node_state.specs.Frames.{frame_of, IsSmallFrame};
-    ghost use Rattle.pg_node.specs.Links.{idle_link, link_of, with_more, with_fed, without_front, HasRoom};
+    ghost use Rattle.pg_node.specs.Links.{idle_link, link_of, with_more, with_fed, without_front, HasFrameRoom};
     ghost use Rattle.pg_reader.specs.Own.{own_reply};
-    ghost use Rattle.pg_node.specs.Bytes.{next_packet, Tells, marked, passed, closed, is_drained, is_idle};
+    ghost use Rattle.pg_node.specs.Bytes.{next_packet, ReadsNext, marked, passed, closed, is_drained, is_idle};
 
     /// A link where nothing came in and nothing goes out. It takes no memory yet.
     pub(crate) fn new(alloc: Global) -> Wire
@@ -54,7 +54,7 @@ impl Wire {
     /// Errors: `AllocError`, which changes nothing.
     pub(crate) fn reserve(&mut self) -> Result<(), AllocError>
         ensures same { link_of self.new ≡ link_of self.old }
-        ensures room { OnOk result (HasRoom self.new) }
+        ensures room { OnOk result (HasFrameRoom self.new) }
         ensures stays { self.old.outbox.spare ≤ self.new.outbox.spare }
     {
         self.outbox.reserve(4 + MAX_SMALL_LEN)
@@ -65,7 +65,7 @@ impl Wire {
         requires named { is_sayable packet.now.message ≡ true }
         requires stamp { packet.now.stamp ≤ MAX_STAMP }
         requires small { is_exchange packet.now.message ≡ false }
-        requires room { HasRoom self.old }
+        requires room { HasFrameRoom self.old }
         ensures sent { link_of self.new ≡ with_more (link_of self.old) (frame_of packet.now) }
         ensures small { IsSmallFrame packet.now }
     {
@@ -75,7 +75,7 @@ impl Wire {
     /// Appends a small frame to the outbox, where there is room. It takes no memory.
     pub(crate) fn append(&mut self, frame: &[u8])
         requires short { length frame.now ≤ 4 + MAX_SMALL_LEN }
-        requires room { HasRoom self.old }
+        requires room { HasFrameRoom self.old }
         ensures { link_of self.new ≡ with_more (link_of self.old) frame.now }
     {
         self.outbox.extend_reserved(frame);
@@ -134,7 +134,7 @@ impl Wire {
     ///
     /// Errors: `Damaged`; `TooLong`; `Message`. `OutOfMemory` may come in the place of a `Message`.
     pub(crate) fn next(&mut self, alloc: Global) -> Result<Option<Packet>, NodeFault>
-        ensures told { Tells (next_packet (link_of self.old)) result }
+        ensures told { ReadsNext (next_packet (link_of self.old)) result }
         ensures few { IfOk result (λ some. IfSome some (λ packet. IsShort (2 ^ 32) packet.message)) }
         ensures same { OnOk result (link_of self.new ≡ link_of self.old) }
         ensures marked { IfErr result (λ fault. link_of self.new ≡ marked (link_of self.old) fault) }
@@ -151,7 +151,7 @@ impl Wire {
 
     /// The same, but that nothing is marked.
     fn front_packet(&self, alloc: Global) -> Result<Option<Packet>, NodeFault>
-        ensures told { Tells (next_packet (link_of self.now)) result }
+        ensures told { ReadsNext (next_packet (link_of self.now)) result }
         ensures few { IfOk result (λ some. IfSome some (λ packet. IsShort (2 ^ 32) packet.message)) }
     {
         if self.damaged {

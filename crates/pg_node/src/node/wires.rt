@@ -3,7 +3,7 @@
 ghost use Rattle.std.specs.Prelude.{◌≡◌, ℕ, true, length, OnOk};
 ghost use Rattle.pg_node_state.specs.Frames.{frames_to, AreSmallFrames};
 ghost use Rattle.pg_node_state.specs.Sendable.{FitLinks};
-ghost use Rattle.pg_node.specs.Links.{links_in, with_more, HaveRoom, AreOneFrame};
+ghost use Rattle.pg_node.specs.Links.{links_in, with_more, HaveFrameRoom, AreOneFrame};
 
 use crate::node::frame::Frame;
 use crate::node::wire::Wire;
@@ -15,11 +15,11 @@ use std::alloc::AllocError;
 ///
 /// Errors: `AllocError`, which changes nothing.
 pub(crate) fn make_room(wires: &mut Vec<Wire>, has_room: &mut bool) -> Result<(), AllocError>
-    requires known { has_room.old ≡ true → HaveRoom wires.old.items }
+    requires known { has_room.old ≡ true → HaveFrameRoom wires.old.items }
     ensures same { links_in wires.new.items ≡ links_in wires.old.items }
     ensures len { length wires.new.items ≡ length wires.old.items }
-    ensures room { OnOk result (HaveRoom wires.new.items) }
-    ensures known { has_room.new ≡ true → HaveRoom wires.new.items }
+    ensures room { OnOk result (HaveFrameRoom wires.new.items) }
+    ensures known { has_room.new ≡ true → HaveFrameRoom wires.new.items }
 {
     if *has_room {
         return Ok(());
@@ -41,11 +41,11 @@ pub(crate) fn send_all(
     sends: &[(usize, Packet)],
 )
     requires fit { FitLinks (length wires.old.items) sends.now }
-    requires room { HaveRoom wires.old.items }
+    requires room { HaveFrameRoom wires.old.items }
     ensures sent { (place : ℕ) → links_in wires.new.items place ≡ with_more (links_in wires.old.items place) (frames_to sends.now place) }
     ensures small { AreSmallFrames sends.now }
     ensures len { length wires.new.items ≡ length wires.old.items }
-    ensures known { has_room.new ≡ true → HaveRoom wires.new.items }
+    ensures known { has_room.new ≡ true → HaveFrameRoom wires.new.items }
 {
     match sends {
         [] => {}
@@ -66,7 +66,7 @@ pub(crate) fn send_all(
 /// memory. `sends`: the packets of which it is the frame.
 fn append_all(wires: &mut Vec<Wire>, frame: &[u8], sends: &[(usize, Packet)])
     requires fit { FitLinks (length wires.old.items) sends.now }
-    requires room { HaveRoom wires.old.items }
+    requires room { HaveFrameRoom wires.old.items }
     requires one { AreOneFrame frame.now sends.now }
     ensures sent { (place : ℕ) → links_in wires.new.items place ≡ with_more (links_in wires.old.items place) (frames_to sends.now place) }
     ensures small { AreSmallFrames sends.now }

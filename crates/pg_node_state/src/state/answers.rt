@@ -14,7 +14,7 @@ impl<T: GroupTable + Drop> NodeState<T> {
     ghost use Rattle.pg_opens.specs.Places.{name_at};
     ghost use Rattle.pg_step.specs.Commands.{Answers, answer};
     ghost use Rattle.pg_step.specs.Step.{at_clock};
-    ghost use Rattle.pg_node_state.specs.Issued.{issued, ports_of};
+    ghost use Rattle.pg_node_state.specs.Issued.{op_issued, ports_of};
     ghost use Rattle.pg_node_state.specs.States.{names_of, kept_by, state_of, answers_of, Happens};
     ghost use Rattle.pg_node_state.specs.Sendable.{AreSendable};
 
@@ -24,7 +24,7 @@ impl<T: GroupTable + Drop> NodeState<T> {
         requires within { clock ≤ MAX_STAMP }
         requires place { port < ports_of self.old }
         ensures happens { (response : Response) → Answers (name_at (names_of self.old) 0) response reply
-            → IfOk result (λ done. Happens (names_of self.old) (at_clock clock (issued port (λ op. answer op response) (kept_by self.old)))
+            → IfOk result (λ done. Happens (names_of self.old) (at_clock clock (op_issued port (λ op. answer op response) (kept_by self.old)))
             done (state_of self.new) (answers_of self.old) (answers_of self.new)) }
         ensures err { OnErr result (state_of self.new ≡ state_of self.old) }
         ensures err_answers { OnErr result (answers_of self.new ≡ answers_of self.old) }

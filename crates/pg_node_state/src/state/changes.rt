@@ -19,7 +19,7 @@ use std::alloc::{AllocError, Global};
 impl<T: GroupTable + Drop> NodeState<T> {
     ghost use Rattle.pg_step.specs.Commands.{change};
     ghost use Rattle.pg_step.specs.Step.{at_clock};
-    ghost use Rattle.pg_node_state.specs.Issued.{issued, ports_of};
+    ghost use Rattle.pg_node_state.specs.Issued.{op_issued, ports_of};
     ghost use Rattle.pg_node_state.specs.Sendable.{AreSendable};
     ghost use Rattle.pg_node_state.specs.States.{names_of, live_of, kept_by, state_of, answers_of, Happens};
 
@@ -36,7 +36,7 @@ impl<T: GroupTable + Drop> NodeState<T> {
         requires change { is_some (change_of command.now) ≡ true }
         requires named { (update : Update) → change_of command.now ≡ Some update → is_name (name_of update) ≡ true }
         ensures happens { (update : Update) → change_of command.now ≡ Some update → IfOk result (λ done. Happens (names_of self.old)
-            (at_clock clock (issued port (λ op. change (live_of self.old) op update) (kept_by self.old)))
+            (at_clock clock (op_issued port (λ op. change (live_of self.old) op update) (kept_by self.old)))
             done (state_of self.new) (answers_of self.old) (answers_of self.new)) }
         ensures err { OnErr result (state_of self.new ≡ state_of self.old) }
         ensures err_answers { OnErr result (answers_of self.new ≡ answers_of self.old) }

@@ -16,7 +16,7 @@ impl<T: GroupTable + Drop> NodeState<T> {
     ghost use Rattle.pg_step.specs.State.Response.{Read};
     ghost use Rattle.pg_step.specs.StepLaws.{is_query};
     ghost use Rattle.pg_step.specs.Step.{Issue, step_act, at_clock};
-    ghost use Rattle.pg_node_state.specs.Issued.{issued, ports_of};
+    ghost use Rattle.pg_node_state.specs.Issued.{op_issued, ports_of};
     ghost use Rattle.pg_node_state.specs.Sendable.{AreSendable};
     ghost use Rattle.pg_node_state.specs.States.{names_of, nodes_of, live_of, kept_by};
     ghost use Rattle.pg_node_state.specs.States.{state_of, answers_of, Happens, Comes};
@@ -81,7 +81,7 @@ impl<T: GroupTable + Drop> NodeState<T> {
         requires place { port < ports_of self.old }
         requires taken { fault_of (nodes_of self.old) (kept_by self.old) command.now ≡ None }
         ensures happens { IfOk result (λ done. Happens (names_of self.old)
-            (at_clock clock (issued port (λ op. carried_out (live_of self.old) op command.now) (kept_by self.old)))
+            (at_clock clock (op_issued port (λ op. carried_out (live_of self.old) op command.now) (kept_by self.old)))
             done (state_of self.new) (answers_of self.old) (answers_of self.new)) }
         ensures err { OnErr result (state_of self.new ≡ state_of self.old) }
         ensures err_answers { OnErr result (answers_of self.new ≡ answers_of self.old) }
@@ -105,7 +105,7 @@ impl<T: GroupTable + Drop> NodeState<T> {
         requires place { port < ports_of self.old }
         requires query { is_query query.now ≡ true }
         ensures happens { IfOk result (λ done. Happens (names_of self.old)
-            (at_clock clock (issued port (λ op. answer op (Read query.now (kept_by self.old).table)) (kept_by self.old)))
+            (at_clock clock (op_issued port (λ op. answer op (Read query.now (kept_by self.old).table)) (kept_by self.old)))
             done (state_of self.new) (answers_of self.old) (answers_of self.new)) }
         ensures err { OnErr result (state_of self.new ≡ state_of self.old) }
         ensures err_answers { OnErr result (answers_of self.new ≡ answers_of self.old) }

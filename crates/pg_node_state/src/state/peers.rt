@@ -22,7 +22,7 @@ impl<T: GroupTable + Drop> NodeState<T> {
     ghost use Rattle.pg_step.specs.Losses.{see_loss};
     ghost use Rattle.pg_step.specs.Step.{at_clock};
     ghost use Rattle.pg_node_state.specs.Issued.{ports_of};
-    ghost use Rattle.pg_node_state.specs.States.{names_of, live_of, kept_by, state_of, answers_of, Tells};
+    ghost use Rattle.pg_node_state.specs.States.{names_of, live_of, kept_by, state_of, answers_of, IsReported};
     ghost use Rattle.pg_node_state.specs.Sendable.{AreSendable};
 
     /// Answers a request for a lock.
@@ -38,7 +38,7 @@ impl<T: GroupTable + Drop> NodeState<T> {
         requires place { peer + 1 < length (names_of self.old) }
         ensures state { OnOk result (state_of self.new
             ≡ (at_clock clock (lock_request (live_of self.old) (name_at (names_of self.old) (peer + 1)) reference.now name.now (kept_by self.old))).state) }
-        ensures told { IfOk result (Tells (names_of self.old)
+        ensures told { IfOk result (IsReported (names_of self.old)
             (at_clock clock (lock_request (live_of self.old) (name_at (names_of self.old) (peer + 1)) reference.now name.now (kept_by self.old)))) }
         ensures err { OnErr result (state_of self.new ≡ state_of self.old) }
         ensures names { names_of self.new ≡ names_of self.old }
@@ -74,7 +74,7 @@ impl<T: GroupTable + Drop> NodeState<T> {
         requires place { peer + 1 < length (names_of self.old) }
         ensures state { OnOk result (state_of self.new
             ≡ (at_clock clock (update_request (name_at (names_of self.old) (peer + 1)) reference.now update.now (kept_by self.old))).state) }
-        ensures told { IfOk result (Tells (names_of self.old)
+        ensures told { IfOk result (IsReported (names_of self.old)
             (at_clock clock (update_request (name_at (names_of self.old) (peer + 1)) reference.now update.now (kept_by self.old)))) }
         ensures err { OnErr result (state_of self.new ≡ state_of self.old) }
         ensures names { names_of self.new ≡ names_of self.old }
@@ -101,7 +101,7 @@ impl<T: GroupTable + Drop> NodeState<T> {
         requires within { clock ≤ MAX_STAMP }
         ensures state { state_of self.new
             ≡ (at_clock clock (lock_freed name.now reference.now (kept_by self.old))).state }
-        ensures told { Tells (names_of self.old)
+        ensures told { IsReported (names_of self.old)
             (at_clock clock (lock_freed name.now reference.now (kept_by self.old))) result }
         ensures names { names_of self.new ≡ names_of self.old }
         ensures ports { ports_of self.new ≡ ports_of self.old }
@@ -130,7 +130,7 @@ impl<T: GroupTable + Drop> NodeState<T> {
         requires few { HasFewMembers (2 ^ 32) groups.now }
         ensures state { OnOk result (state_of self.new
             ≡ (at_clock clock (exchange (name_at (names_of self.old) (peer + 1)) groups.now (kept_by self.old))).state) }
-        ensures told { IfOk result (Tells (names_of self.old)
+        ensures told { IfOk result (IsReported (names_of self.old)
             (at_clock clock (exchange (name_at (names_of self.old) (peer + 1)) groups.now (kept_by self.old)))) }
         ensures bad { (result ≡ Err (Refused NotAMessage))
             ↔ (is_bad_exchange (name_at (names_of self.old) (peer + 1)) node.now (kept_by self.old) ≡ true) }
@@ -175,7 +175,7 @@ impl<T: GroupTable + Drop> NodeState<T> {
         requires few { HasFewMembers (2 ^ 32) groups.items }
         ensures state { OnOk result (state_of self.new
             ≡ (at_clock clock (exchange (name_at (names_of self.old) (peer + 1)) groups.items (kept_by self.old))).state) }
-        ensures told { IfOk result (Tells (names_of self.old)
+        ensures told { IfOk result (IsReported (names_of self.old)
             (at_clock clock (exchange (name_at (names_of self.old) (peer + 1)) groups.items (kept_by self.old)))) }
         ensures bad { (result ≡ Err (Refused NotAMessage))
             ↔ (is_bad_exchange (name_at (names_of self.old) (peer + 1)) node.now (kept_by self.old) ≡ true) }
@@ -209,7 +209,7 @@ impl<T: GroupTable + Drop> NodeState<T> {
         requires later { self.old.clock < clock }
         requires within { clock ≤ MAX_STAMP }
         ensures state { OnOk result (state_of self.new ≡ (at_clock clock (process_end pid.now (kept_by self.old))).state) }
-        ensures told { IfOk result (Tells (names_of self.old) (at_clock clock (process_end pid.now (kept_by self.old)))) }
+        ensures told { IfOk result (IsReported (names_of self.old) (at_clock clock (process_end pid.now (kept_by self.old)))) }
         ensures err { OnErr result (state_of self.new ≡ state_of self.old) }
         ensures names { names_of self.new ≡ names_of self.old }
         ensures ports { ports_of self.new ≡ ports_of self.old }
@@ -228,7 +228,7 @@ impl<T: GroupTable + Drop> NodeState<T> {
         requires place { peer + 1 < length (names_of self.old) }
         ensures state { OnOk result (state_of self.new
             ≡ (at_clock clock (see_loss (name_at (names_of self.old) (peer + 1)) (kept_by self.old))).state) }
-        ensures told { IfOk result (Tells (names_of self.old)
+        ensures told { IfOk result (IsReported (names_of self.old)
             (at_clock clock (see_loss (name_at (names_of self.old) (peer + 1)) (kept_by self.old)))) }
         ensures err { OnErr result (state_of self.new ≡ state_of self.old) }
         ensures names { names_of self.new ≡ names_of self.old }

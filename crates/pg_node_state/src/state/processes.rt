@@ -24,7 +24,7 @@ use std::alloc::AllocError;
 impl<T: GroupTable + Drop> NodeState<T> {
     ghost use Rattle.pg_step.specs.Commands.{make, end_process};
     ghost use Rattle.pg_step.specs.Step.{at_clock};
-    ghost use Rattle.pg_node_state.specs.Issued.{issued, ports_of};
+    ghost use Rattle.pg_node_state.specs.Issued.{op_issued, ports_of};
     ghost use Rattle.pg_node_state.specs.States.{names_of, live_of, kept_by, state_of, answers_of, Happens};
     ghost use Rattle.pg_node_state.specs.Sendable.{AreSendable};
 
@@ -34,7 +34,7 @@ impl<T: GroupTable + Drop> NodeState<T> {
         requires within { clock ≤ MAX_STAMP }
         requires place { port < ports_of self.old }
         requires limit { (kept_by self.old).processes < MAX_PROCESSES }
-        ensures happens { IfOk result (λ done. Happens (names_of self.old) (at_clock clock (issued port (make (live_of self.old)) (kept_by self.old)))
+        ensures happens { IfOk result (λ done. Happens (names_of self.old) (at_clock clock (op_issued port (make (live_of self.old)) (kept_by self.old)))
             done (state_of self.new) (answers_of self.old) (answers_of self.new)) }
         ensures err { OnErr result (state_of self.new ≡ state_of self.old) }
         ensures err_answers { OnErr result (answers_of self.new ≡ answers_of self.old) }
@@ -62,7 +62,7 @@ impl<T: GroupTable + Drop> NodeState<T> {
         requires later { self.old.clock < clock }
         requires within { clock ≤ MAX_STAMP }
         requires place { port < ports_of self.old }
-        ensures happens { IfOk result (λ done. Happens (names_of self.old) (at_clock clock (issued port (λ op. end_process (live_of self.old) op pid.now) (kept_by self.old)))
+        ensures happens { IfOk result (λ done. Happens (names_of self.old) (at_clock clock (op_issued port (λ op. end_process (live_of self.old) op pid.now) (kept_by self.old)))
             done (state_of self.new) (answers_of self.old) (answers_of self.new)) }
         ensures err { OnErr result (state_of self.new ≡ state_of self.old) }
         ensures err_answers { OnErr result (answers_of self.new ≡ answers_of self.old) }

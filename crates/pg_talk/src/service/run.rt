@@ -5,7 +5,7 @@ ghost use Rattle.std.specs.List.{All};
 ghost use Rattle.pg_ring.specs.Slots.{taken};
 ghost use Rattle.pg_step.specs.Config.{Config as Starts};
 ghost use Rattle.pg_talk.specs.Written.{ports_in};
-ghost use Rattle.pg_requests.specs.Layouts.{placed};
+ghost use Rattle.pg_requests.specs.Layouts.{layout_of};
 ghost use Rattle.pg_talk.specs.Readers.{IsPaired, Reads};
 ghost use Rattle.pg_talk.specs.Services.{WasServed};
 ghost use Rattle.pg_talk.specs.Servings.{IsNew, Serves, known_lost, names_of, ports_of, view_of};
@@ -94,7 +94,7 @@ fn serve_by<R: Threads, S: Source + Send + Drop + 'static, W: Sink>(
     writer: &mut W,
 ) -> Result<Served, ServiceFault>
     requires { serving.kept ≡ None }
-    ensures { IfOk result (λ served. (given : Starts) → layout.nodes.items ≡ placed 0 given → Serves given (W.contents writer.old) [] (view_of serving) (W.contents writer.old)
+    ensures { IfOk result (λ served. (given : Starts) → layout.nodes.items ≡ layout_of 0 given → Serves given (W.contents writer.old) [] (view_of serving) (W.contents writer.old)
         → WasServed S.remaining S.fails given requests (S.remaining source) (W.contents writer.old) (W.contents writer.new) served) }
 {
     match Reader::start(rt, alloc, source, layout, requests) {
@@ -110,7 +110,7 @@ fn serve_by<R: Threads, S: Source + Send + Drop + 'static, W: Sink>(
 ///
 /// Error: `AllocError`.
 fn rooms_of(alloc: Global, starts: &[Start]) -> Result<(Layout, Desks), AllocError>
-    ensures layout { IfOk result (λ rooms. rooms.0.nodes.items ≡ placed 0 starts.now) }
+    ensures layout { IfOk result (λ rooms. rooms.0.nodes.items ≡ layout_of 0 starts.now) }
     ensures ports { IfOk result (λ rooms. ports_of rooms.1.desks.items ≡ ports_in 0 starts.now) }
     ensures new { IfOk result (λ rooms. All IsNew rooms.1.desks.items) }
     ensures names { IfOk result (λ rooms. names_of rooms.1.nodes.items ≡ map (λ start. start.name) starts.now) }
@@ -132,7 +132,7 @@ fn serve_all<R: Threads, S: Source + Send + Drop + 'static, W: Sink>(
     requires kept { serving.kept ≡ None }
     requires came { taken reader.inlet ≡ [] }
     requires paired { IsPaired reader }
-    ensures { IfOk result (λ served. (given : Starts) (wanted : ℕ) (source : Option (List ℕ)) → Reads S.remaining (placed 0 given) wanted source reader
+    ensures { IfOk result (λ served. (given : Starts) (wanted : ℕ) (source : Option (List ℕ)) → Reads S.remaining (layout_of 0 given) wanted source reader
         → Serves given (W.contents writer.old) [] (view_of serving) (W.contents writer.old)
         → WasServed S.remaining S.fails given wanted source (W.contents writer.old) (W.contents writer.new) served) }
 {

@@ -112,7 +112,7 @@ impl Serving {
     ghost use Rattle.pg_requests.specs.declared.input.Input.TheVariants.{Ask, Lose};
     ghost use Rattle.pg_cluster.specs.Running.{clients_in};
     ghost use Rattle.pg_ring.specs.Slots.{SameSlotIn, taken};
-    ghost use Rattle.pg_talk.specs.Servings.{Advances, Comes, Goes, IsOver, LosesNode, RepliesLost};
+    ghost use Rattle.pg_talk.specs.Servings.{Advances, Comes, ServingGoes, IsOver, LosesNode, RepliesLost};
     ghost use Rattle.pg_talk.specs.Servings.{RepliesNext, Rests, Takes, TellsBad, asked_at, desks_of};
     ghost use Rattle.pg_talk.specs.Servings.{is_known_lost, kept_in, lost_at, nodes_of, running_of, view_of};
 
@@ -361,7 +361,7 @@ impl Serving {
 
     /// Looks at each client once; whether something moved.
     fn attend_all<W: Sink>(&mut self, writer: &mut W) -> Result<bool, ServiceFault>
-        ensures { OnOk result (Goes self.old self.new (W.contents writer.old) (W.contents writer.new)) }
+        ensures { OnOk result (ServingGoes self.old self.new (W.contents writer.old) (W.contents writer.new)) }
     {
         let mut moved = false;
         for client in 0..self.running.client_count() {
@@ -374,7 +374,7 @@ impl Serving {
 
     /// Looks at a client: hears its answer, or hands over its next request; whether something moved.
     fn attend<W: Sink>(&mut self, client: usize, writer: &mut W) -> Result<bool, ServiceFault>
-        ensures { OnOk result (Goes self.old self.new (W.contents writer.old) (W.contents writer.new)) }
+        ensures { OnOk result (ServingGoes self.old self.new (W.contents writer.old) (W.contents writer.new)) }
     {
         if client >= self.desks.len() || client >= self.running.client_count() {
             return Ok(false);
@@ -410,7 +410,7 @@ impl Serving {
         requires client { client < length (clients_in (running_of self.old)) }
         requires asked { asked_at client (desks_of self.old) ≡ true }
         requires lost { is_lost ≡ lost_at client self.old }
-        ensures { OnOk result (Goes self.old self.new (W.contents writer.old) (W.contents writer.new)) }
+        ensures { OnOk result (ServingGoes self.old self.new (W.contents writer.old) (W.contents writer.new)) }
     {
         match self.running.poll(client) {
             Some(answer) => {
@@ -432,7 +432,7 @@ impl Serving {
         requires desk { client < length (desks_of self.old) }
         requires idle { asked_at client (desks_of self.old) ≡ false }
         requires lost { lost_at client self.old ≡ true }
-        ensures { OnOk result (Goes self.old self.new (W.contents writer.old) (W.contents writer.new)) }
+        ensures { OnOk result (ServingGoes self.old self.new (W.contents writer.old) (W.contents writer.new)) }
     {
         match self.desks[client].next() {
             Some(command) => {

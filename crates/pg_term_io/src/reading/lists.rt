@@ -4,7 +4,7 @@ ghost use Rattle.std.specs.Prelude.{◌≡◌, ◌<◌, ◌∷◌, ℕ, List, le
 ghost use Rattle.pg_term.specs.declared.term.Term.{Term};
 ghost use Rattle.pg_term_io.specs.declared.tag.TheConstants.{STRING_EXT};
 ghost use Rattle.std.specs.Int.{w16};
-ghost use Rattle.pg_term_io.specs.Lists.{list_from, Continues, IsWithin, next_from, text_next, Shows};
+ghost use Rattle.pg_term_io.specs.Lists.{list_from, Continues, IsWithin, next_from, text_next, ShowsNext};
 ghost use Rattle.pg_term_io.specs.Reading.{number_at, tail_at};
 
 use crate::element::NextElement;
@@ -20,7 +20,7 @@ use crate::tag::{ListTag, Tag};
 /// Cost: no memory; five bytes are looked at for each tail that holds no elements.
 pub fn next_element(levels: u8, count: u32, bytes: &[u8]) -> NextElement<'_>
     // Of any bytes, also of those that spell no list.
-    ensures shown { Shows result (next_from levels count bytes.now) }
+    ensures shown { ShowsNext result (next_from levels count bytes.now) }
     // Of a list, what it says of its elements.
     ensures next { (elements : List Term) (rest : List ℕ)
         → list_from levels count bytes.now ≡ Ok (elements, rest) → Continues result elements rest }
@@ -50,7 +50,7 @@ pub fn next_element(levels: u8, count: u32, bytes: &[u8]) -> NextElement<'_>
 
 /// How a list goes on that is a text, after its tag.
 fn text_end(bytes: &[u8]) -> NextElement<'_>
-    ensures shown { Shows result (text_next (number_at w16 bytes.now)) }
+    ensures shown { ShowsNext result (text_next (number_at w16 bytes.now)) }
     ensures next { (room : ℕ) (elements : List Term) (rest : List ℕ)
         → tail_at room (STRING_EXT ∷ bytes.now) ≡ Ok (elements, rest) → Continues result elements rest }
     ensures within { (room : ℕ) (around : List ℕ) → length bytes.now < length around

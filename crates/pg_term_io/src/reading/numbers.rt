@@ -5,7 +5,7 @@ ghost use Rattle.std.specs.Prelude.{◌≡◌, ◌<◌, ◌^◌, Ok, Err, MatchO
 ghost use Rattle.std.specs.Int.{w8, w16, w32};
 ghost use Rattle.pg_term.specs.Fault.{Gives};
 ghost use Rattle.pg_term_io.specs.Numbers.{little_endian, big_value};
-ghost use Rattle.pg_term_io.specs.Scanning.{Tells};
+ghost use Rattle.pg_term_io.specs.Scanning.{ScansAs};
 ghost use Rattle.pg_term_io.specs.Reading.{byte_at, number_at, bytes_at, big_at, i64_of};
 ghost use Rattle.pg_term_io.specs.Reading.{text_length_at, arity_at, creation_width};
 
@@ -14,7 +14,7 @@ use pg_term::TermFault;
 
 /// One byte.
 pub(crate) fn u8_at(bytes: &[u8]) -> Result<(u8, &[u8]), TermFault>
-    ensures told { Tells (λ x. (x.0, x.1.now)) result (byte_at bytes.now) }
+    ensures told { ScansAs (λ x. (x.0, x.1.now)) result (byte_at bytes.now) }
     ensures given { Gives (λ x. (x.0, x.1.now)) result (byte_at bytes.now) }
 {
     match bytes {
@@ -25,7 +25,7 @@ pub(crate) fn u8_at(bytes: &[u8]) -> Result<(u8, &[u8]), TermFault>
 
 /// Two bytes, the most significant first.
 pub(crate) fn u16_at(bytes: &[u8]) -> Result<(u16, &[u8]), TermFault>
-    ensures told { Tells (λ x. (x.0, x.1.now)) result (number_at w16 bytes.now) }
+    ensures told { ScansAs (λ x. (x.0, x.1.now)) result (number_at w16 bytes.now) }
     ensures given { Gives (λ x. (x.0, x.1.now)) result (number_at w16 bytes.now) }
 {
     let Some((digits, rest)) = bytes.split_first_chunk::<2>() else {
@@ -36,7 +36,7 @@ pub(crate) fn u16_at(bytes: &[u8]) -> Result<(u16, &[u8]), TermFault>
 
 /// Four bytes, the most significant first.
 pub(crate) fn u32_at(bytes: &[u8]) -> Result<(u32, &[u8]), TermFault>
-    ensures told { Tells (λ x. (x.0, x.1.now)) result (number_at w32 bytes.now) }
+    ensures told { ScansAs (λ x. (x.0, x.1.now)) result (number_at w32 bytes.now) }
     ensures given { Gives (λ x. (x.0, x.1.now)) result (number_at w32 bytes.now) }
 {
     let Some((digits, rest)) = bytes.split_first_chunk::<4>() else {
@@ -48,7 +48,7 @@ pub(crate) fn u32_at(bytes: &[u8]) -> Result<(u32, &[u8]), TermFault>
 /// How many bytes the text of an atom takes.
 #[inline]
 pub(crate) fn text_len_at(size: Size, bytes: &[u8]) -> Result<(usize, &[u8]), TermFault>
-    ensures told { Tells (λ x. (x.0, x.1.now)) result (text_length_at size bytes.now) }
+    ensures told { ScansAs (λ x. (x.0, x.1.now)) result (text_length_at size bytes.now) }
     ensures given { Gives (λ x. (x.0, x.1.now)) result (text_length_at size bytes.now) }
 {
     match size {
@@ -66,7 +66,7 @@ pub(crate) fn text_len_at(size: Size, bytes: &[u8]) -> Result<(usize, &[u8]), Te
 /// How many elements a tuple has.
 #[inline]
 pub(crate) fn arity_at(size: Size, bytes: &[u8]) -> Result<(u32, &[u8]), TermFault>
-    ensures told { Tells (λ x. (x.0, x.1.now)) result (arity_at size bytes.now) }
+    ensures told { ScansAs (λ x. (x.0, x.1.now)) result (arity_at size bytes.now) }
     ensures given { Gives (λ x. (x.0, x.1.now)) result (arity_at size bytes.now) }
 {
     match size {
@@ -94,7 +94,7 @@ pub(crate) fn creation_at(creation: Creation, bytes: &[u8]) -> Result<(u32, &[u8
 
 /// So many bytes.
 pub(crate) fn some_bytes(count: usize, bytes: &[u8]) -> Result<(&[u8], &[u8]), TermFault>
-    ensures told { Tells (λ x. (x.0.now, x.1.now)) result (bytes_at count bytes.now) }
+    ensures told { ScansAs (λ x. (x.0.now, x.1.now)) result (bytes_at count bytes.now) }
     ensures given { Gives (λ x. (x.0.now, x.1.now)) result (bytes_at count bytes.now) }
 {
     if bytes.len() < count {

@@ -6,7 +6,7 @@ ghost use Rattle.pg_term.specs.Order.{kind_of};
 ghost use Rattle.pg_term.specs.declared.term.Term.{Term, Tuple};
 ghost use Rattle.pg_term_io.specs.Kinds.{place_of, kind_in};
 ghost use Rattle.pg_term_io.specs.Reading.{as_term, items_at, item_at};
-ghost use Rattle.pg_term_io.specs.Scanning.{past, Tells};
+ghost use Rattle.pg_term_io.specs.Scanning.{past, ScansAs};
 ghost use Rattle.pg_term_io.specs.Writing.{item_bytes};
 
 use crate::kind::Kind;
@@ -60,7 +60,7 @@ pub fn tuple_at(bytes: &[u8]) -> Option<(u32, &[u8])>
 ///
 /// Cost: no memory; linear in the bytes of the item.
 pub fn skip_item(levels: u8, bytes: &[u8]) -> Result<&[u8], TermFault>
-    ensures exact { Tells (λ rest. rest.now) result (past (item_at levels bytes.now)) }
+    ensures exact { ScansAs (λ rest. rest.now) result (past (item_at levels bytes.now)) }
     // An item takes some bytes.
     ensures shorter { IfOk result (λ rest. length rest.now < length bytes.now) }
     // However a term is spelled, it takes at most 400 times the bytes that it is written in.

@@ -4,7 +4,7 @@ ghost use Rattle.std.specs.Prelude.{◌≡◌, Ok};
 ghost use Rattle.std.specs.Int.{w16, w32};
 ghost use Rattle.pg_term_io.specs.Reading.{byte_at, number_at, bytes_at, big_at, i64_of, utf8_atom, atom_in};
 ghost use Rattle.pg_term_io.specs.Numbers.{big_value};
-ghost use Rattle.pg_term_io.specs.Scanning.{past, Tells, Names, over_atom, over_node, over_creation, over_pid};
+ghost use Rattle.pg_term_io.specs.Scanning.{past, ScansAs, Names, over_atom, over_node, over_creation, over_pid};
 ghost use Rattle.pg_term_io.specs.Scanning.{over_old_reference, over_all, over_words, over_reference};
 ghost use Rattle.pg_term_io.specs.Scanning.{over_binary, over_leaf, over_string, over_list, over_elements};
 ghost use Rattle.pg_term_io.specs.Scanning.{over_behind, over_item, over_tail, over_term, walks};
@@ -17,7 +17,7 @@ use std::str;
 
 /// What follows a byte.
 fn past_byte(bytes: &[u8]) -> Result<&[u8], TermFault>
-    ensures { Tells (λ rest. rest.now) result (past (byte_at bytes.now)) }
+    ensures { ScansAs (λ rest. rest.now) result (past (byte_at bytes.now)) }
 {
     let (_, rest) = u8_at(bytes)?;
     Ok(rest)
@@ -25,7 +25,7 @@ fn past_byte(bytes: &[u8]) -> Result<&[u8], TermFault>
 
 /// What follows four bytes.
 fn past_word(bytes: &[u8]) -> Result<&[u8], TermFault>
-    ensures { Tells (λ rest. rest.now) result (past (number_at w32 bytes.now)) }
+    ensures { ScansAs (λ rest. rest.now) result (past (number_at w32 bytes.now)) }
 {
     let (_, rest) = u32_at(bytes)?;
     Ok(rest)
@@ -64,7 +64,7 @@ fn check_text(encoding: Encoding, text: &[u8]) -> Result<(), TermFault>
 /// What follows an atom, after its tag.
 #[tactic(auto, unfolding(crate::specs::Scanning::over_atom, crate::specs::Reading::named_at))]
 fn atom(size: Size, encoding: Encoding, bytes: &[u8]) -> Result<&[u8], TermFault>
-    ensures { Tells (λ rest. rest.now) result (over_atom size encoding bytes.now) }
+    ensures { ScansAs (λ rest. rest.now) result (over_atom size encoding bytes.now) }
 {
     let (len, rest) = text_len_at(size, bytes)?;
     let (text, rest) = some_bytes(len, rest)?;
@@ -75,7 +75,7 @@ fn atom(size: Size, encoding: Encoding, bytes: &[u8]) -> Result<&[u8], TermFault
 /// What follows the atom of a pid or a reference.
 #[tactic(auto, unfolding(crate::specs::Scanning::over_node))]
 fn node(bytes: &[u8]) -> Result<&[u8], TermFault>
-    ensures { Tells (λ rest. rest.now) result (over_node bytes.now) }
+    ensures { ScansAs (λ rest. rest.now) result (over_node bytes.now) }
 {
     let [tag, rest @ ..] = bytes else {
         return Err(TermFault::Truncated);
@@ -88,7 +88,7 @@ fn node(bytes: &[u8]) -> Result<&[u8], TermFault>
 
 /// What follows a creation.
 fn past_creation(creation: Creation, bytes: &[u8]) -> Result<&[u8], TermFault>
-    ensures { Tells (λ rest. rest.now) result (over_creation creation bytes.now) }
+    ensures { ScansAs (λ rest. rest.now) result (over_creation creation bytes.now) }
 {
     match creation {
         Creation::Byte => past_byte(bytes),
@@ -99,7 +99,7 @@ fn past_creation(creation: Creation, bytes: &[u8]) -> Result<&[u8], TermFault>
 /// What follows a pid, after its tag.
 #[tactic(auto, unfolding(crate::specs::Scanning::over_pid))]
 fn pid(creation: Creation, bytes: &[u8]) -> Result<&[u8], TermFault>
-    ensures { Tells (λ rest. rest.now) result (over_pid (over_creation creation) bytes.now) }
+    ensures { ScansAs (λ rest. rest.now) result (over_pid (over_creation creation) bytes.now) }
 {
     let rest = node(bytes)?;
     let rest = past_word(rest)?;
@@ -109,7 +109,7 @@ fn pid(creation: Creation, bytes: &[u8]) -> Result<&[u8], TermFault>
 
 #[tactic(auto, unfolding(crate::specs::Scanning::over_old_reference))]
 fn old_reference(bytes: &[u8]) -> Result<&[u8], TermFault>
-    ensures { Tells (λ rest. rest.now) result (over_old_reference bytes.now) }
+    ensures { ScansAs (λ rest. rest.now) result (over_old_reference bytes.now) }
 {
     let rest = node(bytes)?;
     let rest = past_word(rest)?;
@@ -118,7 +118,7 @@ fn old_reference(bytes: &[u8]) -> Result<&[u8], TermFault>
 
 /// What follows so many words.
 fn words(count: u16, bytes: &[u8]) -> Result<&[u8], TermFault>
-    ensures { Tells (λ rest. rest.now) result (over_words count bytes.now) }
+    ensures { ScansAs (λ rest. rest.now) result (over_words count bytes.now) }
 {
     let mut rest = bytes;
     for _ in 0..count {
@@ -130,7 +130,7 @@ fn words(count: u16, bytes: &[u8]) -> Result<&[u8], TermFault>
 /// What follows a reference that says how many words it has, after its tag.
 #[tactic(auto, unfolding(crate::specs::Scanning::over_reference))]
 fn reference(creation: Creation, bytes: &[u8]) -> Result<&[u8], TermFault>
-    ensures { Tells (λ rest. rest.now) result (over_reference (over_creation creation) bytes.now) }
+    ensures { ScansAs (λ rest. rest.now) result (over_reference (over_creation creation) bytes.now) }
 {
     let (count, rest) = u16_at(bytes)?;
     if count == 0 || count > 3 {
@@ -143,7 +143,7 @@ fn reference(creation: Creation, bytes: &[u8]) -> Result<&[u8], TermFault>
 
 #[tactic(auto, unfolding(crate::specs::Scanning::over_binary))]
 fn binary(bytes: &[u8]) -> Result<&[u8], TermFault>
-    ensures { Tells (λ rest. rest.now) result (over_binary bytes.now) }
+    ensures { ScansAs (λ rest. rest.now) result (over_binary bytes.now) }
 {
     let (count, rest) = u32_at(bytes)?;
     let (_, rest) = some_bytes(count as usize, rest)?;
@@ -153,7 +153,7 @@ fn binary(bytes: &[u8]) -> Result<&[u8], TermFault>
 /// What follows a big integer.
 #[tactic(auto, unfolding(crate::specs::Reading::big_at))]
 fn past_big(bytes: &[u8]) -> Result<&[u8], TermFault>
-    ensures { Tells (λ rest. rest.now) result (past (big_at bytes.now)) }
+    ensures { ScansAs (λ rest. rest.now) result (past (big_at bytes.now)) }
 {
     let (count, rest) = u8_at(bytes)?;
     let (sign, rest) = u8_at(rest)?;
@@ -167,7 +167,7 @@ fn past_big(bytes: &[u8]) -> Result<&[u8], TermFault>
 /// What follows an item that holds no terms, after its tag.
 #[tactic(auto, unfolding(crate::specs::Scanning::over_leaf))]
 fn leaf(tag: LeafTag, bytes: &[u8]) -> Result<&[u8], TermFault>
-    ensures { Tells (λ rest. rest.now) result (over_leaf tag bytes.now) }
+    ensures { ScansAs (λ rest. rest.now) result (over_leaf tag bytes.now) }
 {
     match tag {
         LeafTag::SmallInteger => past_byte(bytes),
@@ -183,7 +183,7 @@ fn leaf(tag: LeafTag, bytes: &[u8]) -> Result<&[u8], TermFault>
 
 #[tactic(auto, unfolding(crate::specs::Scanning::over_string))]
 fn string(room: u8, bytes: &[u8]) -> Result<&[u8], TermFault>
-    ensures { Tells (λ rest. rest.now) result (over_string room bytes.now) }
+    ensures { ScansAs (λ rest. rest.now) result (over_string room bytes.now) }
 {
     let (count, rest) = u16_at(bytes)?;
     let (_, rest) = some_bytes(usize::from(count), rest)?;
@@ -196,7 +196,7 @@ fn string(room: u8, bytes: &[u8]) -> Result<&[u8], TermFault>
 /// What follows so many items.
 #[cycle(scan)]
 fn items(room: u8, count: u32, bytes: &[u8]) -> Result<&[u8], TermFault>
-    ensures { Tells (λ rest. rest.now) result (over_all (over_item room) count bytes.now) }
+    ensures { ScansAs (λ rest. rest.now) result (over_all (over_item room) count bytes.now) }
 {
     let mut rest = bytes;
     for _ in 0..count {
@@ -208,7 +208,7 @@ fn items(room: u8, count: u32, bytes: &[u8]) -> Result<&[u8], TermFault>
 #[cycle(scan)]
 #[tactic(auto, unfolding(crate::specs::Scanning::over_list))]
 fn list(room: u8, bytes: &[u8]) -> Result<&[u8], TermFault>
-    ensures { Tells (λ rest. rest.now) result (over_list (walks room) bytes.now) }
+    ensures { ScansAs (λ rest. rest.now) result (over_list (walks room) bytes.now) }
 {
     let (count, rest) = u32_at(bytes)?;
     let rest = items(room, count, rest)?;
@@ -218,7 +218,7 @@ fn list(room: u8, bytes: &[u8]) -> Result<&[u8], TermFault>
 #[cycle(scan)]
 #[tactic(auto, unfolding(crate::specs::Scanning::over_elements))]
 fn elements(room: u8, tag: ListTag, bytes: &[u8]) -> Result<&[u8], TermFault>
-    ensures { Tells (λ rest. rest.now) result (over_elements room (walks room) tag bytes.now) }
+    ensures { ScansAs (λ rest. rest.now) result (over_elements room (walks room) tag bytes.now) }
 {
     match tag {
         ListTag::Nil => Ok(bytes),
@@ -229,7 +229,7 @@ fn elements(room: u8, tag: ListTag, bytes: &[u8]) -> Result<&[u8], TermFault>
 
 #[cycle(scan)]
 fn tail(room: u8, bytes: &[u8]) -> Result<&[u8], TermFault>
-    ensures { Tells (λ rest. rest.now) result (over_tail room bytes.now) }
+    ensures { ScansAs (λ rest. rest.now) result (over_tail room bytes.now) }
 {
     match bytes {
         [] => Err(TermFault::Truncated),
@@ -248,7 +248,7 @@ fn tail(room: u8, bytes: &[u8]) -> Result<&[u8], TermFault>
 /// What follows an item.
 #[cycle(scan)]
 pub(crate) fn item(room: u8, bytes: &[u8]) -> Result<&[u8], TermFault>
-    ensures { Tells (λ rest. rest.now) result (over_item room bytes.now) }
+    ensures { ScansAs (λ rest. rest.now) result (over_item room bytes.now) }
 {
     match bytes {
         [] => Err(TermFault::Truncated),
@@ -264,7 +264,7 @@ pub(crate) fn item(room: u8, bytes: &[u8]) -> Result<&[u8], TermFault>
 #[cycle(scan)]
 #[tactic(auto, unfolding(crate::specs::Scanning::over_behind))]
 fn behind(room: u8, tag: Option<Tag>, bytes: &[u8]) -> Result<&[u8], TermFault>
-    ensures { Tells (λ rest. rest.now) result (over_behind room (walks room) tag bytes.now) }
+    ensures { ScansAs (λ rest. rest.now) result (over_behind room (walks room) tag bytes.now) }
 {
     match tag {
         Some(Tag::Tuple(size)) => {
@@ -280,7 +280,7 @@ fn behind(room: u8, tag: Option<Tag>, bytes: &[u8]) -> Result<&[u8], TermFault>
 /// What follows all of the bytes: nothing.
 #[tactic(auto, unfolding(crate::specs::Scanning::over_term))]
 pub(crate) fn term(bytes: &[u8]) -> Result<&[u8], TermFault>
-    ensures { Tells (λ rest. rest.now) result (over_term bytes.now) }
+    ensures { ScansAs (λ rest. rest.now) result (over_term bytes.now) }
 {
     match bytes {
         [] => Err(TermFault::Truncated),

@@ -1,7 +1,7 @@
 use Rattle.std.proofs.Common.{◌≡◌, ◌+◌, ◌++◌, [], length, map}
 use Rattle.std.specs.List.{All}
 use Rattle.std.specs.Vec.Iter.{into_iter_items, into_iter_len}
-use Rattle.pg_cluster.specs.Clients.{AllPairs, IsOpen}
+use Rattle.pg_cluster.specs.Clients.{AllPairs, IsOpenClient}
 use Rattle.pg_run.specs.Notices.{IsUntold}
 use Rattle.pg_run.specs.Runs.{generator_of, notices_at, notices_of}
 use Rattle.pg_cluster.specs.Notices.{IsFresh}
@@ -16,7 +16,7 @@ invariant-loop-node g l =
     × (map row_in l.made.runs.items ++ map (λ v. v.items) (into_iter_items l.rows) ≡ map (λ v. v.items) l.fn.rows.items)
     × All (λ run. log_in run ≡ []) l.made.runs.items
     × (length l.made.runs.items + into_iter_len l.node-iterator ≡ length l.fn.nodes.items)
-    × AllPairs IsOpen l.made.clients.items (ports_of_runs l.made.runs.items)
+    × AllPairs IsOpenClient l.made.clients.items (ports_of_runs l.made.runs.items)
     × AllPairs IsFresh l.made.tellers.items (map notices_at l.made.runs.items)
     × All (λ run. IsUntold (notices_of run)) l.made.runs.items
     × (length l.made.runs.items + length (into_iter_items l.generators) ≡ length l.fn.generators.items)

@@ -1,7 +1,7 @@
 use Rattle.std.proofs.Common.{◌≡◌, ◌<◌, ℕ, length, get_or}
 use Rattle.std.specs.Prelude.{vec_capacity}
 use Rattle.pg_cluster.specs.Ended.{Row}
-use Rattle.pg_cluster.specs.Rows.{HaveRoom, SoFar}
+use Rattle.pg_cluster.specs.Rows.{HaveRowRoom, SoFar}
 use Rattle.pg_cluster.proofs.wires.wire_all.Given as goal
 
 abbrev pub invariant-loop : goal.invariant-loop
@@ -11,7 +11,7 @@ invariant-loop l =
     × ((r : ℕ) (d : Row) → r < l.counter → length (get_or l.rows.items r d).items ≡ 0)
 
 abbrev pub invariant-loop-i : goal.invariant-loop-i
-invariant-loop-i l = SoFar l.nodes l.rows.items l.j l.i × HaveRoom l.ring l.rows.items
+invariant-loop-i l = SoFar l.nodes l.rows.items l.j l.i × HaveRowRoom l.ring l.rows.items
 
 abbrev pub invariant-loop-j : goal.invariant-loop-j
-invariant-loop-j l = SoFar l.nodes l.rows.items l.j 0 × HaveRoom l.ring l.rows.items
+invariant-loop-j l = SoFar l.nodes l.rows.items l.j 0 × HaveRowRoom l.ring l.rows.items

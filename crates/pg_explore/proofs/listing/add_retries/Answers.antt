@@ -6,7 +6,7 @@ use Rattle.std.specs.List.{Contains}
 use Rattle.pg_step.specs.declared.command.OpId.{OpId}
 use Rattle.pg_explore.specs.declared.moves.Move.{Move}
 use Rattle.pg_explore.specs.declared.moves.Move.TheVariants.{Retry}
-use Rattle.pg_explore.specs.Listings.{Adds, waits_at}
+use Rattle.pg_explore.specs.Listings.{Adds, sight_waits_at}
 use Rattle.pg_explore.specs.Moments.{progress_of, sight_of}
 use Rattle.pg_explore.proofs.Opening.{IsRetryIn, all_retries, no_retry, retry_less, retry_more}
 use Rattle.pg_explore.proofs.listing.add_retries.Goals as goal
@@ -45,5 +45,5 @@ returns c =
     let node = c.args.node in
     let old = c.args.moves.now.items in
     let ops = c.as_slice-op-items.result.now in
-    all_retries plans most sight node ops old c.loop-op.moves.items c.requires.there (subst (λ (xs : List OpId). (op : OpId) → Contains xs op ↔ (waits_at sight.view.traffic.nodes node op ≡ true)) (sym c.as_slice-op-items.ensures.value) c.in_ok-ops.ensures)
+    all_retries plans most sight node ops old c.loop-op.moves.items c.requires.there (subst (λ (xs : List OpId). (op : OpId) → Contains xs op ↔ (sight_waits_at sight.view.traffic.nodes node op ≡ true)) (sym c.as_slice-op-items.ensures.value) c.in_ok-ops.ensures)
     (subst (λ (xs : List OpId). Adds (IsRetryIn plans most sight node xs) old c.loop-op.moves.items) (take_all c.loop-op.op-index ops c.loop-op-test.false) c.loop-op.invariant)

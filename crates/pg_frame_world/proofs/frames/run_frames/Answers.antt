@@ -5,13 +5,13 @@ use Rattle.pg_machine.specs.Machine.{start_of}
 use Rattle.pg_frame_world.specs.FrameWorlds.{lost_of, view_of}
 use Rattle.pg_frame_world.specs.Losing.{ShowsLosing}
 use Rattle.pg_frame_world.specs.Runs.{over_packets}
-use Rattle.pg_frame_world.specs.Worlds.{Shows}
+use Rattle.pg_frame_world.specs.Worlds.{ShowsWorld}
 use Rattle.pg_frame_world.proofs.LosingRunning.{ran_losing_so}
 use Rattle.pg_frame_world.proofs.Running.{ran_so}
 use Rattle.pg_frame_world.proofs.frames.run_frames.Goals as goal
 
 pub returns-in-Ok-clause-ran : goal.returns-in-Ok-clause-ran
-returns-in-Ok-clause-ran c = λ none. ran_so over_packets c.args.config.now.starts.items (λ (config : Config). Shows config (view_of c.in-Ok.begun)) (λ (config : Config). Shows config (view_of c.run.new.self))
+returns-in-Ok-clause-ran c = λ none. ran_so over_packets c.args.config.now.starts.items (λ (config : Config). ShowsWorld config (view_of c.in-Ok.begun)) (λ (config : Config). ShowsWorld config (view_of c.run.new.self))
     c.args.steps.now c.run.new.numbers.items c.in-Ok.ensures.begins (λ config shows. c.run.ensures.ran none config (start_of (frame_machine config)) shows)
     (λ config w shows. shows.traffic.nodes.apart) c.one_history.ensures.each_world
 

@@ -2,12 +2,12 @@
 use Rattle.pg_step.specs.Step.{CLOCK_LIMIT}
 use Rattle.pg_step.specs.FrameMachine.{frame_machine}
 use Rattle.pg_joining.specs.Joined.{Joined}
-use Rattle.pg_joining.specs.Merge.{merged}
+use Rattle.pg_joining.specs.Merge.{merged_logs}
 use Rattle.pg_joining.proofs.Joining.{joined}
 use Rattle.pg_joining.proofs.history.joined_history.Goals as goal
 
 pub returns : goal.returns
 returns c = λ config logs acts ends left order apart are merges.
-    let run : Joined (frame_machine config) logs acts ends left (merged logs order) =
+    let run : Joined (frame_machine config) logs acts ends left (merged_logs logs order) =
     joined CLOCK_LIMIT (frame_machine config) logs acts ends left order (c.nodes_keep_time.ensures.steps config) are merges in
-    (run, c.one_history.ensures.each_world config run.world (merged logs order) apart run.leads)
+    (run, c.one_history.ensures.each_world config run.world (merged_logs logs order) apart run.leads)

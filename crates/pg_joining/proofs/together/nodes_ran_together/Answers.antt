@@ -3,7 +3,7 @@ use Rattle.pg_joining.proofs.Begun.{apart}
 use Rattle.pg_joining.proofs.Crossing.{left_on}
 use Rattle.pg_joining.proofs.Logged.{acts_on, are_logs, ends_on, logs_on, merges_on, ran_together}
 use Rattle.pg_joining.proofs.Sound.{sound}
-use Rattle.pg_joining.specs.Merge.{merged}
+use Rattle.pg_joining.specs.Merge.{merged_logs}
 use Rattle.pg_joining.proofs.together.nodes_ran_together.Goals as goal
 
 pub returns : goal.returns
@@ -14,5 +14,5 @@ returns c = λ config nodes begun ended order apart_so merges.
     (left_on config nodes begun ended ran) order (apart config nodes begun ended ran) (are_logs config nodes begun ended ran unseen c.pieces_continue.ensures c.written_is_read.ensures)
     (merges_on config nodes begun ended ran unseen order merges) in
     ran_together config nodes begun ended ran unseen order joined.0 joined.1
-    (sound config nodes begun ended ran unseen (merged (logs_on config nodes begun ended ran unseen) order) joined.0
+    (sound config nodes begun ended ran unseen (merged_logs (logs_on config nodes begun ended ran unseen) order) joined.0
     (λ m w before events i p x rest. c.first_packets_were_welcome.ensures config m w before events i p x rest (apart config nodes begun ended ran)) c.pieces_continue.ensures c.written_is_read.ensures)

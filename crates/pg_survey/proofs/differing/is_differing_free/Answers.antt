@@ -2,7 +2,7 @@ use Rattle.std.proofs.Common.{◌≡◌, true, List, [], ◌∷◌, ◌++◌, Bo
 use Rattle.std.proofs.lemmas.List.{take_all, take_more}
 use Rattle.pg_term.specs.declared.term.Term.{Term}
 use Rattle.pg_frame_world.specs.FrameWorlds.{lost_of, traffic_of}
-use Rattle.pg_survey.specs.Differing.{DifferFreeOn, Tells}
+use Rattle.pg_survey.specs.Differing.{DifferFreeOn, Decides}
 use Rattle.pg_survey.proofs.Looking.{NoName, no_more_name}
 use Rattle.pg_survey.proofs.differing.is_differing_free.Goals as goal
 
@@ -14,7 +14,7 @@ loop-name-preserved c =
     let P : Term → Type 0 = λ (name : Term). DifferFreeOn (traffic_of c.args.world.now).nodes (lost_of c.args.world.now) c.args.count name in
     subst (λ (xs : List Term). NoName P xs) (sym (take_more names i item c.loop-name-test.true))
     (subst (λ (n : Term). NoName P (take i names ++ n ∷ [])) c.name-item.is
-    (no_more_name P (take i names) item c.loop-name.invariant (subst (λ (b : Bool). Tells (P item) b) c.if-branch.false c.in_ok-differ_free.ensures)))
+    (no_more_name P (take i names) item c.loop-name.invariant (subst (λ (b : Bool). Decides (P item) b) c.if-branch.false c.in_ok-differ_free.ensures)))
 
 pub returns : goal.returns
 returns c =

@@ -2,7 +2,7 @@ use Rattle.std.proofs.Common.{ℕ, List, [], ◌∷◌, ◌++◌, Bool, true, ta
 use Rattle.std.proofs.lemmas.List.{take_more}
 use Rattle.pg_explore.specs.declared.explored.Met.{Met}
 use Rattle.pg_frame_world.specs.FrameWorlds.{lost_of, traffic_of}
-use Rattle.pg_survey.specs.Differing.{SeesOne, Tells}
+use Rattle.pg_survey.specs.Differing.{SeesOne, Decides}
 use Rattle.pg_survey.specs.Findings.{AreMarks, HoldsIn}
 use Rattle.pg_survey.proofs.Marking.{marks_more}
 use Rattle.pg_survey.proofs.tally.held_of.Goals as goal
@@ -17,4 +17,4 @@ loop-met-preserved c =
     (subst (λ (m : Met). AreMarks (HoldsIn names) (take i mets ++ m ∷ []) c.push.new.self.items) c.met-item.is
     (subst (λ (bs : List Bool). AreMarks (HoldsIn names) (take i mets ++ met ∷ []) bs) (sym c.in_ok-push.ensures.items)
     (marks_more (HoldsIn names) (take i mets) met c.loop-met.marks.items c.is_held-mark.result c.loop-met.invariant
-    (subst (λ (n : ℕ). Tells (SeesOne (traffic_of met.moment.world).nodes (lost_of met.moment.world) true n names) c.is_held-mark.result) (c.len-count.ensures ∙ met.moment.strands.ok.0) c.is_held-mark.ensures))))
+    (subst (λ (n : ℕ). Decides (SeesOne (traffic_of met.moment.world).nodes (lost_of met.moment.world) true n names) c.is_held-mark.result) (c.len-count.ensures ∙ met.moment.strands.ok.0) c.is_held-mark.ensures))))

@@ -6,8 +6,8 @@ use Rattle.pg_ring.specs.Slots.{AreSlots}
 use Rattle.pg_cluster.specs.Clients.{AllPairs, ports_begun}
 use Rattle.pg_cluster.specs.Ended.{AreWired}
 use Rattle.pg_cluster.specs.Members.{is_lost, last_of, lasts_in, losses_in}
-use Rattle.pg_cluster.specs.Notices.{HaveRoom, NobodyLost, SaysLost}
-use Rattle.pg_cluster.specs.Room.{HasRoom}
+use Rattle.pg_cluster.specs.Notices.{HaveNoticeRoom, NobodyLost, SaysLost}
+use Rattle.pg_cluster.specs.Room.{HasClosingRoom}
 use Rattle.pg_cluster.specs.Threads.{rows_begun, notices_begun}
 use Rattle.std.proofs.lemmas.List.{get_or_default}
 use Rattle.pg_cluster.proofs.Holding.{last_set, lasts_set, losses_set, not_lost_again, threads_set}
@@ -38,14 +38,14 @@ invariant_of-self g c =
     let marked : c.args.node < length (losses_in members) = let n = length-map members is_lost in omega (arith, low, n) in record {
       lost_fit = self.lost_fit;
       rans_fit = self.rans_fit;
-      room_fits = subst (λ ts. HasRoom self.room (vec_len self.members) (length (ports_begun ts))) (sym threads) self.room_fits;
+      room_fits = subst (λ ts. HasClosingRoom self.room (vec_len self.members) (length (ports_begun ts))) (sym threads) self.room_fits;
       wired = subst (λ ts. AreWired (length ts) (rows_begun ts)) (sym threads) self.wired;
       told = tellers_later self.tellers.items c.tell_all.new.tellers.items _ (subst (λ ts. AllPairs AreSlots self.tellers.items (notices_begun ts)) (sym threads) self.told) c.tell_all.ensures.same;
       says = subst (λ lost. ∥ SaysLost lost (lasts_in (set members c.args.node c.stop-last.new.self)) c.tell_all.new.tellers.items ∥₁) (sym losses)
           (∥∥₁_map self.says (says_on (losses_in members) (lasts_in members) (lasts_in (set members c.args.node c.stop-last.new.self)) self.tellers.items c.tell_all.new.tellers.items c.args.node c.stop-last.result marked unmarked
           here others self.roomy.count
           (all_notified (losses_in members) self.tellers.items c.tell_all.new.tellers.items c.args.node c.stop-last.result marked unmarked self.roomy c.tell_all.ensures.told)));
-      roomy = subst (λ lost. HaveRoom lost c.tell_all.new.tellers.items) (sym losses)
+      roomy = subst (λ lost. HaveNoticeRoom lost c.tell_all.new.tellers.items) (sym losses)
           (room_on (losses_in members) self.tellers.items c.tell_all.new.tellers.items c.args.node c.stop-last.result marked unmarked self.roomy c.tell_all.ensures.told c.tell_all.ensures.same);
       untold = λ nobody. somebody_lost (losses_in members) c.args.node (let n = length-map members is_lost in omega (arith, low, n)) (subst NobodyLost losses nobody);
     }

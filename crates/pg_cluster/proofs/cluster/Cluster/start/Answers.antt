@@ -1,12 +1,12 @@
 use Rattle.std.proofs.Common.{arith, ◌≡◌, ◌≤◌, length, map, vec_len, sym, ap, ◌∙◌, subst}
 use Rattle.pg_ring.specs.Slots.{AreSlots}
 use Rattle.pg_cluster.specs.Members.{is_lost, lasts_in, losses_in, thread_of, threads_in}
-use Rattle.pg_cluster.specs.Notices.{IsFresh, IsRoomy, IsSilent as IsSilentTeller}
+use Rattle.pg_cluster.specs.Notices.{IsFresh, IsRoomy, HasNoNotice as IsSilentTeller}
 use Rattle.pg_cluster.specs.Threads.{notices_begun}
 use Rattle.std.proofs.lemmas.List.{length-map}
 use Rattle.pg_run.specs.Ports.{ArePort, IsSilent}
-use Rattle.pg_cluster.specs.Clients.{IsOpen, ports_begun}
-use Rattle.pg_cluster.specs.Room.{HasRoom}
+use Rattle.pg_cluster.specs.Clients.{IsOpenClient, ports_begun}
+use Rattle.pg_cluster.specs.Room.{HasClosingRoom}
 use Rattle.pg_cluster.specs.Threads.{AreMade, HaveRings}
 use Rattle.pg_cluster.proofs.Paired.{pairs_left, pairs_so}
 use Rattle.pg_cluster.proofs.Rooms.{room_first}
@@ -42,7 +42,7 @@ invariant_of-cluster g c =
     let marks = length-map members.items is_lost in let most = c.in_ok-made.ensures.made.few in let count = c.in_ok-made.ensures.made.count in omega (arith, marks, mapped, same, most, count) in record {
       lost_fit = (has.lost.0, omega arith);
       rans_fit = (has.rans.0, omega arith);
-      room_fits = subst (λ n. HasRoom kept.room n (length (ports_begun threads))) (count ∙ sym size) (subst (HasRoom kept.room c.len.result) places has.room);
+      room_fits = subst (λ n. HasClosingRoom kept.room n (length (ports_begun threads))) (count ∙ sym size) (subst (HasClosingRoom kept.room c.len.result) places has.room);
       wired = started_wired c.args.config.now.starts.items runs.items c.args.limit threads c.in_ok-made.ensures.made started;
       told = pairs_so IsFresh AreSlots (λ teller inlet both. both.0) tellers (notices_begun threads) fresh;
       says = ∣ says_none (losses_in members.items) (lasts_in members.items) tellers
@@ -63,14 +63,14 @@ pub returns-in-Ok-start_all-clause-clients : goal.returns-in-Ok-start_all-clause
 returns-in-Ok-start_all-clause-clients g c =
     let threads = (threads_in c.in-Ok-start_all.members.items) in
     let clients = c.in_ok-made.made.clients.items in
-    pairs_so IsOpen ArePort (λ client port both. both.0) clients (ports_begun threads)
+    pairs_so IsOpenClient ArePort (λ client port both. both.0) clients (ports_begun threads)
     (started_clients c.in_ok-made.made.runs.items c.args.limit threads clients c.in-Ok-start_all.ensures.started c.in_ok-made.ensures.clients)
 
 pub returns-in-Ok-start_all-clause-silent : goal.returns-in-Ok-start_all-clause-silent
 returns-in-Ok-start_all-clause-silent g c =
     let threads = (threads_in c.in-Ok-start_all.members.items) in
     let clients = c.in_ok-made.made.clients.items in
-    pairs_left IsOpen IsSilent (λ client port both. both.1.0) clients (ports_begun threads)
+    pairs_left IsOpenClient IsSilent (λ client port both. both.1.0) clients (ports_begun threads)
     (started_clients c.in_ok-made.made.runs.items c.args.limit threads clients c.in-Ok-start_all.ensures.started c.in_ok-made.ensures.clients)
 
 pub returns-in-Ok-start_all-clause-rings : goal.returns-in-Ok-start_all-clause-rings

@@ -14,7 +14,7 @@ use Rattle.pg_cluster.specs.Closed.{NoticesCame, logs_of, nodes_of, turns_of}
 use Rattle.pg_cluster.specs.Ended.{AreWired, AllArrived}
 use Rattle.pg_cluster.specs.Members.{is_lost, lasts_in, losses_in, thread_of, threads_in}
 use Rattle.pg_cluster.specs.Notices.{IsOfLost, NobodyLost, SaysLost}
-use Rattle.pg_cluster.specs.Room.{HasRoom}
+use Rattle.pg_cluster.specs.Room.{HasClosingRoom}
 use Rattle.pg_cluster.specs.Threads.{EndedWith, Joined, lasts_ended, rows_begun, rows_ended, notices_ended}
 use Rattle.pg_cluster.proofs.Closing.{joined_after}
 use Rattle.pg_cluster.proofs.Finishing.{one_more_stands, stopped_ended, stopped_heard}
@@ -93,7 +93,7 @@ stopped_of-requires-clause-room g c =
     let joined : ∥ Joined threads rans ∥₁ = ∥∥₁_map was.6 (λ all. joined_members members rans whole all) in
     let places : length (ports_begun threads) ≡ length (ports_ended rans) = ∥∥₁_elim joined (hlevel props) (λ j. (same_ports threads rans j).len) in
     let count : vec_len c.args.self.members ≡ length rans = search rules in
-    subst (λ n. HasRoom c.args.self.room n (length (ports_ended rans))) count (subst (HasRoom c.args.self.room (vec_len c.args.self.members)) places c.args.self.room_fits)
+    subst (λ n. HasClosingRoom c.args.self.room n (length (ports_ended rans))) count (subst (HasClosingRoom c.args.self.room (vec_len c.args.self.members)) places c.args.self.room_fits)
 
 pub stopped_of-requires-clause-ports : goal.stopped_of-requires-clause-ports
 stopped_of-requires-clause-ports g c =

@@ -5,7 +5,7 @@ use Rattle.pg_explore.specs.declared.explored.Met.{Met}
 use Rattle.pg_explore.specs.declared.moment.Moment.{Moment}
 use Rattle.pg_explore.specs.Explorations.{LeadsFrom, met_of, sight_in}
 use Rattle.pg_explore.specs.Moments.{sight_of}
-use Rattle.pg_explore.specs.Moves.{ComesOf, Leads, Stays}
+use Rattle.pg_explore.specs.Moves.{ComesOf, MoveLeads, Stays}
 use Rattle.pg_explore.proofs.Leading.{arrives_by}
 use Rattle.pg_explore.proofs.Optional.{some_is}
 use Rattle.pg_explore.proofs.explored.Explored.lead.Goals as goal
@@ -18,7 +18,7 @@ returns-in-Ok-Some-clause-arrives c =
     let was = c.index-met.result.now in
     let at = slice_get_read mets _ c.args.place was refl c.requires.place c.index-met.ensures in
     let comes = subst (λ (o : Option Moment). ComesOf plans (sight_in was) step o) c.in-Ok-Some.field-0-is c.in-Ok-Some.ensures.comes in
-    let leads : LeadsFrom plans mets c.args.place step (sight_of c.in-Ok-Some.moment) = λ met here. subst (λ (m : Met). Leads plans (sight_in m) step (sight_of c.in-Ok-Some.moment)) (some_is was met (sym at ∙ here)) comes in
+    let leads : LeadsFrom plans mets c.args.place step (sight_of c.in-Ok-Some.moment) = λ met here. subst (λ (m : Met). MoveLeads plans (sight_in m) step (sight_of c.in-Ok-Some.moment)) (some_is was met (sym at ∙ here)) comes in
     arrives_by c.meet.result plans mets (met_of c.meet.new.self) c.args.place step (sight_of c.in-Ok-Some.moment) c.meet.ensures.grows c.requires.place leads c.meet.ensures.arrived
 
 pub returns-in-Ok-None-clause-arrives : goal.returns-in-Ok-None-clause-arrives

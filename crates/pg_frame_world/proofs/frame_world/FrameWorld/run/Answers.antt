@@ -5,7 +5,7 @@ use mathlib.Core.Logic.{∥∥₁_elim, ∥∥₁_map}
 use Rattle.pg_frame_world.specs.FrameWorlds.{given_of, lost_of, view_of}
 use Rattle.pg_frame_world.specs.Losing.{ShowsLosing}
 use Rattle.pg_frame_world.specs.LosingRuns.{packets_past_losses}
-use Rattle.pg_frame_world.specs.Worlds.{is_loss, Shows}
+use Rattle.pg_frame_world.specs.Worlds.{is_loss, ShowsWorld}
 use Rattle.pg_frame_world.specs.Runs.{over_packets}
 use Rattle.pg_frame_world.proofs.LosingRunning.{losing_steps_more, all_made}
 use Rattle.pg_frame_world.proofs.Leading.{frames_run_on, run_grows}
@@ -28,7 +28,7 @@ loop-place-preserved g c =
           (ShowsLosing config (view_of c.step_number-number.new.self) (lost_of c.step_number-number.new.self)) within inside c.index-steps-place.is
           (c.loop-place.invariant.losing config u shows) (λ v events led shown. c.step_number-number.ensures.losing config v shown);
       ran = λ none config w shows.
-          steps_more over_packets config steps numbers c.loop-place.place c.step_number-number.result c.index-steps-place.result w (Shows config (view_of c.loop-place.self)) (Shows config (view_of c.step_number-number.new.self)) within inside c.index-steps-place.is
+          steps_more over_packets config steps numbers c.loop-place.place c.step_number-number.result c.index-steps-place.result w (ShowsWorld config (view_of c.loop-place.self)) (ShowsWorld config (view_of c.step_number-number.new.self)) within inside c.index-steps-place.is
           (c.loop-place.invariant.ran (c.step_number-number.ensures.unlost none) config w shows)
           (λ u events led shown. c.step_number-number.ensures.steps none config u shown);
     }
@@ -36,7 +36,7 @@ loop-place-preserved g c =
 pub returns-clause-ran : goal.returns-clause-ran
 returns-clause-ran g c = λ none config w shows.
     let last : c.loop-place.place ≡ length c.args.steps.now = omega (arith, c.loop-place.auto.place-end, c.loop-place-test.false) in
-    all_taken over_packets config w c.args.steps.now c.loop-place.numbers.items c.loop-place.place (Shows config (view_of c.loop-place.self)) last c.loop-place.invariant.len (c.loop-place.invariant.ran none config w shows)
+    all_taken over_packets config w c.args.steps.now c.loop-place.numbers.items c.loop-place.place (ShowsWorld config (view_of c.loop-place.self)) last c.loop-place.invariant.len (c.loop-place.invariant.ran none config w shows)
 
 pub returns-clause-losing : goal.returns-clause-losing
 returns-clause-losing g c = λ config u shows.

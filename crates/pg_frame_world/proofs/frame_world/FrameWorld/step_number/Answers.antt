@@ -4,7 +4,7 @@ use mathlib.Core.Logic.{∥∥₁_elim}
 use Rattle.pg_frame_world.specs.FrameWorlds.{given_of, lost_of, view_of}
 use Rattle.pg_frame_world.specs.Losing.{SeenAreLost, ShowsLosing, losing_of, lost_after}
 use Rattle.pg_frame_world.specs.LosingRuns.{LosingStepsTo, packets_past_losses}
-use Rattle.pg_frame_world.specs.Worlds.{Shows}
+use Rattle.pg_frame_world.specs.Worlds.{ShowsWorld}
 use Rattle.pg_frame_world.specs.Runs.{over_packets, StepsTo}
 use Rattle.pg_frame_world.proofs.LosingRunning.{made_so, left_out_so}
 use Rattle.pg_frame_world.proofs.Leading.{unseen_there}
@@ -31,7 +31,7 @@ returns-in-Err-clause-steps g c = λ none config w shows.
     let seen : SeenAreLost config w [] = λ i p pair has. ∥∥₁_elim world.past (hlevel props) (λ past. unseen_there (given_of world) (view_of world) (lost_of world) nobody past config w shows i p pair has) in
     let losing = c.step.ensures.losing config (losing_of config w [])
     (subst (λ (l : List ℕ). ShowsLosing config (view_of world) l (losing_of config w [])) (sym nobody) (record { frames = w; shows = shows; seen = seen; is = refl })) in
-    subst (λ n. StepsTo over_packets config w c.args.step.now n (Shows config (view_of c.step.new.self))) (sym c.number.ensures)
+    subst (λ n. StepsTo over_packets config w c.args.step.now n (ShowsWorld config (view_of c.step.new.self))) (sym c.number.ensures)
     (refused_so config w (view_of world) (view_of c.step.new.self) c.args.step.now c.step.result c.in-Err.fault c.in-Err.is shows (c.step.ensures.event config w nobody shows) c.in-Err.ensures.err
     (ShowsLosing config (view_of c.step.new.self) (lost_of c.step.new.self)) losing)
 

@@ -4,7 +4,7 @@ use Rattle.std.proofs.lemmas.List.{length-map}
 use Rattle.pg_node_state.specs.States.{state_of, answers_of}
 use Rattle.pg_step.specs.Step.{Retry}
 use Rattle.pg_starts.specs.Seen.{seen_of}
-use Rattle.pg_frame_world.specs.Views.{ways_of, packets_to, traffic_in, HaveRoom, IsWhole}
+use Rattle.pg_frame_world.specs.Views.{ways_of, packets_to, traffic_in, HaveWayRoom, IsWhole}
 use Rattle.pg_frame_world.proofs.Ported.{port_there, port_place}
 use Rattle.pg_machine.specs.Machine.{Do}
 use Rattle.std.specs.Prelude.{None, refl}
@@ -92,7 +92,7 @@ send_all-requires-clause-room g c =
     let whole = c.args.self.now.whole in
     let within = port_there nodes c.args.node c.args.op.port c.requires.port in
     let inside : c.args.node < length outs = omega (arith, within, whole.rows, length-map outs ways_of, length-map nodes seen_of) in
-    subst HaveRoom (is_set outs c.args.node c.make_room.new.self c.index_mut-outgoing-in-Ok-retry.result.now inside c.index_mut-outgoing-in-Ok-retry.ensures.value) c.in-Ok.ensures.room
+    subst HaveWayRoom (is_set outs c.args.node c.make_room.new.self c.index_mut-outgoing-in-Ok-retry.result.now inside c.index_mut-outgoing-in-Ok-retry.ensures.value) c.in-Ok.ensures.room
 
 pub invariant_of-self-in-Ok-retry : goal.invariant_of-self-in-Ok-retry
 invariant_of-self-in-Ok-retry g c =

@@ -3,7 +3,7 @@ use Rattle.pg_step.specs.Step.{Issue, Retry}
 use Rattle.pg_frame_world.specs.declared.step.FrameStep.{FrameStep}
 use Rattle.pg_frame_world.specs.Losing.{lost_of, told_of, told_loss, is_barred, ShowsLosing, LosingComesTo}
 use Rattle.pg_frame_world.specs.Views.{View}
-use Rattle.pg_frame_world.specs.Worlds.{traffic_of, view_of, has_places, Shows, StepComesTo}
+use Rattle.pg_frame_world.specs.Worlds.{traffic_of, view_of, has_places, ShowsWorld, StepComesTo}
 use Rattle.pg_frame_world.proofs.Barred.{take_in, own_in, unplaced_in, barred_in}
 use Rattle.pg_frame_world.proofs.Recording.{view_is}
 use Rattle.pg_frame_world.proofs.Unplaced.{unplaced}
@@ -11,7 +11,7 @@ use Rattle.pg_frame_world.proofs.world.FrameNodes.step.Goals as goal
 
 pub returns-then-not-has_places-clause-event : goal.returns-then-not-has_places-clause-event
 returns-then-not-has_places-clause-event g c = λ config w nobody shows.
-    unplaced config (traffic_of c.args.self.now).nodes w shows.traffic.nodes c.args.step.now (Shows config (view_of c.args.self.now)) (sym c.has_places.ensures ∙ c.if-not-has_places.true)
+    unplaced config (traffic_of c.args.self.now).nodes w shows.traffic.nodes c.args.step.now (ShowsWorld config (view_of c.args.self.now)) (sym c.has_places.ensures ∙ c.if-not-has_places.true)
 
 pub returns-then-not-has_places-clause-losing : goal.returns-then-not-has_places-clause-losing
 returns-then-not-has_places-clause-losing g c = λ config u shows.
@@ -26,8 +26,8 @@ returns-then-is_barred-clause-losing g c = λ config u shows.
 pub returns-in-Take-clause-event : goal.returns-in-Take-clause-event
 returns-in-Take-clause-event g c = λ config w nobody shows.
     let settled = view_is _ _ refl c.settle.ensures.account in
-    subst (λ (s : FrameStep). StepComesTo config w s c.take.result (Shows config (view_of c.take.new.self))) (sym c.in-Take.is)
-    (c.take.ensures.event config w (subst (λ (v : View). Shows config v w) (sym settled) shows))
+    subst (λ (s : FrameStep). StepComesTo config w s c.take.result (ShowsWorld config (view_of c.take.new.self))) (sym c.in-Take.is)
+    (c.take.ensures.event config w (subst (λ (v : View). ShowsWorld config v w) (sym settled) shows))
 
 pub returns-in-Take-clause-losing : goal.returns-in-Take-clause-losing
 returns-in-Take-clause-losing g c = λ config u shows.

@@ -5,14 +5,14 @@ use Rattle.pg_opens.specs.Places.{name_at}
 use Rattle.pg_step.specs.Step.{step_take}
 use Rattle.pg_node_state.specs.States.{names_of, nodes_of, state_of, answers_of, stamped_of, Comes}
 use Rattle.pg_starts.specs.Seen.{seen_of}
-use Rattle.pg_frame_world.specs.Views.{ways_of, packets_to, first_of, traffic_in, peer_place, HaveRoom, IsWhole}
+use Rattle.pg_frame_world.specs.Views.{ways_of, packets_to, next_packet_of, traffic_in, peer_place, HaveWayRoom, IsWhole}
 use Rattle.pg_frame_world.proofs.Taking.{taker_there, row_there, apart, taker_place, sender_place}
 use Rattle.pg_frame_world.proofs.Taking.{sender_way, passed_whole, passed_here, passed_else}
 use Rattle.pg_machine.specs.Machine.{Take}
 use Rattle.std.specs.Prelude.{refl}
 use Rattle.pg_frame_world.specs.Effects.{effect_by}
 use Rattle.pg_frame_world.specs.Worlds.{view_of}
-use Rattle.pg_account.specs.Histories.{account_of, asked_by}
+use Rattle.pg_account.specs.Histories.{account_of, update_asked_by}
 use Rattle.pg_frame_world.proofs.Recording.{shows_all, view_is, grew_taken}
 use Rattle.pg_frame_world.proofs.Queued.{take_nothing, take_refused, take_happened}
 use Rattle.pg_frame_world.proofs.Viewing.{is_set, seen_same, view_room, view_refused, seen_here, fit_ways, sent_nodes}
@@ -173,7 +173,7 @@ send_all-requires-clause-room g c =
     let outthere = c.index_mut-outgoing-in-Ok-take.ensures.value in
     let sends = c.in-Ok-take.done.sends.items in
     let apart = apart nodes outs whole node peer c.requires.pair in
-    subst HaveRoom (is_set outs node c.make_room.new.self out inside (outthere ∙ get_or-set_other outs1 peer node passed out (λ e. apart (sym e)))) c.in-Ok.ensures.room
+    subst HaveWayRoom (is_set outs node c.make_room.new.self out inside (outthere ∙ get_or-set_other outs1 peer node passed out (λ e. apart (sym e)))) c.in-Ok.ensures.room
 
 pub invariant_of-self-in-Ok-take : goal.invariant_of-self-in-Ok-take
 invariant_of-self-in-Ok-take g c =
@@ -238,7 +238,7 @@ returns-in-None-clause-event g c =
     let way = sender_way nodes outs1 whole1 node peer c.requires.pair sender there ∙ way_as nodes outs outs1 room peer (peer_place peer node) in
     λ config w shows.
     take_nothing config (traffic_in nodes outs) w node peer shows.traffic c.requires.pair
-    (c.in-None.ensures.first ∙ (ap (λ k. first_of (get_or (ways_of sender) k [])) c.peer_place.ensures ∙ ap first_of way)) (λ v. Unit {0})
+    (c.in-None.ensures.first ∙ (ap (λ k. next_packet_of (get_or (ways_of sender) k [])) c.peer_place.ensures ∙ ap next_packet_of way)) (λ v. Unit {0})
 
 pub returns-in-None-clause-nothing : goal.returns-in-None-clause-nothing
 returns-in-None-clause-nothing g c =
@@ -283,11 +283,11 @@ returns-in-Ok-take-clause-event g c =
     let sends = c.in-Ok-take.done.sends.items in
     let apart = apart nodes outs whole node peer c.requires.pair in
     λ config w shows.
-    shows_all config (view_of c.args.self.now) _ w (Take node peer) node (asked_by c.in-Some.packet.now.message) c.in-Ok-take.done.began (effect_by c.in-Ok-take.done) c.of-effect.result c.of-effect.ensures shows
-    (grew_taken (view_of c.args.self.now).account _ node (asked_by c.in-Some.packet.now.message) c.in-Ok-take.done.began c.send_all.result (account_of c.make_room-in-Some.new.self) (account_of c.serve.new.self) c.send_all.ensures.began
+    shows_all config (view_of c.args.self.now) _ w (Take node peer) node (update_asked_by c.in-Some.packet.now.message) c.in-Ok-take.done.began (effect_by c.in-Ok-take.done) c.of-effect.result c.of-effect.ensures shows
+    (grew_taken (view_of c.args.self.now).account _ node (update_asked_by c.in-Some.packet.now.message) c.in-Ok-take.done.began c.send_all.result (account_of c.make_room-in-Some.new.self) (account_of c.serve.new.self) c.send_all.ensures.began
     c.make_room-in-Some.ensures.account c.serve.ensures.history c.serve.ensures.applied c.serve.ensures.marked c.begin.ensures.history c.begin.ensures.applied c.begin.ensures.marked)
     (take_happened config (traffic_in nodes outs) w node peer shows.traffic c.requires.pair (seen_of state) (seen_here nodes outs node whole within state here) (stamped_of c.in-Some.packet.now)
-    (c.in-Some.ensures.first ∙ (ap (λ k. first_of (get_or (ways_of sender) k [])) c.peer_place.ensures ∙ ap first_of way))
+    (c.in-Some.ensures.first ∙ (ap (λ k. next_packet_of (get_or (ways_of sender) k [])) c.peer_place.ensures ∙ ap next_packet_of way))
     (sent_view nodes outs2 node whole2 within state here after out c.send_all.new.self sends c.in-Ok-take.ensures.names outthere c.send_all.ensures.len c.send_all.ensures.sent) (seen_of after) c.in-Ok-take.done (sent_nodes nodes outs2 node whole2 within state here after out c.send_all.new.self sends c.in-Ok-take.ensures.names outthere c.send_all.ensures.len c.send_all.ensures.sent) c.in-Ok-take.ensures.names c.in-Ok-take.ensures.ports c.in-Ok-take.ensures.fits
     (λ k. sent_there nodes outs2 node whole2 within state here after out c.send_all.new.self sends c.in-Ok-take.ensures.names outthere c.send_all.ensures.len c.send_all.ensures.sent k ∙ ap (λ xs. xs ++ packets_to sends k) (passed_else nodes outs1 whole1 node peer c.requires.pair from fromthere passed is node k (λ both. apart (sym both.0)) ∙ way_as nodes outs outs1 room node k))
     (sent_others nodes outs2 node whole2 within state here after out c.send_all.new.self sends c.in-Ok-take.ensures.names outthere c.send_all.ensures.len c.send_all.ensures.sent peer apart (peer_place peer node) ∙ (passed_here nodes outs1 whole1 node peer c.requires.pair from fromthere passed is ∙ ap (drop 1) (way_as nodes outs outs1 room peer (peer_place peer node))))
@@ -314,7 +314,7 @@ returns-in-Err-take-clause-event g c =
     let way = sender_way nodes outs1 whole1 node peer c.requires.pair sender there ∙ way_as nodes outs outs1 room peer (peer_place peer node) in
     λ config w shows.
     take_refused config (traffic_in nodes outs) w node peer shows.traffic c.requires.pair (seen_of state) (seen_here nodes outs node whole within state here) (stamped_of c.in-Some.packet.now)
-    (c.in-Some.ensures.first ∙ (ap (λ k. first_of (get_or (ways_of sender) k [])) c.peer_place.ensures ∙ ap first_of way))
+    (c.in-Some.ensures.first ∙ (ap (λ k. next_packet_of (get_or (ways_of sender) k [])) c.peer_place.ensures ∙ ap next_packet_of way))
     c.in-Err-take.fault (state_of c.take.new.self) (answers_of state) (answers_of c.take.new.self) _
     (subst (λ k. Comes (names_of state) (step_take (nodes_of state) (name_at (names_of state) (k + 1)) (stamped_of c.in-Some.packet.now) (state_of state)) (Err c.in-Err-take.fault) (state_of c.take.new.self) (answers_of state) (answers_of c.take.new.self))
     c.peer_place-in-Some.ensures c.in-Err-take.ensures.event)

@@ -1,6 +1,6 @@
 use Rattle.std.proofs.Common.{◌≡◌, ◌-◌, ◌<◌, ◌≤◌, List, drop, true, false, sym, ap, subst, ◌∙◌, arith}
 use Rattle.pg_members.specs.declared.row.Row.{Row}
-use Rattle.pg_members.specs.Rows.{AreRows, IsCut, is_here, counts_of, total_of, taken}
+use Rattle.pg_members.specs.Rows.{AreRows, IsCut, is_here, counts_of, total_of, one_taken}
 use Rattle.pg_members.proofs.Flat.{below, count_le, total-taken, rows_taken}
 use Rattle.pg_members.proofs.Cut.{found_count, found_all, found_some, missing_count, missing_taken}
 use Rattle.std.specs.Prelude.{slice_set}
@@ -31,10 +31,10 @@ invariant_of-self c =
     let is = c.index.ensures in
     let sorted = c.self.invariant.1 in
     let few : row.count ≤ c.args.most = c.if-count-most.true in
-    let now : c.remove.new.self.items ≡ taken items pid c.args.most = c.remove.ensures.items ∙ found_all pid items at sorted cut row is here c.args.most few in
+    let now : c.remove.new.self.items ≡ one_taken items pid c.args.most = c.remove.ensures.items ∙ found_all pid items at sorted cut row is here c.args.most few in
     let count = found_count pid items at sorted cut row is here in
     let total = total-taken pid c.args.most items sorted in
-    let after : total_of c.remove.new.self.items ≡ total_of (taken items pid c.args.most) = ap total_of now in
+    let after : total_of c.remove.new.self.items ≡ total_of (one_taken items pid c.args.most) = ap total_of now in
     (omega arith, subst AreRows (sym now) (rows_taken pid c.args.most items sorted))
 
 pub overflow_sub-self-else-count-most : goal.overflow_sub-self-else-count-most
@@ -95,7 +95,7 @@ returns-then-count-most-clause-rest c =
     let is = c.index.ensures in
     let sorted = c.self.invariant.1 in
     let few : row.count ≤ c.args.most = c.if-count-most.true in
-    c.remove.ensures.items ∙ found_all pid items at sorted cut row is here c.args.most few ∙ ap (λ l. taken l pid c.args.most) c.self.view_is
+    c.remove.ensures.items ∙ found_all pid items at sorted cut row is here c.args.most few ∙ ap (λ l. one_taken l pid c.args.most) c.self.view_is
 
 pub returns-else-count-most-clause-count : goal.returns-else-count-most-clause-count
 returns-else-count-most-clause-count c =
@@ -123,7 +123,7 @@ returns-else-count-most-clause-rest c =
     let same : c.index.result.now.count ≡ row.count = sym (found_count pid items at c.self.invariant.1 cut c.index.result.now c.index.ensures here) ∙ found_count pid items at c.self.invariant.1 cut row is here in
     let sorted = c.self.invariant.1 in
     let many : c.args.most < row.count = omega arith in
-    ap (λ n. slice_set items at (record { pid = row.pid; count = n - c.args.most })) same ∙ found_some pid items at sorted cut row is here c.args.most many ∙ ap (λ l. taken l pid c.args.most) c.self.view_is
+    ap (λ n. slice_set items at (record { pid = row.pid; count = n - c.args.most })) same ∙ found_some pid items at sorted cut row is here c.args.most many ∙ ap (λ l. one_taken l pid c.args.most) c.self.view_is
 
 pub returns-else-is_at-clause-count : goal.returns-else-is_at-clause-count
 returns-else-is_at-clause-count c =
@@ -143,4 +143,4 @@ returns-else-is_at-clause-rest c =
     let pid = c.args.pid.now in
     let cut : IsCut (below pid) items at = subst (λ (l : List Row). IsCut (below pid) l at) c.deref.ensures.value c.find-at.ensures in
     let here : is_here pid (drop at items) ≡ false = ap (λ l. is_here pid (drop at l)) (sym c.deref-2.ensures.value) ∙ sym c.is_at.ensures.value ∙ c.if-is_at.false in
-    sym c.self.view_is ∙ sym (missing_taken pid items at c.self.invariant.1 cut c.args.most here) ∙ ap (λ l. taken l pid c.args.most) c.self.view_is
+    sym c.self.view_is ∙ sym (missing_taken pid items at c.self.invariant.1 cut c.args.most here) ∙ ap (λ l. one_taken l pid c.args.most) c.self.view_is

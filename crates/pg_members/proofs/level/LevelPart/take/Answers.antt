@@ -1,6 +1,6 @@
 use Rattle.std.proofs.Common.{◌≡◌, sym, ap, subst, arith}
 use Rattle.std.specs.List.{flat_map}
-use Rattle.pg_members.specs.Rows.{AreRows, total_of, taken}
+use Rattle.pg_members.specs.Rows.{AreRows, total_of, one_taken}
 use Rattle.pg_members.proofs.Flat.{count_le, total-taken, rows_taken}
 use Rattle.pg_members.proofs.level.LevelPart.take.Goals as goal
 
@@ -21,7 +21,7 @@ invariant_of-self g c =
     let sum = c.self.invariant.sum in
     let count = c.take_at-count.ensures.count in
     let total = total-taken pid most flat c.self.invariant.in_order in
-    let after : total_of (flat_map g.P.Part.rows c.take_at-count.new.parts.items) ≡ total_of (taken flat pid most) = ap total_of now in
+    let after : total_of (flat_map g.P.Part.rows c.take_at-count.new.parts.items) ≡ total_of (one_taken flat pid most) = ap total_of now in
     let fits = c.self.invariant.fits in
     record {
       sum = omega arith;

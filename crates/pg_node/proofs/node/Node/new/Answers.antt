@@ -4,7 +4,7 @@ use Rattle.pg_machine.specs.Clocked.{Timed}
 use Rattle.pg_opens.specs.Places.{name_at}
 use Rattle.pg_step.specs.Nodes.{Node}
 use Rattle.pg_step.specs.State.{State}
-use Rattle.pg_node.specs.Begun.{Begins}
+use Rattle.pg_node.specs.Begun.{BeginsLinked}
 use Rattle.pg_node.specs.Nodes.{links_of}
 use Rattle.pg_node_state.specs.States.{names_of, state_of}
 use Rattle.pg_node.proofs.Linked.{as_ok}
@@ -22,5 +22,5 @@ returns-in-Ok-clause-begun g c =
     let peers : ℕ = length c.args.config.peers.items in
     let same : peers + 1 ≡ length (names_of state) = one_more peers ∙ sym (ap (λ (ns : List Node). length ns) c.in-Ok.ensures.names) in
     as_ok c.opened.result _ _ (λ node begins.
-    subst (λ (own : Node). Begins (g.T.GroupTable.contents c.args.table) own peers (links_of node)) (ap (λ (ns : List Node). name_at ns 0) c.in-Ok.ensures.names)
-    (subst (λ (table : Table). Begins table (name_at (names_of state) 0) peers (links_of node)) (ap (λ (s : Timed State). s.state.table) c.in-Ok.ensures.state) begins)) (c.opened.ensures.begun peers same)
+    subst (λ (own : Node). BeginsLinked (g.T.GroupTable.contents c.args.table) own peers (links_of node)) (ap (λ (ns : List Node). name_at ns 0) c.in-Ok.ensures.names)
+    (subst (λ (table : Table). BeginsLinked table (name_at (names_of state) 0) peers (links_of node)) (ap (λ (s : Timed State). s.state.table) c.in-Ok.ensures.state) begins)) (c.opened.ensures.begun peers same)

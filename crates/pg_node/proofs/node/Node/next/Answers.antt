@@ -5,7 +5,7 @@ use Rattle.std.proofs.Common.{◌≡◌, ◌+◌, ◌<◌, ◌∙◌, Err, lengt
 use Rattle.pg_step.specs.declared.refusal.Refusal.TheVariants.{NodeLost}
 use Rattle.pg_node_state.specs.declared.state.fault.NodeFault.{NodeFault}
 use Rattle.pg_node_state.specs.declared.state.fault.NodeFault.TheVariants.{Refused}
-use Rattle.pg_node.specs.Bytes.{Tells, next_packet, marked}
+use Rattle.pg_node.specs.Bytes.{ReadsNext, next_packet, marked}
 use Rattle.pg_node.specs.Links.{Link, link_of, idle_link, links_in}
 use Rattle.pg_node.specs.Nodes.{read_next}
 use Rattle.pg_node.proofs.Events.{unmarked}
@@ -14,7 +14,7 @@ use Rattle.pg_node.proofs.node.Node.next.Goals as goal
 
 pub returns-then-is_lost-clause-told : goal.returns-then-is_lost-clause-told
 returns-then-is_lost-clause-told g c =
-    subst (λ lost. Tells (read_next lost (links_in c.args.self.now.wires.items c.args.peer)) (Err (Refused NodeLost))) (sym (sym c.is_lost.ensures ∙ c.if-is_lost.true)) refl
+    subst (λ lost. ReadsNext (read_next lost (links_in c.args.self.now.wires.items c.args.peer)) (Err (Refused NodeLost))) (sym (sym c.is_lost.ensures ∙ c.if-is_lost.true)) refl
 
 pub returns-then-is_lost-clause-marked : goal.returns-then-is_lost-clause-marked
 returns-then-is_lost-clause-marked g c = sym (unmarked (links_in c.args.self.now.wires.items) c.args.peer (Refused NodeLost) refl)
@@ -23,8 +23,8 @@ pub returns-clause-told : goal.returns-clause-told
 returns-clause-told g c =
     let wires = c.args.self.now.wires.items in
     let within : c.args.peer < length wires = omega (arith, c.args.self.now.linked, c.requires.place) in
-    let next = subst (λ (link : Link). Tells (next_packet link) c.next.result) (sym (part_here link_of idle_link wires c.args.peer c.index_mut-wire.result.now within c.index_mut-wire.ensures.value)) c.next.ensures.told in
-    subst (λ lost. Tells (read_next lost (links_in wires c.args.peer)) c.next.result) (sym (sym c.is_lost.ensures ∙ c.if-is_lost.false)) next
+    let next = subst (λ (link : Link). ReadsNext (next_packet link) c.next.result) (sym (part_here link_of idle_link wires c.args.peer c.index_mut-wire.result.now within c.index_mut-wire.ensures.value)) c.next.ensures.told in
+    subst (λ lost. ReadsNext (read_next lost (links_in wires c.args.peer)) c.next.result) (sym (sym c.is_lost.ensures ∙ c.if-is_lost.false)) next
 
 pub returns-clause-same : goal.returns-clause-same
 returns-clause-same g c =

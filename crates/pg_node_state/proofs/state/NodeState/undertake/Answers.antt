@@ -7,7 +7,7 @@ use Rattle.pg_step.specs.declared.answer.Reply.TheVariants.{Refused}
 use Rattle.pg_step.specs.declared.command_fault.CommandFault.TheVariants.{Busy}
 use Rattle.pg_step.specs.Step.{at_clock}
 use Rattle.pg_step.specs.Turns.{and_then}
-use Rattle.pg_node_state.specs.Issued.{issued}
+use Rattle.pg_node_state.specs.Issued.{op_issued}
 use Rattle.pg_node_state.specs.States.{names_of, live_of, kept_by, state_of, answers_of, Happens}
 use Rattle.pg_node_state.proofs.state.NodeState.undertake.Goals as goal
 
@@ -21,12 +21,12 @@ pub returns-then-open_count-ge-OPEN_LIMIT-clause-happens : goal.returns-then-ope
 returns-then-open_count-ge-OPEN_LIMIT-clause-happens g c = λ update is.
     let old = c.args.self.now in
     let full : nat_le OPEN_LIMIT (kept_by old).opened ≡ true = is_at_limit (kept_by old).opened (omega (arith, c.open_count.ensures, c.if-open_count-ge-OPEN_LIMIT.true)) in
-    subst (λ (b : Bool). IfOk c.answer.result (λ done. Happens (names_of old) (at_clock c.args.clock (issued c.args.port (λ op s. cond b (answer op (refused Busy) s) (and_then (open_command op update s) (attempt (live_of old) op update))) (kept_by old)))
+    subst (λ (b : Bool). IfOk c.answer.result (λ done. Happens (names_of old) (at_clock c.args.clock (op_issued c.args.port (λ op s. cond b (answer op (refused Busy) s) (and_then (open_command op update s) (attempt (live_of old) op update))) (kept_by old)))
     done (state_of c.answer.new.self) (answers_of old) (answers_of c.answer.new.self))) (sym full) (c.answer.ensures.happens (refused Busy) (ap Refused c.number.ensures))
 
 pub returns-clause-happens : goal.returns-clause-happens
 returns-clause-happens g c = λ update is.
     let old = c.args.self.now in
     let room : nat_le OPEN_LIMIT (kept_by old).opened ≡ false = is_below_limit (kept_by old).opened (omega (arith, c.open_count.ensures, c.if-open_count-ge-OPEN_LIMIT.false)) in
-    subst (λ (b : Bool). IfOk c.open.result (λ done. Happens (names_of old) (at_clock c.args.clock (issued c.args.port (λ op s. cond b (answer op (refused Busy) s) (and_then (open_command op update s) (attempt (live_of old) op update))) (kept_by old)))
+    subst (λ (b : Bool). IfOk c.open.result (λ done. Happens (names_of old) (at_clock c.args.clock (op_issued c.args.port (λ op s. cond b (answer op (refused Busy) s) (and_then (open_command op update s) (attempt (live_of old) op update))) (kept_by old)))
     done (state_of c.open.new.self) (answers_of old) (answers_of c.open.new.self))) (sym room) (c.open.ensures.happens update is)

@@ -5,7 +5,7 @@ use Rattle.std.proofs.lemmas.Result.{err_from_is_err_and}
 use Rattle.pg_frame.specs.Frames.{front_of}
 use Rattle.pg_frame.proofs.Readings.{front_is_frame}
 use Rattle.pg_replica.specs.Progress.{Progress}
-use Rattle.pg_replica.specs.Replica.{pair_of, Answers, answered}
+use Rattle.pg_replica.specs.Replica.{pair_of, AnswersServed, answered}
 use Rattle.pg_node_state.specs.States.{state_of}
 use Rattle.pg_replica.proofs.Served.{refused_cause}
 use Rattle.pg_replica.proofs.Streams.{stay, one, refused, cut_short}
@@ -44,7 +44,7 @@ returns-in_err-put_whole-clause-fault g c =
     let body = c.in-Ok-Some.body.now in
     let contents = g.W.Sink.contents in
     let front : front_of unread ≡ Ok (Some body) = sym c.in-Ok-Some.ensures.body ∙ ap (λ o. Ok (option_copied o)) c.in-Ok-Some.field-0-is in
-    let answers : Answers (answered pair s body) t [] c.answer.new.out.items = subst (λ (b : List ℕ). Answers (answered pair s body) t b c.answer.new.out.items) c.clear.ensures.items c.in_ok-answer.ensures.ok in
+    let answers : AnswersServed (answered pair s body) t [] c.answer.new.out.items = subst (λ (b : List ℕ). AnswersServed (answered pair s body) t b c.answer.new.out.items) c.clear.ensures.items c.in_ok-answer.ensures.ok in
     let p = err_from_is_err_and c.from_residual-in_err-put_whole.result c.from_residual-in_err-put_whole.ensures.1 in
     let f = c.in_err-put_whole.ensures.fault in
     rw (p.1, p.2, f.0) (cut_short pair unread body s t (contents c.args.writer.now) (contents c.put_whole.new.writer) c.answer.new.out.items f.1.0 f.1.1 front answers (f.1.2 ∙ c.as_slice.ensures) f.1.3)
@@ -57,7 +57,7 @@ returns-clause-progress g c =
     let unread = c.args.self.now.deframer.unread in
     let body = c.in-Ok-Some.body.now in
     let front : front_of unread ≡ Ok (Some body) = sym c.in-Ok-Some.ensures.body ∙ ap (λ o. Ok (option_copied o)) c.in-Ok-Some.field-0-is in
-    let answers : Answers (answered pair s body) t [] c.answer.new.out.items = subst (λ (b : List ℕ). Answers (answered pair s body) t b c.answer.new.out.items) c.clear.ensures.items c.in_ok-answer.ensures.ok in
+    let answers : AnswersServed (answered pair s body) t [] c.answer.new.out.items = subst (λ (b : List ℕ). AnswersServed (answered pair s body) t b c.answer.new.out.items) c.clear.ensures.items c.in_ok-answer.ensures.ok in
     let wrote = subst (Appends (g.W.Sink.contents c.args.writer.now) (g.W.Sink.contents c.put_whole.new.writer)) c.as_slice.ensures c.in_ok-put_whole.ensures.ok in
     subst (λ (u : List ℕ). Progress pair unread u s t (g.W.Sink.contents c.args.writer.now) (g.W.Sink.contents c.put_whole.new.writer)) (sym c.next.ensures.unread)
     (one pair unread body s t (g.W.Sink.contents c.args.writer.now) (g.W.Sink.contents c.put_whole.new.writer) c.answer.new.out.items front answers wrote)

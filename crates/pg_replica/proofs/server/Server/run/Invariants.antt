@@ -1,5 +1,5 @@
 use Rattle.std.proofs.Common.{◌≡◌, List, ℕ, length}
-use Rattle.pg_replica.specs.Causes.{Gave, IsFlushed}
+use Rattle.pg_replica.specs.Causes.{GaveChunks, IsFlushed}
 use Rattle.pg_replica.specs.Progress.{Serving}
 use Rattle.pg_replica.specs.Replica.{pair_of}
 use Rattle.pg_node_state.specs.States.{state_of}
@@ -9,7 +9,7 @@ use Rattle.pg_replica.proofs.server.Server.run.Given as goal
 abbrev pub invariant-loop : goal.invariant-loop
 invariant-loop g l =
     (pair_of l.self.node ≡ pair_of l.fn.self.node)
-    × Serving (pair_of l.fn.self.node) (λ (pieces : List (List ℕ)). Gave g.R.Source.gives l.fn.reader pieces l.reader × (length pieces ≡ l.counter))
+    × Serving (pair_of l.fn.self.node) (λ (pieces : List (List ℕ)). GaveChunks g.R.Source.gives l.fn.reader pieces l.reader × (length pieces ≡ l.counter))
     (g.R.Source.remaining l.fn.reader) (g.R.Source.remaining l.reader) l.self.deframer.unread
     (state_of l.self.node) (g.W.Sink.contents l.fn.writer) (g.W.Sink.contents l.writer)
     × IsFlushed g.W.Sink.flushed l.fn.writer l.writer

@@ -1,5 +1,5 @@
 use Rattle.std.proofs.Common.{[], ◌++◌, Some, ap, refl, subst, sym, ◌∙◌, append-nil}
-use Rattle.pg_requests.specs.Layouts.{placed}
+use Rattle.pg_requests.specs.Layouts.{layout_of}
 use Rattle.pg_talk.specs.Readings.{AreRead}
 use Rattle.pg_talk.specs.Servings.{kept_in, view_of}
 use Rattle.pg_talk.proofs.ThreadReads.{moved}
@@ -14,9 +14,9 @@ returns-in_ok-verdict-in-Ok g c given wanted source reads s =
     let after = g.W.Sink.contents c.run-served.new.writer in
     let ended = c.in-Ok.ensures.advances given before (record { inputs = []; whole = c.requires.came ∙ ap kept_in (sym c.requires.kept); serves = s }) in
     let over = c.in-Ok.ensures.over in
-    let read = c.join.ensures (placed 0 given) wanted source (moved remaining c.args.reader (record c.args.reader { inlet = c.run-served.new.inlet }) (placed 0 given) wanted source refl reads) in
+    let read = c.join.ensures (layout_of 0 given) wanted source (moved remaining c.args.reader (record c.args.reader { inlet = c.run-served.new.inlet }) (layout_of 0 given) wanted source refl reads) in
     let came = ended.whole ∙ (ap (λ kept. ended.inputs ++ kept_in kept) over.kept ∙ append-nil ended.inputs) in
     served_to_the_end remaining fails given wanted source before after ended.inputs read.0 (view_of c.run-served.new.self) _
-    (subst (λ all. AreRead remaining fails (placed 0 given) wanted source (all ++ read.0)) came read.1)
+    (subst (λ all. AreRead remaining fails (layout_of 0 given) wanted source (all ++ read.0)) came read.1)
     (over.over ∙ ap Some (sym (c.fault-fault.ensures over.fault over.over))) over.idle
     (rw c.into_running.ensures at c.in_ok-verdict-in-Ok.ensures) ended.serves

@@ -2,7 +2,7 @@ use Rattle.std.proofs.Common.{◌≡◌, ◌∙◌, ℕ, Ok, Err, refl, sym, ap,
 use Rattle.pg_machine.specs.Machine.{Take}
 use Rattle.pg_node_state.specs.declared.state.fault.NodeFault.{NodeFault}
 use Rattle.pg_node_state.specs.declared.state.fault.NodeFault.TheVariants.{OutOfMemory}
-use Rattle.pg_node.specs.Bytes.{Tells, next_packet, marked}
+use Rattle.pg_node.specs.Bytes.{ReadsNext, next_packet, marked}
 use Rattle.pg_node.specs.Links.{Link, at_link}
 use Rattle.pg_node.specs.Nodes.{held_by, links_of, has_lost, read_next}
 use Rattle.pg_world.specs.Crossings.{Crossing, crossing_of, written_of, ShowsBytesPast}
@@ -71,8 +71,8 @@ returns-in-Err g c = record {
       let its = shows.traffic.nodes in
       let still = ap (has_lost (held_by node)) c.peer_place.ensures
       ∙ unseen_by config _ w lost its i p _ (pair_there config _ w i p its c.requires.pair) (seen_there nodes rings i node l at) unseen in
-      let told = subst (λ b. Tells (read_next b (links_of node c.peer_place.result)) (Err fault)) still c.in-Err.ensures.told in
-      let memory = only_memory read.0 fault (subst (λ r. Tells r (Err fault)) next told) in
+      let told = subst (λ b. ReadsNext (read_next b (links_of node c.peer_place.result)) (Err fault)) still c.in-Err.ensures.told in
+      let memory = only_memory read.0 fault (subst (λ r. ReadsNext r (Err fault)) next told) in
       let unchanged = c.in-Err.ensures.marked ∙ (ap (λ (f : NodeFault). at_link c.peer_place.result (λ l. marked l f) (links_of node)) memory ∙ unmarked (links_of node) c.peer_place.result OutOfMemory refl) in
       let same = node_same nodes rings i node node2 l at (ap seen_of c.in-Err.ensures.state) unchanged in
       unread_err config w (Take i p) fault _ memory (subst (λ (crossing : Crossing). ShowsBytesPast config lost crossing (account_of c.args.self.now.histories) w) (sym same) shows);

@@ -1,6 +1,6 @@
 use Rattle.std.proofs.Common.{get_or, refl, subst, sym, ◌∙◌}
 use Rattle.std.proofs.lemmas.List.{get_or_default}
-use Rattle.pg_talk.specs.Servings.{Goes, Serves, view_of}
+use Rattle.pg_talk.specs.Servings.{ServingGoes, Serves, view_of}
 use Rattle.pg_talk.proofs.Spoken.{answer_served, loss_served, unheard_served}
 use Rattle.pg_talk.proofs.Turns.{on_ok, some_desk}
 use Rattle.pg_talk.proofs.service.serving.Serving.hear.Goals as goal
@@ -11,7 +11,7 @@ returns-in_ok-reply-in-Some g c =
     let new = c.reply.new.self in
     let before = g.W.Sink.contents c.args.writer.now in
     let after = g.W.Sink.contents c.reply.new.writer in
-    on_ok c.reply.result _ (Goes self new before after) c.reply.ensures
+    on_ok c.reply.result _ (ServingGoes self new before after) c.reply.ensures
     (λ next. record {
       kept = next.kept;
       goes = λ given first inputs s. subst (λ view. Serves given first inputs view after) (sym next.view)
@@ -26,7 +26,7 @@ returns-then-is_lost g c =
     let new = c.reply_lost.new.self in
     let before = g.W.Sink.contents c.args.writer.now in
     let after = g.W.Sink.contents c.reply_lost.new.writer in
-    on_ok c.reply_lost.result _ (Goes self new before after) c.reply_lost.ensures
+    on_ok c.reply_lost.result _ (ServingGoes self new before after) c.reply_lost.ensures
     (λ next. record {
       kept = next.kept;
       goes = λ given first inputs s. subst (λ view. Serves given first inputs view after) (sym next.view)

@@ -1,5 +1,5 @@
 use Rattle.std.proofs.Common.{refl, subst, sym, ◌∙◌}
-use Rattle.pg_talk.specs.Servings.{Goes, Serves, view_of}
+use Rattle.pg_talk.specs.Servings.{ServingGoes, Serves, view_of}
 use Rattle.pg_talk.proofs.Spoken.{looked_served, refusal_served}
 use Rattle.pg_talk.proofs.Turns.{on_ok}
 use Rattle.pg_talk.proofs.service.serving.Serving.refuse_next.Goals as goal
@@ -10,7 +10,7 @@ returns-in-Some g c =
     let new = c.reply_lost.new.self in
     let before = g.W.Sink.contents c.args.writer.now in
     let after = g.W.Sink.contents c.reply_lost.new.writer in
-    on_ok c.reply_lost.result _ (Goes self new before after) c.reply_lost.ensures
+    on_ok c.reply_lost.result _ (ServingGoes self new before after) c.reply_lost.ensures
     (λ next. record {
       kept = next.kept;
       goes = λ given first inputs s. subst (λ view. Serves given first inputs view after) (sym next.view)
