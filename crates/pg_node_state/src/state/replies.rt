@@ -89,7 +89,7 @@ impl<T: GroupTable + Drop> NodeState<T> {
     fn look_for(&mut self, number: u32)
         ensures state { state_of self.new ≡ state_of self.old }
         ensures answers { answers_of self.new ≡ answers_of self.old }
-        ensures left { live_of self.new ≡ live_of self.old }
+        ensures live { live_of self.new ≡ live_of self.old }
         ensures names { names_of self.new ≡ names_of self.old }
         ensures ports { ports_of self.new ≡ ports_of self.old }
     {

@@ -17,12 +17,12 @@ returns-clause-comes g c =
     let sought = c.look_for.new.self in
     comes_as c.args.clock c.args.peer c.args.number c.args.said (names_of old) (names_of sought) (live_of old) (live_of sought) (kept_by old) (kept_by sought) (answers_of old) (answers_of sought)
     c.take_looked_for.result (state_of c.take_looked_for.new.self) (answers_of c.take_looked_for.new.self)
-    c.look_for.ensures.names c.look_for.ensures.left (ap (λ (x : Timed State). x.state) c.look_for.ensures.state) c.look_for.ensures.answers c.take_looked_for.ensures.comes
+    c.look_for.ensures.names c.look_for.ensures.live (ap (λ (x : Timed State). x.state) c.look_for.ensures.state) c.look_for.ensures.answers c.take_looked_for.ensures.comes
 
 pub returns-clause-light : goal.returns-clause-light
 returns-clause-light g c = λ light.
     c.take_looked_for.ensures.light
-    ((λ i. is_counted (what_of true (gathered (use_of (c.look_for.ensures.left i) (numbered (c.look_for.ensures.left i).own c.args.number) (c.look_for.ensures.state i).state) (name_at (c.look_for.ensures.names i) (c.args.peer + 1))))) ∙ light)
+    ((λ i. is_counted (what_of true (gathered (use_of (c.look_for.ensures.live i) (numbered (c.look_for.ensures.live i).own c.args.number) (c.look_for.ensures.state i).state) (name_at (c.look_for.ensures.names i) (c.args.peer + 1))))) ∙ light)
 
 pub returns-clause-err : goal.returns-clause-err
 returns-clause-err g c = subst (λ (s : Timed State). OnErr c.take_looked_for.result (state_of c.take_looked_for.new.self ≡ s)) c.look_for.ensures.state c.take_looked_for.ensures.err
