@@ -39,30 +39,29 @@ pub(crate) fn answer<T: GroupTable + Drop>(
     ensures err_out { OnErr result (out.new.items ≡ out.old.items) }
     ensures names { names_of node.new ≡ names_of node.old }
 {
+    // Room is made first, so that nothing has to be taken back.
+    out.reserve(4 + MAX_SMALL_LEN)?;
     let packet = read_packet(alloc, body)?;
-    let answered = answer_packet(node, &packet, out);
-    drop(packet);
-    answered
+    answer_packet(node, packet, out)
 }
 
 /// Takes a packet of the one peer. A fault, of the node's step or `OutOfMemory`, changes nothing.
 fn answer_packet<T: GroupTable + Drop>(
     node: &mut NodeState<T>,
-    packet: &Packet,
+    packet: Packet,
     out: &mut BytesMut,
 ) -> Result<(), ServeFault>
     requires one_peer { length (names_of node.old) ≡ 2 }
-    requires few { IsShort (2 ^ 32) packet.now.message }
-    ensures ok { OnOk result (AnswersServed (taken_packet (pair_of node.old) (state_of node.old) packet.now)
+    requires few { IsShort (2 ^ 32) packet.message }
+    requires room { 4 + MAX_SMALL_LEN ≤ out.old.spare }
+    ensures ok { OnOk result (AnswersServed (taken_packet (pair_of node.old) (state_of node.old) packet)
         (state_of node.new) out.old.items out.new.items) }
-    ensures fault { IfErr result (Refuses (taken_packet (pair_of node.old) (state_of node.old) packet.now)) }
+    ensures fault { IfErr result (Refuses (taken_packet (pair_of node.old) (state_of node.old) packet)) }
     ensures err_state { OnErr result (state_of node.new ≡ state_of node.old) }
     ensures err_out { OnErr result (out.new.items ≡ out.old.items) }
     ensures names { names_of node.new ≡ names_of node.old }
 {
-    // Room is made first, so that nothing has to be taken back.
-    out.reserve(4 + MAX_SMALL_LEN)?;
-    match node.take(0, packet) {
+    match node.take_owned(0, packet) {
         Ok(done) => {
             write_sent(done.sends.as_slice(), out);
             drop(done);

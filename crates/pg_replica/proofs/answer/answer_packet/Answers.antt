@@ -8,15 +8,14 @@ use Rattle.pg_replica.proofs.answer.answer_packet.Goals as goal
 pub returns-in-Ok-clause-ok : goal.returns-in-Ok-clause-ok
 returns-in-Ok-clause-ok g c =
     let old = c.args.node.now in
-    let new = c.take.new.self in
+    let new = c.take_owned.new.self in
     let written : c.write_sent.new.out.items ≡ c.args.out.now.items ++ frames_to c.in-Ok.done.sends.items 0 =
-    c.write_sent.ensures ∙ (ap (λ (bytes : List ℕ). bytes ++ frames_to c.as_slice.result.now 0) c.in_ok-reserve.ensures.items
-    ∙ ap (λ (sends : List (ℕ × Packet)). c.args.out.now.items ++ frames_to sends 0) c.as_slice.ensures.value) in
-    answers (names_of old) c.requires.one_peer (state_of old) c.args.packet.now (state_of new) (answers_of old) (answers_of new) c.in-Ok.done c.args.out.now.items c.write_sent.new.out.items
+    c.write_sent.ensures ∙ ap (λ (sends : List (ℕ × Packet)). c.args.out.now.items ++ frames_to sends 0) c.as_slice.ensures.value in
+    answers (names_of old) c.requires.one_peer (state_of old) c.args.packet (state_of new) (answers_of old) (answers_of new) c.in-Ok.done c.args.out.now.items c.write_sent.new.out.items
     c.in-Ok.ensures.event c.in-Ok.ensures.fits written
 
 pub returns-in-Err-clause-fault : goal.returns-in-Err-clause-fault
 returns-in-Err-clause-fault g c =
     let old = c.args.node.now in
-    let new = c.take.new.self in
-    rw c.untaken.ensures (refuses (names_of old) c.requires.one_peer (state_of old) c.args.packet.now (state_of new) (answers_of old) (answers_of new) c.in-Err.fault c.in-Err.ensures.event)
+    let new = c.take_owned.new.self in
+    rw c.untaken.ensures (refuses (names_of old) c.requires.one_peer (state_of old) c.args.packet (state_of new) (answers_of old) (answers_of new) c.in-Err.fault c.in-Err.ensures.event)
