@@ -1,7 +1,7 @@
 use Rattle.std.proofs.lemmas.Result.{on_ok_weaker, err_from_is_err_and, MatchResult-weaker}
 use Rattle.std.proofs.Common.{◌^◌, ℕ, List, length, arith, subst}
 use Rattle.std.specs.Prelude.{OnOk}
-use Rattle.pg_replica.specs.Replica.{pair_of, taken_packet, Answers}
+use Rattle.pg_replica.specs.Replica.{pair_of, taken_packet, AnswersServed}
 use Rattle.pg_node_state.specs.States.{state_of}
 use Rattle.pg_node_state.proofs.Counts.{short}
 use Rattle.pg_replica.proofs.Bodies.{unread_refused, answers, untaken_refused}
@@ -23,7 +23,7 @@ returns-clause-ok g c =
     let after = state_of c.answer_packet.new.node in
     let written = c.answer_packet.new.out.items in
     on_ok_weaker c.answer_packet.result (answers pair state c.args.body.now packet c.in_ok-packet.ensures.exact after c.args.out.now.items written)
-    (subst (λ (items : List ℕ). OnOk c.answer_packet.result (Answers (taken_packet pair state packet) after items written)) c.in_ok-reserve.ensures.items c.answer_packet.ensures.ok)
+    (subst (λ (items : List ℕ). OnOk c.answer_packet.result (AnswersServed (taken_packet pair state packet) after items written)) c.in_ok-reserve.ensures.items c.answer_packet.ensures.ok)
 
 pub returns-clause-fault : goal.returns-clause-fault
 returns-clause-fault g c =
