@@ -15,7 +15,7 @@ use Rattle.pg_term.proofs.Same.{same_term as term_is}
 use Rattle.pg_history.specs.History.{Entry}
 use Rattle.pg_history.specs.WithLosses.{Marked}
 use Rattle.pg_account.specs.declared.row.Row.{Row}
-use Rattle.pg_account.specs.Histories.{entries_of, entries_in, count_at, counts_in, marks_in, marks_of}
+use Rattle.pg_account.specs.Histories.{entries_of, entries_in, count_at, counts_in, marked_entries_in, marked_entries_of}
 
 -- ---- numbers
 
@@ -35,7 +35,7 @@ abbrev Told : Type 0
 Told = List Entry × ((ℕ → ℕ) × (ℕ → Marked))
 
 abbrev told_of : Row → Told
-told_of row = (entries_of row, (count_at row.tally, marks_of row))
+told_of row = (entries_of row, (count_at row.tally, marked_entries_of row))
 
 -- rows that were copied in part: what was copied, and the rows that are left
 pub record RowsCopied (whole done : Rows) (left : List (Term × Row)) : Type 0 where
@@ -55,7 +55,7 @@ names_decide x y e = term_is x y (term_order.matches_eq-law x y ∙ e)
 names_flip : (x y : Term) → is_eq (term_cmp x y) ≡ is_eq (term_cmp y x)
 names_flip x y = sym (term_order.matches_eq-law x y) ∙ (term_equality.laws-law.symm x y ∙ term_order.matches_eq-law y x)
 
-pub rows_more : (whole old new : Rows) (name key : Term) (row copy : Row) (before left : List (Term × Row)) → before ≡ (name, row) ∷ left → key ≡ name → entries_of copy ≡ entries_of row → count_at copy.tally ≡ count_at row.tally → marks_of copy ≡ marks_of row
+pub rows_more : (whole old new : Rows) (name key : Term) (row copy : Row) (before left : List (Term × Row)) → before ≡ (name, row) ∷ left → key ≡ name → entries_of copy ≡ entries_of row → count_at copy.tally ≡ count_at row.tally → marked_entries_of copy ≡ marked_entries_of row
     → RowsCopied whole old before → UpdatesBy term_cmp (term_cmp key) old new (Some copy) → RowsCopied whole new left
 rows_more whole old new name key row copy before left is same entries counts marks copied h = record {
   overlaid = λ q. ap (λ (o : Option Told). option_or o (option_map told_of (lookup (is_at (term_cmp q)) left))) (after q) ∙ go q (is_at (term_cmp name) q) refl;
@@ -104,6 +104,6 @@ pub counts_copied : (whole done : Rows) (left : List (Term × Row)) → left ≡
 counts_copied whole done left is copied = fun_ext (λ i. fun_ext (λ q. through ℕ (λ t. t.1.0 i) 0 (get term_cmp done q)
     ∙ (ap (λ (o : Option Told). option_map_or (λ (t : Told). t.1.0 i) o 0) (all_told whole done left is copied q) ∙ sym (through ℕ (λ t. t.1.0 i) 0 (get term_cmp whole q)))))
 
-pub marks_copied : (whole done : Rows) (left : List (Term × Row)) → left ≡ [] → RowsCopied whole done left → marks_in done ≡ marks_in whole
+pub marks_copied : (whole done : Rows) (left : List (Term × Row)) → left ≡ [] → RowsCopied whole done left → marked_entries_in done ≡ marked_entries_in whole
 marks_copied whole done left is copied = fun_ext (λ i. fun_ext (λ q. through Marked (λ t. t.1.1 i) [] (get term_cmp done q)
     ∙ (ap (λ (o : Option Told). option_map_or (λ (t : Told). t.1.1 i) o []) (all_told whole done left is copied q) ∙ sym (through Marked (λ t. t.1.1 i) [] (get term_cmp whole q)))))

@@ -13,7 +13,7 @@ use Rattle.pg_term.proofs.Same.{same_term as term_is}
 use Rattle.pg_group.specs.Functions.{upd}
 use Rattle.pg_left.specs.Missed.{last_applied, marked_after}
 use Rattle.pg_account.specs.declared.row.Row.{Row}
-use Rattle.pg_account.specs.Histories.{count_at, counts_in, marks_in, marks_of}
+use Rattle.pg_account.specs.Histories.{count_at, counts_in, marked_entries_in, marked_entries_of}
 
 abbrev Rows : Type 0
 Rows = BTreeMap Term Row
@@ -74,14 +74,14 @@ module _ (m n : Rows) (name : Term) (old : Option Row) (new : Row) (had : get te
       go false e = sym (append-nil (before f [] q))
 
   -- a node took the last of its entries
-  pub marks_taken : (old_row : Row) (node i : ℕ) → old ≡ Some old_row → marks_of new i ≡ cond (nat_eq node i) (last_applied (marks_of old_row i)) (marks_of old_row i)
-      → (q : Term) → marks_in n i q ≡ marked_after [] (nat_eq node i && same_term q name) (marks_in m i q)
-  marks_taken old_row node i is now q = read (λ row. marks_of row i) [] q ∙ go (nat_eq node i) (same_term q name) now (term_is q name)
+  pub marks_taken : (old_row : Row) (node i : ℕ) → old ≡ Some old_row → marked_entries_of new i ≡ cond (nat_eq node i) (last_applied (marked_entries_of old_row i)) (marked_entries_of old_row i)
+      → (q : Term) → marked_entries_in n i q ≡ marked_after [] (nat_eq node i && same_term q name) (marked_entries_in m i q)
+  marks_taken old_row node i is now q = read (λ row. marked_entries_of row i) [] q ∙ go (nat_eq node i) (same_term q name) now (term_is q name)
     where
-      before_is : q ≡ name → marks_of old_row i ≡ marks_in m i q
-      before_is e = ap (λ o. option_map_or (λ (row : Row). marks_of row i) o []) (sym is) ∙ here (λ row. marks_of row i) [] q e
+      before_is : q ≡ name → marked_entries_of old_row i ≡ marked_entries_in m i q
+      before_is e = ap (λ o. option_map_or (λ (row : Row). marked_entries_of row i) o []) (sym is) ∙ here (λ row. marked_entries_of row i) [] q e
 
-      go : (c b : Bool) → marks_of new i ≡ cond c (last_applied (marks_of old_row i)) (marks_of old_row i) → (b ≡ true → q ≡ name) → cond b (marks_of new i) (marks_in m i q) ≡ marked_after [] (c && b) (marks_in m i q)
+      go : (c b : Bool) → marked_entries_of new i ≡ cond c (last_applied (marked_entries_of old_row i)) (marked_entries_of old_row i) → (b ≡ true → q ≡ name) → cond b (marked_entries_of new i) (marked_entries_in m i q) ≡ marked_after [] (c && b) (marked_entries_in m i q)
       go true true taken d = taken ∙ ap last_applied (before_is (d refl))
       go false true taken d = taken ∙ before_is (d refl)
       go true false taken d = refl

@@ -51,8 +51,8 @@ abbrev pub entries_of : Row → List history.Entry
 entries_of row = map as_entry row.entries.items
 
 -- the entries, each with the mark of a node
-abbrev pub marks_of : Row → ℕ → Marked
-marks_of row i = map (as_marked i) row.entries.items
+abbrev pub marked_entries_of : Row → ℕ → Marked
+marked_entries_of row i = map (as_marked i) row.entries.items
 
 -- one more entry of a node needs no memory
 abbrev pub HasRowRoom : Row → ℕ → Type 0
@@ -66,8 +66,8 @@ entries_in rows name = option_map_or entries_of (get term_cmp rows name) []
 abbrev pub counts_in : BTreeMap Term Row → ℕ → Term → ℕ
 counts_in rows node name = option_map_or (λ row. count_at row.tally node) (get term_cmp rows name) 0
 
-abbrev pub marks_in : BTreeMap Term Row → ℕ → Term → Marked
-marks_in rows node name = option_map_or (λ row. marks_of row node) (get term_cmp rows name) []
+abbrev pub marked_entries_in : BTreeMap Term Row → ℕ → Term → Marked
+marked_entries_in rows node name = option_map_or (λ row. marked_entries_of row node) (get term_cmp rows name) []
 
 -- one more entry of a group and a node needs no memory
 abbrev pub HasRow : BTreeMap Term Row → Term → ℕ → Type 0
@@ -100,7 +100,7 @@ applied_in histories i name = counts_in histories.rows i name + last_count histo
 
 -- the history of each group, each update with a mark that says whether a node has applied it
 abbrev pub marked_in : Histories → ℕ → Term → Marked
-marked_in histories i name = marks_in histories.rows i name ++ last_marks histories.last i name
+marked_in histories i name = marked_entries_in histories.rows i name ++ last_marks histories.last i name
 
 -- what a world has kept beside its nodes
 pub record Account : Type 0 where
@@ -124,8 +124,8 @@ abbrev pub account_formed : Bool → Account → Account
 account_formed formed account = record { histories = account.histories; applied = account.applied; marked = account.marked; formed = formed }
 
 -- each entry is in its row
-abbrev pub IsSettled : Histories → Type 0
-IsSettled histories = histories.last ≡ None
+abbrev pub AreInRows : Histories → Type 0
+AreInRows histories = histories.last ≡ None
 
 -- there is room in its row for the entry that is not there yet
 abbrev pub LastHasRow : BTreeMap Term Row → Option Entry → Type 0

@@ -38,7 +38,7 @@ impl Histories {
     ghost use Rattle.pg_account.specs.Histories.{account_of, history_in, applied_in, marked_in, no_account, begun_by, one_of};
     ghost use Rattle.pg_account.specs.Histories.{last_entries, last_count, as_entry, entries_in};
     ghost use Rattle.pg_account.specs.Histories.{account_formed, as_marked, is_among, last_marks};
-    ghost use Rattle.pg_account.specs.Histories.{counts_in, IsSettled, LastHasRow, CanServe};
+    ghost use Rattle.pg_account.specs.Histories.{counts_in, AreInRows, LastHasRow, CanServe};
 
     /// Nothing has begun.
     ///
@@ -161,7 +161,7 @@ impl Histories {
     fn put_last(&mut self)
         requires { LastHasRow self.old.rows self.old.last }
         ensures account { account_of self.new ≡ account_of self.old }
-        ensures settled { IsSettled self.new }
+        ensures settled { AreInRows self.new }
     {
         match self.last.take() {
             Some(entry) => rows::begin(&mut self.rows, entry),
@@ -177,7 +177,7 @@ impl Histories {
     /// counts there, and for the row where there is none.
     pub fn settle(&mut self) -> Result<(), AllocError>
         ensures account { account_of self.new ≡ account_of self.old }
-        ensures settled { OnOk result (IsSettled self.new) }
+        ensures settled { OnOk result (AreInRows self.new) }
     {
         self.make_room_for_last()?;
         self.put_last();
@@ -206,7 +206,7 @@ impl Histories {
     ///
     /// Cost: no memory.
     pub fn serve(&mut self, node: usize, packet: &Packet)
-        requires settled { IsSettled self.old }
+        requires settled { AreInRows self.old }
         requires room { CanServe self.old.rows node (update_asked_by packet.now.message) }
         ensures history { history_in self.new ≡ history_in self.old }
         ensures applied { (i : ℕ) (name : Term) → applied_in self.new i name
@@ -226,7 +226,7 @@ impl Histories {
     ///
     /// Cost: no memory.
     pub fn begin(&mut self, node: usize, began: Option<(OpId, Update)>)
-        requires { IsSettled self.old }
+        requires { AreInRows self.old }
         ensures history { (name : Term) → history_in self.new name
             ≡ history_in self.old name ++ of_group name (entry_of node began) }
         ensures applied { (i : ℕ) (name : Term) → applied_in self.new i name

@@ -16,7 +16,7 @@ pub(crate) struct Row {
 impl Row {
     ghost use Rattle.pg_group.specs.Functions.{upd};
     ghost use Rattle.pg_left.specs.Missed.{last_applied};
-    ghost use Rattle.pg_account.specs.Histories.{count_at, as_entry, as_marked, entries_of, marks_of, HasRowRoom};
+    ghost use Rattle.pg_account.specs.Histories.{count_at, as_entry, as_marked, entries_of, marked_entries_of, HasRowRoom};
 
     /// Nothing has begun.
     ///
@@ -24,7 +24,7 @@ impl Row {
     pub(crate) fn new(alloc: Global) -> Row
         ensures entries { entries_of result ≡ [] }
         ensures counts { count_at result.tally ≡ (λ node. 0) }
-        ensures marks { marks_of result ≡ (λ node. []) }
+        ensures marks { marked_entries_of result ≡ (λ node. []) }
     {
         Row {
             entries: Vec::new(alloc),
@@ -38,7 +38,7 @@ impl Row {
     pub(crate) fn copy(&self, alloc: Global) -> Result<Row, AllocError>
         ensures entries { IfOk result (λ copy. entries_of copy ≡ entries_of self.now) }
         ensures counts { IfOk result (λ copy. count_at copy.tally ≡ count_at self.now.tally) }
-        ensures marks { IfOk result (λ copy. marks_of copy ≡ marks_of self.now) }
+        ensures marks { IfOk result (λ copy. marked_entries_of copy ≡ marked_entries_of self.now) }
     {
         let entries = copy_entries(alloc, &self.entries)?;
         let tally = self.tally.copy()?;
@@ -51,7 +51,7 @@ impl Row {
     pub(crate) fn make_room(&mut self, node: usize) -> Result<(), AllocError>
         ensures entries { entries_of self.new ≡ entries_of self.old }
         ensures counts { count_at self.new.tally ≡ count_at self.old.tally }
-        ensures marks { marks_of self.new ≡ marks_of self.old }
+        ensures marks { marked_entries_of self.new ≡ marked_entries_of self.old }
         ensures room { OnOk result (HasRowRoom self.new node) }
     {
         self.entries.reserve(1)?;
@@ -66,7 +66,7 @@ impl Row {
         ensures entries { entries_of self.new ≡ entries_of self.old }
         ensures counts { count_at self.new.tally
             ≡ upd nat_eq (count_at self.old.tally) node (count_at self.old.tally node + 1) }
-        ensures marks { (i : ℕ) → i < 16 → marks_of self.new i ≡ cond (nat_eq node i) (last_applied (marks_of self.old i)) (marks_of self.old i) }
+        ensures marks { (i : ℕ) → i < 16 → marked_entries_of self.new i ≡ cond (nat_eq node i) (last_applied (marked_entries_of self.old i)) (marked_entries_of self.old i) }
     {
         self.tally.add(node);
         if let Some(last) = self.entries.last_mut() {
@@ -82,7 +82,7 @@ impl Row {
         ensures entries { entries_of self.new ≡ entries_of self.old ++ as_entry entry ∷ [] }
         ensures counts { count_at self.new.tally
             ≡ upd nat_eq (count_at self.old.tally) entry.node (count_at self.old.tally entry.node + 1) }
-        ensures marks { (i : ℕ) → marks_of self.new i ≡ marks_of self.old i ++ as_marked i entry ∷ [] }
+        ensures marks { (i : ℕ) → marked_entries_of self.new i ≡ marked_entries_of self.old i ++ as_marked i entry ∷ [] }
     {
         self.tally.add(entry.node);
         self.entries.push_reserved(entry);

@@ -7,7 +7,7 @@ ghost use Rattle.pg_term.specs.Same.{term_cmp};
 ghost use Rattle.pg_group.specs.Value.{name_of};
 ghost use Rattle.pg_history.specs.History.{is_update_of, of_group};
 ghost use Rattle.pg_left.specs.Missed.{marked_after};
-ghost use Rattle.pg_account.specs.Histories.{as_entry, as_marked, entries_in, counts_in, last_marks, marks_in, one_of, HasRow};
+ghost use Rattle.pg_account.specs.Histories.{as_entry, as_marked, entries_in, counts_in, last_marks, marked_entries_in, one_of, HasRow};
 
 use crate::entry::Entry;
 use crate::row::Row;
@@ -27,7 +27,7 @@ pub(crate) type Rows = BTreeMap<Term, Row>;
 pub(crate) fn copy(rows: &Rows, alloc: Global) -> Result<Rows, AllocError>
     ensures entries { IfOk result (λ copy. entries_in copy ≡ entries_in rows.now) }
     ensures counts { IfOk result (λ copy. counts_in copy ≡ counts_in rows.now) }
-    ensures marks { IfOk result (λ copy. marks_in copy ≡ marks_in rows.now) }
+    ensures marks { IfOk result (λ copy. marked_entries_in copy ≡ marked_entries_in rows.now) }
 {
     let mut copy = BTreeMap::new(alloc);
     for (name, row) in rows {
@@ -42,7 +42,7 @@ pub(crate) fn copy(rows: &Rows, alloc: Global) -> Result<Rows, AllocError>
 fn open_row(rows: &mut Rows, alloc: Global, name: &Term) -> Result<(), AllocError>
     ensures entries { entries_in rows.new ≡ entries_in rows.old }
     ensures counts { counts_in rows.new ≡ counts_in rows.old }
-    ensures marks { marks_in rows.new ≡ marks_in rows.old }
+    ensures marks { marked_entries_in rows.new ≡ marked_entries_in rows.old }
     ensures there { OnOk result (IsSome (get term_cmp rows.new name.now)) }
 {
     if rows.contains_key(name) {
@@ -64,7 +64,7 @@ pub(crate) fn make_room(
 ) -> Result<(), AllocError>
     ensures entries { entries_in rows.new ≡ entries_in rows.old }
     ensures counts { counts_in rows.new ≡ counts_in rows.old }
-    ensures marks { marks_in rows.new ≡ marks_in rows.old }
+    ensures marks { marked_entries_in rows.new ≡ marked_entries_in rows.old }
     ensures room { OnOk result (HasRow rows.new name.now node) }
 {
     open_row(rows, alloc, name)?;
@@ -82,8 +82,8 @@ pub(crate) fn serve(rows: &mut Rows, update: &Update, node: usize)
     ensures entries { entries_in rows.new ≡ entries_in rows.old }
     ensures counts { (i : ℕ) (name : Term) → counts_in rows.new i name
         ≡ counts_in rows.old i name + one_of node i name (Some update.now) }
-    ensures marks { (i : ℕ) (name : Term) → i < 16 → marks_in rows.new i name
-        ≡ marked_after [] (nat_eq node i && is_update_of name (Some update.now)) (marks_in rows.old i name) }
+    ensures marks { (i : ℕ) (name : Term) → i < 16 → marked_entries_in rows.new i name
+        ≡ marked_after [] (nat_eq node i && is_update_of name (Some update.now)) (marked_entries_in rows.old i name) }
 {
     match rows.get_mut(update.name()) {
         Some(row) => row.serve(node),
@@ -100,7 +100,7 @@ pub(crate) fn begin(rows: &mut Rows, entry: Entry)
         ≡ entries_in rows.old name ++ of_group name (as_entry entry ∷ []) }
     ensures counts { (i : ℕ) (name : Term) → counts_in rows.new i name
         ≡ counts_in rows.old i name + one_of entry.node i name (Some entry.update) }
-    ensures marks { (i : ℕ) (name : Term) → marks_in rows.new i name ≡ marks_in rows.old i name ++ last_marks (Some entry) i name }
+    ensures marks { (i : ℕ) (name : Term) → marked_entries_in rows.new i name ≡ marked_entries_in rows.old i name ++ last_marks (Some entry) i name }
 {
     match rows.get_mut(entry.update.name()) {
         Some(row) => row.begin(entry),
@@ -113,7 +113,7 @@ pub(crate) fn begin(rows: &mut Rows, entry: Entry)
 /// Cost: no memory.
 pub(crate) fn entries<'a>(rows: &'a Rows, name: &Term) -> &'a [Entry]
     ensures entries { map as_entry result.now ≡ entries_in rows.now name.now }
-    ensures marks { (i : ℕ) → map (as_marked i) result.now ≡ marks_in rows.now i name.now }
+    ensures marks { (i : ℕ) → map (as_marked i) result.now ≡ marked_entries_in rows.now i name.now }
 {
     match rows.get(name) {
         Some(row) => row.entries.as_slice(),

@@ -2,7 +2,7 @@
 use Rattle.std.proofs.Common.{◌≡◌, ◌∙◌, ℕ, Bool, true, false, not, ◌&&◌, ◌||◌, cond, nat_le, take}
 use Rattle.std.proofs.Common.{length, List, [], ◌∷◌, ◌++◌, Some, None, refl, sym, ap, subst}
 use Rattle.std.proofs.Math.Path.{fun_ext}
-use Rattle.pg_joining.specs.Losses.{IsMarked, MarkedEvent, MarkedLeads}
+use Rattle.pg_joining.specs.Losses.{MarksNotices, MarkedEvent, MarkedLeads}
 use Rattle.pg_machine.specs.Losing.{LosingEvent, LosingWorld, Lose, Step, each_place, losing_happens, stopped}
 use Rattle.pg_machine.specs.Machine.{Machine, World}
 use Rattle.pg_machine.specs.Places.{is_pair, is_place, set_at}
@@ -63,8 +63,8 @@ module _ {S P C O : Type 0} (m : Machine S P C O) (last : S → P) where
   one_alike w (Lose i keep) (Step f) same = absurd same
   one_alike w (Lose i keep) (Lose j keep2) (place, same) = loss_alike w i keep keep2 same ∙ ap (λ k. losing_happens m last w (Lose k keep2)) place
 
-  marks_alike : (is_last : P → Bool) (w : World S P O) (e f : LosingEvent C) (a b : Bool) → SameEvent m.size e f → a ≡ b → IsMarked is_last w e a → IsMarked is_last w f b
-  marks_alike is_last w (Step e) (Step f) a b same mark is = subst (λ d. IsMarked is_last w (Step d) b) same (subst (IsMarked is_last w (Step e)) mark is)
+  marks_alike : (is_last : P → Bool) (w : World S P O) (e f : LosingEvent C) (a b : Bool) → SameEvent m.size e f → a ≡ b → MarksNotices is_last w e a → MarksNotices is_last w f b
+  marks_alike is_last w (Step e) (Step f) a b same mark is = subst (λ d. MarksNotices is_last w (Step d) b) same (subst (MarksNotices is_last w (Step e)) mark is)
   marks_alike is_last w (Step e) (Lose j keep2) a b same mark is = absurd same
   marks_alike is_last w (Lose i keep) (Step f) a b same mark is = absurd same
   marks_alike is_last w (Lose i keep) (Lose j keep2) a b same mark is = sym mark ∙ is

@@ -21,7 +21,7 @@ use Rattle.pg_cluster.specs.declared.closed.Closed.{Closed}
 use Rattle.pg_cluster.specs.declared.closed.Stopped.{Stopped}
 use Rattle.pg_cluster.specs.declared.closed.TurnCount.{TurnCount}
 use Rattle.pg_cluster.specs.Clients.{AllPairs, AllHeard, ClientsRest, ports_ended}
-use Rattle.pg_cluster.specs.Closed.{AreStepsOf, IsInOrder, IsOneLosingRun, IsOneRun, JoinsToOneLosingRun, JoinsToOneRun}
+use Rattle.pg_cluster.specs.Closed.{AreStepsOf, IsByClock, IsOneLosingRun, IsOneRun, JoinsToOneLosingRun, JoinsToOneRun}
 use Rattle.pg_cluster.specs.Closed.{nodes_of, logs_in, logs_of, turns_of, losses_of, clients_of}
 use Rattle.pg_cluster.specs.Judges.{Agree}
 use Rattle.pg_cluster.specs.Ended.{AreWired, AllArrived}
@@ -137,10 +137,10 @@ finished_lost lost stopped (Err other) are told same = ap losses_of same ∙ are
 -- ---- its steps
 
 -- what the steps of a cluster that has ended are, whoever was lost, and where nobody was
-pub in_schedule : (closed : Closed) → IsInOrder closed → (steps : List FrameStep) → AreStepsOf closed steps → IsLosingSchedule (logs_in closed) closed.lost.items steps
+pub in_schedule : (closed : Closed) → IsByClock closed → (steps : List FrameStep) → AreStepsOf closed steps → IsLosingSchedule (logs_in closed) closed.lost.items steps
 in_schedule closed order steps are = record { order = closed.order.items; merges = order; is = are }
 
-pub in_plain_schedule : (closed : Closed) → IsInOrder closed → NobodyLost closed.lost.items → (steps : List FrameStep) → AreStepsOf closed steps → IsSchedule (logs_in closed) (length (logs_in closed)) steps
+pub in_plain_schedule : (closed : Closed) → IsByClock closed → NobodyLost closed.lost.items → (steps : List FrameStep) → AreStepsOf closed steps → IsSchedule (logs_in closed) (length (logs_in closed)) steps
 in_plain_schedule closed order nobody steps are = all_events (logs_in closed) closed.lost.items steps (in_schedule closed order steps are) nobody
 
 -- they are one run of the machine with losses
@@ -149,7 +149,7 @@ pub finished_losing_run : {K : Type 0}
     → AreMade given (map begun_by threads) → EndedWith lost threads nodes logs turns → IsLosingSchedule logs lost schedule → AreOneLosingRun given lost nodes schedule)
     → (lost : List Bool) (threads : List (Thread K)) (result : Result Closed Stopped)
     → MatchResult result (λ closed. ∥ EndedWith lost threads closed.nodes.items (map (λ v. v.items) closed.logs.items) closed.turns.items ∥₁) (λ other. ∥ EndedWith lost threads (nodes_of other) (logs_of other) (turns_of other) ∥₁)
-    → IfOk result IsInOrder → MatchResult result (λ closed. closed.lost.items ≡ lost) (λ other. losses_of other ≡ lost)
+    → IfOk result IsByClock → MatchResult result (λ closed. closed.lost.items ≡ lost) (λ other. losses_of other ≡ lost)
     → IfOk result (λ closed. (given : Config) → AreMade given (map begun_by threads) → IsOneLosingRun given closed)
 finished_losing_run law lost threads (Ok closed) ended order same = λ given made steps are.
     ∥∥₁_map ended (λ e.
@@ -163,7 +163,7 @@ pub finished_run : {K : Type 0}
     → NobodyLost lost → AreMade given (map begun_by threads) → EndedWith lost threads nodes logs turns → IsSchedule logs (length logs) schedule → AreOneRun given nodes logs schedule)
     → (lost : List Bool) (threads : List (Thread K)) (result : Result Closed Stopped)
     → (NobodyLost lost → MatchResult result (λ closed. EndedWith lost threads closed.nodes.items (map (λ v. v.items) closed.logs.items) closed.turns.items) (λ other. EndedWith lost threads (nodes_of other) (logs_of other) (turns_of other)))
-    → IfOk result IsInOrder → MatchResult result (λ closed. closed.lost.items ≡ lost) (λ other. losses_of other ≡ lost)
+    → IfOk result IsByClock → MatchResult result (λ closed. closed.lost.items ≡ lost) (λ other. losses_of other ≡ lost)
     → IfOk result (λ closed. NobodyLost lost → (given : Config) → AreMade given (map begun_by threads) → IsOneRun given closed)
 finished_run law lost threads (Ok closed) ended order same = λ nobody given made steps are.
     law given lost threads closed.nodes.items (logs_in closed) closed.turns.items steps nobody made (ended nobody) (in_plain_schedule closed order (subst NobodyLost (sym same) nobody) steps are)
@@ -172,7 +172,7 @@ finished_run law lost threads (Err other) ended order same = tt
 -- ---- what stopped, once it is finished
 
 pub joined_run : (stopped : Stopped) (result : Result Closed Stopped) → IfOk result (λ closed. closed.nodes.items ≡ nodes_of stopped)
-    → IfOk result (λ closed. map (λ v. v.items) closed.logs.items ≡ logs_of stopped) → IfOk result (λ closed. closed.lost.items ≡ losses_of stopped) → IfOk result IsInOrder
+    → IfOk result (λ closed. map (λ v. v.items) closed.logs.items ≡ logs_of stopped) → IfOk result (λ closed. closed.lost.items ≡ losses_of stopped) → IfOk result IsByClock
     → IfOk result (λ closed. NobodyLost (losses_of stopped) → (given : Config) → JoinsToOneRun given (nodes_of stopped) (logs_of stopped) → IsOneRun given closed)
 joined_run stopped (Ok closed) nodes logs lost order = λ nobody given joins steps are.
     subst (λ ns. AreOneRun given ns (logs_in closed) steps) (sym nodes)
@@ -182,7 +182,7 @@ joined_run stopped (Err other) nodes logs lost order = tt
 
 -- the same, whoever was lost
 pub joined_losing_run : (stopped : Stopped) (result : Result Closed Stopped) → IfOk result (λ closed. closed.nodes.items ≡ nodes_of stopped)
-    → IfOk result (λ closed. map (λ v. v.items) closed.logs.items ≡ logs_of stopped) → IfOk result (λ closed. closed.lost.items ≡ losses_of stopped) → IfOk result IsInOrder
+    → IfOk result (λ closed. map (λ v. v.items) closed.logs.items ≡ logs_of stopped) → IfOk result (λ closed. closed.lost.items ≡ losses_of stopped) → IfOk result IsByClock
     → IfOk result (λ closed. (given : Config) → JoinsToOneLosingRun given (losses_of stopped) (nodes_of stopped) (logs_of stopped) → IsOneLosingRun given closed)
 joined_losing_run stopped (Ok closed) nodes logs lost order = λ given joins steps are.
     subst (λ ns. ∥ AreOneLosingRun given closed.lost.items ns steps ∥₁) (sym nodes)
@@ -234,7 +234,7 @@ SurvivorsOfOneRun = (given : Config) (lost : List Bool) (nodes : List NodeOf) (l
 
 -- they agree, of what stopped, once it is finished
 pub joined_survivors : SurvivorsOfOneRun → (stopped : Stopped) (result : Result Closed Stopped) → IfOk result (λ closed. closed.nodes.items ≡ nodes_of stopped)
-    → IfOk result (λ closed. map (λ v. v.items) closed.logs.items ≡ logs_of stopped) → IfOk result IsInOrder
+    → IfOk result (λ closed. map (λ v. v.items) closed.logs.items ≡ logs_of stopped) → IfOk result IsByClock
     → IfOk result (λ closed. (given : Config) → JoinsToOneLosingRun given (losses_of stopped) (nodes_of stopped) (logs_of stopped) → IsOneLosingRun given closed)
     → IfOk result (λ closed. (given : Config) → JoinsToOneLosingRun given (losses_of stopped) (nodes_of stopped) (logs_of stopped)
     → length (logs_of stopped) ≡ length (nodes_of stopped) → ∥ SurvivorsAgree closed.nodes.items closed.lost.items closed.logs.items ∥₁)
@@ -249,7 +249,7 @@ joined_survivors law stopped (Err other) nodes logs order run = tt
 pub closed_survivors : {K : Type 0} → SurvivorsOfOneRun
     → (lost : List Bool) (threads : List (Thread K)) (result : Result Closed Stopped)
     → MatchResult result (λ closed. ∥ EndedWith lost threads closed.nodes.items (map (λ v. v.items) closed.logs.items) closed.turns.items ∥₁) (λ other. ∥ EndedWith lost threads (nodes_of other) (logs_of other) (turns_of other) ∥₁)
-    → IfOk result IsInOrder → IfOk result (λ closed. (given : Config) → AreMade given (map begun_by threads) → IsOneLosingRun given closed)
+    → IfOk result IsByClock → IfOk result (λ closed. (given : Config) → AreMade given (map begun_by threads) → IsOneLosingRun given closed)
     → IfOk result (λ closed. (given : Config) → AreMade given (map begun_by threads) → ∥ SurvivorsAgree closed.nodes.items closed.lost.items closed.logs.items ∥₁)
 closed_survivors law lost threads (Ok closed) ended order run = λ given made.
     let there = steps_there closed in

@@ -9,7 +9,7 @@ use Rattle.pg_ring.specs.Ends.{Sends, Receives}
 use Rattle.pg_run.specs.declared.log.NodeEvent.{NodeEvent}
 use Rattle.pg_run.specs.declared.port.Client.{Client}
 use Rattle.pg_run.specs.declared.port.Port.{Port}
-use Rattle.pg_run.specs.Acts.{Act, Given, Took, Saw, Did, entry_of, event_of}
+use Rattle.pg_run.specs.Acts.{Act, Given, Took, Saw, Did, log_entry, event_of}
 use Rattle.pg_run.specs.Ports.{ArePort, IsUnused, Meets, SamePort, HandedOver, handed_count, asked_kept, polled}
 use Rattle.pg_run.specs.Runs.{Runs, ports_at}
 use Rattle.pg_run.specs.Turns.{PortFollows, command_at, commands_at}
@@ -31,7 +31,7 @@ command_same place (Saw p last) = refl
 command_same place (Did (Issue port command)) = refl
 command_same place (Did (Retry op)) = refl
 
-commands_logged : (place : ℕ) (acts : List Act) → commands_at place acts ≡ commands_in place (map entry_of acts)
+commands_logged : (place : ℕ) (acts : List Act) → commands_at place acts ≡ commands_in place (map log_entry acts)
 commands_logged place [] = refl
 commands_logged place (act ∷ acts) = (λ j. command_same place act.input j ++ commands_logged place acts j)
 
@@ -58,7 +58,7 @@ module _ {K : Type 0} where
   node_heard : (begun ended : RunOf K) (clients : List Client) → Runs Sends Receives begun ended → log_in begun ≡ [] → All IsUnused (ports_at begun)
       → AllPairs Meets clients (ports_at ended) → NodeHeard begun (node_in ended) (log_in ended) clients
   node_heard begun ended clients runs unlogged unused meets =
-      let logged : log_in ended ≡ map entry_of runs.serves.acts = runs.serves.follows.log ∙ ap (λ w. w ++ map entry_of runs.serves.acts) unlogged in record {
+      let logged : log_in ended ≡ map log_entry runs.serves.acts = runs.serves.follows.log ∙ ap (λ w. w ++ map log_entry runs.serves.acts) unlogged in record {
         acts = runs.serves.acts;
         lead = runs.serves.follows.lead;
         logged = logged;

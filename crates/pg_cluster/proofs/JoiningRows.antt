@@ -8,12 +8,12 @@ use Rattle.std.proofs.Math.ListN.{get_or-append, length-set}
 use Rattle.std.proofs.Math.Seq.{get_or-append_seam}
 use Rattle.pg_ring.specs.Ends.{bytes_room}
 use Rattle.pg_joining.specs.Apart.{End}
-use Rattle.pg_cluster.specs.Ended.{Row}
+use Rattle.pg_cluster.specs.Ended.{NodeRow}
 use Rattle.pg_cluster.specs.Rows.{HaveRowRoom, Wired, Joins, AreJoined, PairAt, SoFar}
 use Rattle.pg_cluster.proofs.Starts.{all_push}
 
 -- each row is as it was, or one longer
-grown : (xs ys : List Row) (i j : ℕ) → AreJoined xs ys i j → (k : ℕ) (d : Row) → (t : List End) × ((get_or ys k d).items ≡ (get_or xs k d).items ++ t)
+grown : (xs ys : List NodeRow) (i j : ℕ) → AreJoined xs ys i j → (k : ℕ) (d : NodeRow) → (t : List End) × ((get_or ys k d).items ≡ (get_or xs k d).items ++ t)
 grown xs ys i j h k d = elim (eqb_tells k i) [
   | inl e ↦ (h.x ∷ [], rw e.1 (h.at_i d))
   | inr f ↦ elim (eqb_tells k j) [
@@ -25,7 +25,7 @@ grown xs ys i j h k d = elim (eqb_tells k i) [
 wired_grown : (xs xs' ys ys' s t : List End) (p q : ℕ) → xs' ≡ xs ++ s → ys' ≡ ys ++ t → p < length xs → q < length ys → Wired xs p ys q → Wired xs' p ys' q
 wired_grown xs xs' ys ys' s t p q e f a b w d = rw (e, f, get_or-append xs s d p a, get_or-append ys t d q b) (w d)
 
-pair_grown : (xs ys : List Row) (i j : ℕ) → AreJoined xs ys i j → (a b : ℕ) (d : Row) → b - 1 < length (get_or xs a d).items → a < length (get_or xs b d).items → PairAt xs a b d → PairAt ys a b d
+pair_grown : (xs ys : List NodeRow) (i j : ℕ) → AreJoined xs ys i j → (a b : ℕ) (d : NodeRow) → b - 1 < length (get_or xs a d).items → a < length (get_or xs b d).items → PairAt xs a b d → PairAt ys a b d
 pair_grown xs ys i j h a b d low high w =
     let s = grown xs ys i j h a d in
     let t = grown xs ys i j h b d in record {
@@ -36,7 +36,7 @@ pair_grown xs ys i j h a b d low high w =
 wired_new : (xs xs' ys ys' : List End) (x y : End) (p q : ℕ) → xs' ≡ xs ++ x ∷ [] → ys' ≡ ys ++ y ∷ [] → p ≡ length xs → q ≡ length ys → Wired (x ∷ []) 0 (y ∷ []) 0 → Wired xs' p ys' q
 wired_new xs xs' ys ys' x y p q e f a b w d = rw (e, f, a, b, get_or-append_seam xs x [] d, get_or-append_seam ys y [] d) (w d)
 
-at_least : (n : ℕ) (xs : List Row) (j i r : ℕ) (d : Row) → SoFar n xs j i → r < j → r < n → j ≤ length (get_or xs r d).items + 1
+at_least : (n : ℕ) (xs : List NodeRow) (j i r : ℕ) (d : NodeRow) → SoFar n xs j i → r < j → r < n → j ≤ length (get_or xs r d).items + 1
 at_least n xs j i r d s low in_n = elim (leb_tells i r) [
   | inl g ↦ let o = s.between r d g.1 low in_n in omega arith
   | inr l ↦ let o = s.before r d l.1 low in_n in omega arith
@@ -45,7 +45,7 @@ at_least n xs j i r d s low in_n = elim (leb_tells i r) [
 new_pair : (x y : End) → Joins x y → Wired (x ∷ []) 0 (y ∷ []) 0 × Wired (y ∷ []) 0 (x ∷ []) 0
 new_pair x y h = (λ d. (h.there, h.sent.0, h.got.1), λ d. (h.back, h.sent.1, h.got.0))
 
-pub joined_more : (n : ℕ) (xs ys : List Row) (j i : ℕ) → i < j → j < n → length ys ≡ length xs → AreJoined xs ys i j → SoFar n xs j i → SoFar n ys j (i + 1)
+pub joined_more : (n : ℕ) (xs ys : List NodeRow) (j i : ℕ) → i < j → j < n → length ys ≡ length xs → AreJoined xs ys i j → SoFar n xs j i → SoFar n ys j (i + 1)
 joined_more n xs ys j i ij jn len h s = record {
   rows = len ∙ s.rows;
   before = λ r d low less in_n. elim (eqb_tells r i) [
@@ -76,7 +76,7 @@ joined_more n xs ys j i ij jn len h s = record {
   ];
 }
 
-pub next_row : (n : ℕ) (xs : List Row) (j : ℕ) → SoFar n xs j j → SoFar n xs (j + 1) 0
+pub next_row : (n : ℕ) (xs : List NodeRow) (j : ℕ) → SoFar n xs j j → SoFar n xs (j + 1) 0
 next_row n xs j s = record {
   rows = s.rows;
   before = λ r d low less in_n. absurd (omega arith);
@@ -93,7 +93,7 @@ next_row n xs j s = record {
   these = λ a b d low e ab in_n. absurd (omega arith);
 }
 
-pub first_row : (n : ℕ) (xs : List Row) → length xs ≡ n → ((r : ℕ) (d : Row) → r < n → length (get_or xs r d).items ≡ 0) → SoFar n xs 0 0
+pub first_row : (n : ℕ) (xs : List NodeRow) → length xs ≡ n → ((r : ℕ) (d : NodeRow) → r < n → length (get_or xs r d).items ≡ 0) → SoFar n xs 0 0
 first_row n xs len none = record {
   rows = len;
   before = λ r d low less in_n. absurd (omega arith);
@@ -104,7 +104,7 @@ first_row n xs len none = record {
   these = λ a b d low e ab in_n. absurd (omega arith);
 }
 
-pub joined_here : (xs : List Row) (i j : ℕ) (v v' w w' : Row) (x y : End)
+pub joined_here : (xs : List NodeRow) (i j : ℕ) (v v' w w' : NodeRow) (x y : End)
     → i < j → j < length xs
     → v ≡ get_or xs i v → v'.items ≡ v.items ++ x ∷ []
     → w ≡ get_or (set xs i v') j w → w'.items ≡ w.items ++ y ∷ []
@@ -127,19 +127,19 @@ joined_here xs i j v v' w w' x y ij jn vi vx wi wy js =
 -- ---- room
 
 -- a row that is one link longer keeps the room of its rings
-room_pushed : (room : ℕ) (xs : List Row) (i : ℕ) (v w : Row) (x : End) → i < length xs → v ≡ get_or xs i v → w.items ≡ v.items ++ x ∷ [] → bytes_room x.link ≡ room → HaveRowRoom room xs → HaveRowRoom room (set xs i w)
+room_pushed : (room : ℕ) (xs : List NodeRow) (i : ℕ) (v w : NodeRow) (x : End) → i < length xs → v ≡ get_or xs i v → w.items ≡ v.items ++ x ∷ [] → bytes_room x.link ≡ room → HaveRowRoom room xs → HaveRowRoom room (set xs i w)
 room_pushed room xs i v w x low vi wx new have k d within = elim (eqb_tells k i) [
   | inl t ↦
       let here : get_or (set xs i w) k d ≡ w = ap (λ n. get_or (set xs i w) n d) t.1 ∙ get_or-set_same xs i w d low in
-      let before : All (λ (peer : End). bytes_room peer.link ≡ room) v.items = subst (λ (row : Row). All (λ (peer : End). bytes_room peer.link ≡ room) row.items) (sym vi) (have i v low) in
-      subst (λ (row : Row). All (λ (peer : End). bytes_room peer.link ≡ room) row.items) (sym here)
+      let before : All (λ (peer : End). bytes_room peer.link ≡ room) v.items = subst (λ (row : NodeRow). All (λ (peer : End). bytes_room peer.link ≡ room) row.items) (sym vi) (have i v low) in
+      subst (λ (row : NodeRow). All (λ (peer : End). bytes_room peer.link ≡ room) row.items) (sym here)
       (subst (All (λ (peer : End). bytes_room peer.link ≡ room)) (sym wx) (all_push (λ (peer : End). bytes_room peer.link ≡ room) v.items x before new))
   | inr f ↦
       let less : k < length xs = let n = length-set xs i w in omega (arith, within, n) in
-      subst (λ (row : Row). All (λ (peer : End). bytes_room peer.link ≡ room) row.items) (sym (get_or-set_other xs i k w d f.1)) (have k d less)
+      subst (λ (row : NodeRow). All (λ (peer : End). bytes_room peer.link ≡ room) row.items) (sym (get_or-set_other xs i k w d f.1)) (have k d less)
 ]
 
-pub room_joined : (room : ℕ) (xs : List Row) (i j : ℕ) (v v' w w' : Row) (x y : End)
+pub room_joined : (room : ℕ) (xs : List NodeRow) (i j : ℕ) (v v' w w' : NodeRow) (x y : End)
     → i < j → j < length xs
     → v ≡ get_or xs i v → v'.items ≡ v.items ++ x ∷ []
     → w ≡ get_or (set xs i v') j w → w'.items ≡ w.items ++ y ∷ []
@@ -150,5 +150,5 @@ room_joined room xs i j v v' w w' x y ij jn vi vx wi wy rx ry have =
     room_pushed room (set xs i v') j w w' y low2 wi wy ry (room_pushed room xs i v v' x (omega (arith, ij, jn)) vi vx rx have)
 
 -- rows without links
-pub no_room : (room : ℕ) (xs : List Row) → ((r : ℕ) (d : Row) → r < length xs → length (get_or xs r d).items ≡ 0) → HaveRowRoom room xs
+pub no_room : (room : ℕ) (xs : List NodeRow) → ((r : ℕ) (d : NodeRow) → r < length xs → length (get_or xs r d).items ≡ 0) → HaveRowRoom room xs
 no_room room xs none k d low i e within = absurd (let n = none k d low in omega (arith, n, within))

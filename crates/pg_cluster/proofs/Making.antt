@@ -27,7 +27,7 @@ use Rattle.pg_cluster.specs.declared.fault.StartFault.{StartFault}
 use Rattle.pg_cluster.specs.declared.fault.StartFault.TheVariants.{World, NoThread}
 use Rattle.pg_cluster.specs.declared.runs.Made.{Made}
 use Rattle.pg_cluster.specs.Clients.{AllPairs, IsOpenClient}
-use Rattle.pg_cluster.specs.Ended.{Row, AreWired, row_at}
+use Rattle.pg_cluster.specs.Ended.{NodeRow, AreWired, row_at}
 use Rattle.pg_cluster.specs.Fault.{CantRun, IsShortage}
 use Rattle.pg_cluster.specs.Rows.{HaveRowRoom, Wired, RowsWired}
 use Rattle.pg_cluster.specs.Threads.{AreMade, HasLinks, HaveRings, NodeOf, RunOf}
@@ -35,10 +35,10 @@ use Rattle.pg_cluster.specs.Threads.{node_in, row_in, log_in, ports_of_runs}
 use Rattle.pg_cluster.proofs.Paired.{pairs_right}
 
 -- the links of each
-abbrev pub lists : List Row → List (List End)
+abbrev pub lists : List NodeRow → List (List End)
 lists rows = map (λ v. v.items) rows
 
-module _ (n : ℕ) (rows : List Row) (none : Row) (wired : RowsWired n rows) where
+module _ (n : ℕ) (rows : List NodeRow) (none : NodeRow) (wired : RowsWired n rows) where
   row_is : (x : ℕ) → x < n → row_at (lists rows) x ≡ (get_or rows x none).items
   row_is x low = get_or-map (λ v. v.items) rows x none [] (let e = wired.rows in omega arith)
 
@@ -64,7 +64,7 @@ module _ (n : ℕ) (rows : List Row) (none : Row) (wired : RowsWired n rows) whe
   }
 
 -- each two of so many nodes have the rings between them
-pub are_wired : (n : ℕ) (rows : List Row) → RowsWired n rows → AreWired n (lists rows)
+pub are_wired : (n : ℕ) (rows : List NodeRow) → RowsWired n rows → AreWired n (lists rows)
 are_wired n [] wired = record {
   joined = record {
     count = wired.rows;
@@ -77,7 +77,7 @@ are_wired n [] wired = record {
 are_wired n (row ∷ rows) wired = wired_by n (row ∷ rows) row wired
 
 -- the nodes of a configuration that were made with these links, if they were
-pub are_made : {K : Type 0} (given : Config) (nodes : List NodeOf) (rows : List Row) (result : Result (Made K) StartFault)
+pub are_made : {K : Type 0} (given : Config) (nodes : List NodeOf) (rows : List NodeRow) (result : Result (Made K) StartFault)
     → IsConfig given → length nodes ≡ length given → BytesBegin given (idle_crossing nodes) no_account → RowsWired (length nodes) rows
     → IfOk result (λ made. map node_in made.runs.items ≡ nodes) → IfOk result (λ made. map row_in made.runs.items ≡ lists rows)
     → IfOk result (λ made. All (λ run. log_in run ≡ []) made.runs.items) → IfOk result (λ made. All (λ run. IsUntold (notices_of run)) made.runs.items)
@@ -119,16 +119,16 @@ names_begun given nodes begins i node there =
     let low : i < length nodes = slice_get_within nodes i node there in
     ap length (shows.each i (seen_node node) seen).names ∙ (known begins.0 i (omega (arith, low, size)) ∙ sym size)
 
-pub rows_fit : (given : Config) (nodes : List NodeOf) (rows : List Row) → BytesBegin given (idle_crossing nodes) no_account → RowsWired (length nodes) rows → AllPairs HasLinks (lists rows) nodes
+pub rows_fit : (given : Config) (nodes : List NodeOf) (rows : List NodeRow) → BytesBegin given (idle_crossing nodes) no_account → RowsWired (length nodes) rows → AllPairs HasLinks (lists rows) nodes
 rows_fit given nodes rows begins wired = record {
   len = length-map rows (λ v. v.items) ∙ wired.rows;
   each = λ i row node low. at i row node low rows wired;
 }
   where
-    at : (i : ℕ) (row : List End) (node : NodeOf) → i < length nodes → (rs : List Row) → RowsWired (length nodes) rs → HasLinks (get_or (lists rs) i row) (get_or nodes i node)
+    at : (i : ℕ) (row : List End) (node : NodeOf) → i < length nodes → (rs : List NodeRow) → RowsWired (length nodes) rs → HasLinks (get_or (lists rs) i row) (get_or nodes i node)
     at i row node low [] wired = absurd (let e = wired.rows in omega (arith, low, e))
     at i row node low (r ∷ rs) wired =
-        let all : List Row = r ∷ rs in
+        let all : List NodeRow = r ∷ rs in
         let here : get_or (lists all) i row ≡ (get_or all i r).items = get_or-map (λ v. v.items) all i r row (let e = wired.rows in omega (arith, low, e)) in
         let long : length (get_or all i r).items + 1 ≡ length nodes = wired.between i r (omega arith) low low in
         let names = names_begun given nodes begins i (get_or nodes i node) (slice_get-get_or nodes i node low) in
@@ -137,11 +137,11 @@ rows_fit given nodes rows begins wired = record {
 -- ---- the room of the rings
 
 -- what holds of the links of each row holds of those of each node that was made with them
-pub rings_of : {K : Type 0} (room : ℕ) (rows : List Row) (result : Result (Made K) StartFault) → HaveRowRoom room rows → IfOk result (λ made. map row_in made.runs.items ≡ lists rows)
+pub rings_of : {K : Type 0} (room : ℕ) (rows : List NodeRow) (result : Result (Made K) StartFault) → HaveRowRoom room rows → IfOk result (λ made. map row_in made.runs.items ≡ lists rows)
     → IfOk result (λ made. HaveRings room made.runs.items)
 rings_of {K} room rows (Ok made) have rowed = go made.runs.items rows rowed have
   where
-    go : (runs : List (RunOf K)) (rows : List Row) → map row_in runs ≡ lists rows → HaveRowRoom room rows → HaveRings room runs
+    go : (runs : List (RunOf K)) (rows : List NodeRow) → map row_in runs ≡ lists rows → HaveRowRoom room rows → HaveRings room runs
     go [] rows same have i run low = absurd (omega (arith, low))
     go (run ∷ runs) [] same have i d low = absurd (cc same)
     go (run ∷ runs) (row ∷ rows) same have zero d low =

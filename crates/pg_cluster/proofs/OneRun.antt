@@ -28,7 +28,7 @@ use Rattle.pg_run.specs.declared.log.NodeEvent.TheVariants as entries
 use Rattle.pg_ring.specs.Slots.{taken}
 use Rattle.pg_run.specs.declared.notices.Notice.{Notice}
 use Rattle.pg_run.specs.Acts.{Act, AllLead, Given, IsFromPeer, Took, Saw, Did, SawNone, Standing}
-use Rattle.pg_run.specs.Acts.{entry_of, event_of as entry_event, loss_of, losses_of, seen_by, seen_in}
+use Rattle.pg_run.specs.Acts.{log_entry, event_of as entry_event, loss_of, losses_of, seen_by, seen_in}
 use Rattle.pg_run.specs.Follows.{Follows, node_of as node_at, log_of}
 use Rattle.pg_run.specs.Notices.{IsUntold, NoticesGo, kept_of}
 use Rattle.pg_run.specs.Runs.{linked_of, notices_at, notices_of}
@@ -119,7 +119,7 @@ input_plain (Saw p last) none = saw_none p last none
 input_plain (Did (Issue port command)) none = tt
 input_plain (Did (Retry op)) none = tt
 
-acts_plain : (acts : List Act) → SawNone acts → AllPlain (map entry_of acts)
+acts_plain : (acts : List Act) → SawNone acts → AllPlain (map log_entry acts)
 acts_plain [] none = tt
 acts_plain (act ∷ acts) none = (input_plain act.input (first_none act acts none), acts_plain acts (others_none act acts none))
 
@@ -274,8 +274,8 @@ module _ {K : Type 0} (given : Config) (lost : List Bool) (threads : List (Threa
       seen_none (acts_and i).0 (sees.seen
       ∙ none_seen sees.losses (notices_of (begun_by (get_or threads i thread))) (notices_of (get_or ended.rans i ran).run) sees.told (begun_untold i within) (untold nobody i (omega (arith, within, ran_count))))
 
-  log_is_of : (i : ℕ) → i < length config → log_of (end i) ≡ map entry_of (acts_and i).0
-  log_is_of i low = ((acts_and i).1 low).log ∙ ap (λ w. w ++ map entry_of (acts_and i).0) (unlogged i low)
+  log_is_of : (i : ℕ) → i < length config → log_of (end i) ≡ map log_entry (acts_and i).0
+  log_is_of i low = ((acts_and i).1 low).log ∙ ap (λ w. w ++ map log_entry (acts_and i).0) (unlogged i low)
 
   log_plain : NobodyLost lost → (i : ℕ) → i < length config → AllPlain (log_of (end i))
   log_plain nobody i low = subst AllPlain (sym (log_is_of i low)) (acts_plain (acts_and i).0 (unseen nobody i low))
@@ -397,7 +397,7 @@ module _ {K : Type 0} (given : Config) (lost : List Bool) (threads : List (Threa
   ran_losing = record { ran = have_run; seen = sees_lost }
 
   -- the peers that its log names are few
-  acts_small : (names : List (List ℕ)) (ports : ℕ) (a : Standing) (acts : List Act) (b : Standing) → length names ≤ 17 → AllLead names ports a acts b → AllByRecursion (λ entry. IsSmall entry.1) (map entry_of acts)
+  acts_small : (names : List (List ℕ)) (ports : ℕ) (a : Standing) (acts : List Act) (b : Standing) → length names ≤ 17 → AllLead names ports a acts b → AllByRecursion (λ entry. IsSmall entry.1) (map log_entry acts)
   acts_small names ports a [] b low lead = tt
   acts_small names ports a (act ∷ acts) b low (m, lead, later) = (one act.input lead.there, acts_small names ports m acts b low later)
     where

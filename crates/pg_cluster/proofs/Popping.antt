@@ -9,22 +9,22 @@ use Rattle.pg_joining.specs.Apart.{End}
 use Rattle.pg_frame_world.proofs.Peering.{place_low, place_high}
 use Rattle.pg_frame_world.proofs.Turning.{pair_is, is_pair_so}
 use Rattle.pg_cluster.specs.Ended.{AreJoined, Arrived, SameRow, SameRows, AreEndsAt}
-use Rattle.pg_cluster.specs.Ended.{AreLast, ArrivedLast, Row, row_at, end_at}
+use Rattle.pg_cluster.specs.Ended.{AreLast, ArrivedLast, NodeRow, row_at, end_at}
 use Rattle.pg_cluster.proofs.Settling.{row_composes, row_rests, ends_later, both_before}
 
 -- what is left of the rows is the first of them, over which nothing went
-pub record AreLeft (rows left : List Row) : Type 0 where
+pub record AreLeft (rows left : List NodeRow) : Type 0 where
   pub len : length left ≤ length rows
-  pub each : (x : ℕ) (none : Row) → x < length left → SameRow (get_or rows x none).items (get_or left x none).items
+  pub each : (x : ℕ) (none : NodeRow) → x < length left → SameRow (get_or rows x none).items (get_or left x none).items
 
-pub all_left : (rows : List Row) → AreLeft rows rows
+pub all_left : (rows : List NodeRow) → AreLeft rows rows
 all_left rows = record { len = omega arith; each = λ x none low. row_rests (get_or rows x none).items }
 
-abbrev pub lists : List Row → List (List End)
+abbrev pub lists : List NodeRow → List (List End)
 lists rows = map (λ v. v.items) rows
 
 -- the rings between nodes of which one is at this place or behind it
-abbrev pub ArrivedFrom : List Row → ℕ → Type 0
+abbrev pub ArrivedFrom : List NodeRow → ℕ → Type 0
 ArrivedFrom rows k = (x y : ℕ) (none : End) → is_pair (length rows) x y ≡ true → (k ≤ x) ⊎ (k ≤ y) → Arrived (end_at (lists rows) x y none) (end_at (lists rows) y x none)
 
 -- ---- places
@@ -33,28 +33,28 @@ below : (x n : ℕ) → (x < n) ⊎ (n ≤ x)
 below x n = elim (leb_tells n x) [ inl t ↦ inr t.1 | inr f ↦ inl f.1 ]
 
 -- the row of a node
-row_is : (rows : List Row) (x : ℕ) (none : Row) → x < length rows → row_at (lists rows) x ≡ (get_or rows x none).items
+row_is : (rows : List NodeRow) (x : ℕ) (none : NodeRow) → x < length rows → row_at (lists rows) x ≡ (get_or rows x none).items
 row_is rows x none low = get_or-map (λ v. v.items) rows x none [] low
 
 -- ---- one row popped
 
-module _ (rows others : List Row) (row : Row) (joined : AreJoined (length rows) (lists rows)) (left : AreLeft rows (others ++ row ∷ [])) where
+module _ (rows others : List NodeRow) (row : NodeRow) (joined : AreJoined (length rows) (lists rows)) (left : AreLeft rows (others ++ row ∷ [])) where
   within : length others < length rows
   within = let l = left.len in let p = length_push others row in omega (arith, l, p)
 
-  before : (x : ℕ) (none : Row) → x < length others → SameRow (get_or rows x none).items (get_or others x none).items
-  before x none low = subst (λ (v : Row). SameRow (get_or rows x none).items v.items) (get_or_append_left others (row ∷ []) none x low)
+  before : (x : ℕ) (none : NodeRow) → x < length others → SameRow (get_or rows x none).items (get_or others x none).items
+  before x none low = subst (λ (v : NodeRow). SameRow (get_or rows x none).items v.items) (get_or_append_left others (row ∷ []) none x low)
       (left.each x none (let p = length_push others row in omega (arith, low, p)))
 
-  last : (none : Row) → SameRow (get_or rows (length others) none).items row.items
-  last none = subst (λ (v : Row). SameRow (get_or rows (length others) none).items v.items) (get_or_push others row none (length others) refl)
+  last : (none : NodeRow) → SameRow (get_or rows (length others) none).items row.items
+  last none = subst (λ (v : NodeRow). SameRow (get_or rows (length others) none).items v.items) (get_or_push others row none (length others) refl)
       (left.each (length others) none (let p = length_push others row in omega (arith, p)))
 
-  count : (x : ℕ) (none : Row) → x < length rows → length (get_or rows x none).items + 1 ≡ length rows
+  count : (x : ℕ) (none : NodeRow) → x < length rows → length (get_or rows x none).items + 1 ≡ length rows
   count x none low = subst (λ (es : List End). length es + 1 ≡ length rows) (row_is rows x none low) (joined.each x low)
 
   -- the ends of the rings between a node and the last
-  ends_here : (x : ℕ) (none : Row) → x < length others → AreEndsAt (get_or rows x none).items (length others - 1) (get_or rows (length others) none).items x
+  ends_here : (x : ℕ) (none : NodeRow) → x < length others → AreEndsAt (get_or rows x none).items (length others - 1) (get_or rows (length others) none).items x
   ends_here x none low end =
       let l : length others < length rows = within in
       let xl : x < length rows = omega (arith, low, l) in
@@ -79,7 +79,7 @@ module _ (rows others : List Row) (row : Row) (joined : AreJoined (length rows) 
         ends_later (get_or rows x none).items (get_or others x none).items (get_or rows (length others) none).items row.items (length others - 1) x a b (ends_here x none low),
       )
 
-  pub left_less : (others2 : List Row) → SameRows others others2 → AreLeft rows others2
+  pub left_less : (others2 : List NodeRow) → SameRows others others2 → AreLeft rows others2
   left_less others2 same = record {
     len = let l : length others < length rows = within in let e = same.0 in omega arith;
     each = λ x none low.

@@ -27,7 +27,7 @@ use Rattle.pg_config.specs.declared.fault.WorldFault.{WorldFault}
 use Rattle.pg_config.specs.declared.fault.WorldFault.TheVariants.{OutOfMemory}
 use Rattle.pg_world.specs.Crossings.{node_of}
 use Rattle.pg_frame_world.specs.Openings.{CantBegin}
-use Rattle.pg_frame_world.specs.Runs.{IsTold, IsPassed, LosesNone, Ran, RunsTo, over_packets, number_told}
+use Rattle.pg_frame_world.specs.Runs.{IsTold, ChangesNothing, LosesNone, Ran, RunsTo, over_packets, number_told}
 use Rattle.pg_starts.specs.Seen.{Seen}
 use Rattle.pg_frame_world.specs.Views.{View}
 use Rattle.pg_frame_world.specs.Worlds.{TimedFrameWorld, ShowsWorld, ShowsNode, ShowsNodes, event_of, told, told_of_first}
@@ -75,7 +75,7 @@ told_ten config w u e number happened (inl is) = is ∙ ap number_told (turn_is_
 told_ten config w u e number happened (inr is) = is
 
 -- has the number of no memory
-passed_ten : (config : Config) (w u : TimedFrameWorld) (step : FrameStep) (e : Event Action) (number : ℕ) → event_of step ≡ Some e → happens (frame_machine config) w e ≡ Some u → IsPassed config w step number → number ≡ 10
+passed_ten : (config : Config) (w u : TimedFrameWorld) (step : FrameStep) (e : Event Action) (number : ℕ) → event_of step ≡ Some e → happens (frame_machine config) w e ≡ Some u → ChangesNothing config w step number → number ≡ 10
 passed_ten config w u (steps.Take i p) e number is happened passed = told_ten config w u (Take i p) number (ap (happens (frame_machine config) w) (some_is is) ∙ happened) passed
 passed_ten config w u (steps.Command i port c) e number is happened passed = told_ten config w u _ number (ap (happens (frame_machine config) w) (some_is is) ∙ happened) passed
 passed_ten config w u (steps.Retry i op) e number is happened passed = told_ten config w u _ number (ap (happens (frame_machine config) w) (some_is is) ∙ happened) passed

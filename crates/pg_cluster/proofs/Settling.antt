@@ -8,7 +8,7 @@ use Rattle.pg_ring.specs.declared.ring_in.RingIn.{RingIn}
 use Rattle.pg_ring.specs.Ends.{Sends, Receives, bytes_sent, bytes_received}
 use Rattle.pg_ring.specs.EndsLaws.{Sends-rests, Sends-composes, Receives-rests, Receives-composes, AreEnds-later}
 use Rattle.pg_joining.specs.Apart.{End}
-use Rattle.pg_cluster.specs.Ended.{Arrived, SameEnd, SameRow, SameRows, AreEndsAt, ArrivedAt, Row}
+use Rattle.pg_cluster.specs.Ended.{Arrived, SameEnd, SameRow, SameRows, AreEndsAt, ArrivedAt, NodeRow}
 
 -- ---- one end
 
@@ -70,14 +70,14 @@ both_before low low2 high high2 p q a b both none = (
 
 -- ---- all rows
 
-pub rows_rest : (rows : List Row) → SameRows rows rows
+pub rows_rest : (rows : List NodeRow) → SameRows rows rows
 rows_rest rows = (refl, λ x none. row_rests (get_or rows x none).items)
 
-pub rows_compose : (xs ys zs : List Row) → SameRows xs ys → SameRows ys zs → SameRows xs zs
+pub rows_compose : (xs ys zs : List NodeRow) → SameRows xs ys → SameRows ys zs → SameRows xs zs
 rows_compose xs ys zs p q = (q.0 ∙ p.0, λ x none. row_composes (get_or xs x none).items (get_or ys x none).items (get_or zs x none).items (p.1 x none) (q.1 x none))
 
 -- one row is the same row
-pub rows_changed : (rows : List Row) (place : ℕ) (v w : Row) → place < length rows → v ≡ get_or rows place v → SameRow v.items w.items → SameRows rows (set rows place w)
+pub rows_changed : (rows : List NodeRow) (place : ℕ) (v w : NodeRow) → place < length rows → v ≡ get_or rows place v → SameRow v.items w.items → SameRows rows (set rows place w)
 rows_changed rows place v w low is same = (
   length-set rows place w,
   λ i none. elim (eqb_tells i place) [
@@ -89,16 +89,16 @@ rows_changed rows place v w low is same = (
 -- ---- one node after another
 
 -- of the two rings between a last node and one before it, what was found later
-arrived_one : (rows rows2 : List Row) (row row2 : List End) (place last last2 : ℕ) (v : Row) → SameRows rows rows2 → SameRow row row2 → place < length rows2 → v ≡ get_or rows2 place v
-    → last2 ≡ last → ArrivedAt v.items last2 row2 place → (none : Row) → ArrivedAt (get_or rows place none).items last row place
+arrived_one : (rows rows2 : List NodeRow) (row row2 : List End) (place last last2 : ℕ) (v : NodeRow) → SameRows rows rows2 → SameRow row row2 → place < length rows2 → v ≡ get_or rows2 place v
+    → last2 ≡ last → ArrivedAt v.items last2 row2 place → (none : NodeRow) → ArrivedAt (get_or rows place none).items last row place
 arrived_one rows rows2 row row2 place last last2 v same is low at e both none =
     both_before (get_or rows place none).items (get_or rows2 place none).items row row2 last place (same.1 place none) is
-    (subst (λ (w : Row). ArrivedAt w.items last row2 place) (at ∙ get_or_default rows2 place v none low) (subst (λ k. ArrivedAt v.items k row2 place) e both))
+    (subst (λ (w : NodeRow). ArrivedAt w.items last row2 place) (at ∙ get_or_default rows2 place v none low) (subst (λ k. ArrivedAt v.items k row2 place) e both))
 
-pub arrived_more : (rows rows2 : List Row) (row row2 : List End) (place last last2 : ℕ) (v : Row) → SameRows rows rows2 → SameRow row row2 → place < length rows2 → v ≡ get_or rows2 place v
+pub arrived_more : (rows rows2 : List NodeRow) (row row2 : List End) (place last last2 : ℕ) (v : NodeRow) → SameRows rows rows2 → SameRow row row2 → place < length rows2 → v ≡ get_or rows2 place v
     → last2 ≡ last → ArrivedAt v.items last2 row2 place
-    → ((x : ℕ) (none : Row) → x < place → ArrivedAt (get_or rows x none).items last row x)
-    → (x : ℕ) (none : Row) → x < place + 1 → ArrivedAt (get_or rows x none).items last row x
+    → ((x : ℕ) (none : NodeRow) → x < place → ArrivedAt (get_or rows x none).items last row x)
+    → (x : ℕ) (none : NodeRow) → x < place + 1 → ArrivedAt (get_or rows x none).items last row x
 arrived_more rows rows2 row row2 place last last2 v same is low at e both before x none less = elim (eqb_tells x place) [
   | inl t ↦ subst (λ k. ArrivedAt (get_or rows k none).items last row k) (sym t.1) (arrived_one rows rows2 row row2 place last last2 v same is low at e both none)
   | inr f ↦ before x none (omega (arith, f.1, less))

@@ -69,7 +69,7 @@ use Rattle.pg_cluster.specs.Schedule.{loss_if, losses_first}
 use Rattle.pg_cluster.specs.Schedule.{node_of_peer, seen_step, step_as, steps_at, steps_behind}
 use Rattle.pg_cluster.specs.Survivors.{SurvivorsAgree, any_before, asks_of, has_event, is_change_of}
 use Rattle.pg_cluster.specs.Survivors.{is_compared, is_loss_of, is_loss_pending, is_missing}
-use Rattle.pg_cluster.specs.Survivors.{is_of_lost, is_take_of, log_at, survivors, was_lost}
+use Rattle.pg_cluster.specs.Survivors.{is_touched_by_lost, is_take_of, log_at, survivors, was_lost}
 use Rattle.pg_cluster.specs.Threads.{NodeOf}
 use Rattle.pg_cluster.specs.Together.{AreOneLosingRun, CanBeMade, MadeInTurn, losing_event}
 use Rattle.pg_cluster.proofs.OneRun.{peer_within}
@@ -596,7 +596,7 @@ module _ (agreeing : Agreeing) (finishing : Finishing) (given : Config) (lost : 
 
     -- ---- a group that is compared
 
-    module _ (name : Term) (not_of : is_of_lost lost logs name ≡ false) where
+    module _ (name : Term) (not_of : is_touched_by_lost lost logs name ≡ false) where
       -- of a lost node
       of_one : (p : ℕ) → p < length nodes → was_lost lost p ≡ true → (has_event (is_change_of name) (log_at logs p) ≡ false) × (is_missing is_take_of lost logs p ≡ false)
       of_one p low gone = or_false (has_event (is_change_of name) (log_at logs p)) (is_missing is_take_of lost logs p)
@@ -654,8 +654,8 @@ module _ (agreeing : Agreeing) (finishing : Finishing) (given : Config) (lost : 
         → formed_in (get_or nodes i d) ≡ true → formed_in (get_or nodes j e) ≡ true → is_compared (survivors lost nodes) lost logs name ≡ true
         → (state_in (get_or nodes i d)).table name ≡ (state_in (get_or nodes j e)).table name
     same_group i j d e name low_i low_j kept_i kept_j full_i full_j compared =
-        let both = and_true (is_seen_free (survivors lost nodes) name) (not (is_of_lost lost logs name)) compared in
-        let not_of = not_false (is_of_lost lost logs name) both.1 in
+        let both = and_true (is_seen_free (survivors lost nodes) name) (not (is_touched_by_lost lost logs name)) compared in
+        let not_of = not_false (is_touched_by_lost lost logs name) both.1 in
         let x = any_left (λ node. is_none ((state_in node).locks name)) lost nodes both.0 in
         let free : (run.u.world.node x.0).state.locks name ≡ None = ap (λ (s : State). s.locks name) (state_is x.0 d x.1) ∙ none_so _ (x.3 d) in
         ap (λ (s : State). s.table name) (sym (state_is i d low_i))

@@ -31,7 +31,7 @@ use Rattle.pg_loss.proofs.Bridges.{bridged}
 use Rattle.pg_loss.proofs.Lasts.{unheard}
 use Rattle.pg_loss.proofs.Lossy.{bare, passed}
 use Rattle.pg_joining.specs.ApartWithLosses.{is_last_notice}
-use Rattle.pg_joining.specs.Losses.{IsMarked, MarkedLeads, is_first_last}
+use Rattle.pg_joining.specs.Losses.{MarksNotices, MarkedLeads, is_first_last}
 use Rattle.pg_frame_world.specs.declared.step.FrameStep.{FrameStep}
 use Rattle.pg_frame_world.specs.declared.step.FrameStep.TheVariants as steps
 use Rattle.pg_frame_world.specs.Losing.{first_refusal, keep_of, none_sent, packet_refusal}
@@ -193,7 +193,7 @@ module _ (config : Config) (u v : LosingFrameWorld) where
 
     -- ---- a step
 
-    step_made : (step : FrameStep) → Leads (losing_event step) → IsMarked is_last_notice u.world (losing_event step) (is_sight step) → KeepsEach (length config) (seen_step step)
+    step_made : (step : FrameStep) → Leads (losing_event step) → MarksNotices is_last_notice u.world (losing_event step) (is_sight step) → KeepsEach (length config) (seen_step step)
         → CanBeMade (told_of config u step)
     step_made (steps.Take i p) h mark keeps = take_made i p h mark
     step_made (steps.Command i port command) h mark keeps = own_made i (Issue port command) h

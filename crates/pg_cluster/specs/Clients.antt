@@ -9,7 +9,7 @@ use Rattle.pg_run.specs.declared.log.NodeEvent.TheVariants as events
 use Rattle.pg_run.specs.declared.port.Asked.{Asked}
 use Rattle.pg_run.specs.declared.port.Client.{Client}
 use Rattle.pg_run.specs.declared.port.Port.{Port}
-use Rattle.pg_run.specs.Acts.{Act, AllLead, entry_of}
+use Rattle.pg_run.specs.Acts.{Act, AllLead, log_entry}
 use Rattle.pg_run.specs.Follows.{standing_of}
 use Rattle.pg_run.specs.Ports.{ArePort, AreNew, SameClient, ClientRests, submitted, polled}
 use Rattle.pg_run.specs.Runs.{ports_at}
@@ -87,7 +87,7 @@ pub record ClientHeard (place begun : ℕ) (acts : List Act) (log : List (ℕ ×
 pub record NodeHeard {K : Type 0} (begun : RunOf K) (ended : NodeOf) (log : List (ℕ × NodeEvent)) (clients : List Client) : Type 0 where
   pub acts : List Act
   pub lead : AllLead (names_of (held_by (node_in begun))) (ports_of (held_by (node_in begun))) (standing_of (node_in begun)) acts (standing_of ended)
-  pub logged : log ≡ map entry_of acts
+  pub logged : log ≡ map log_entry acts
   pub count : length clients ≡ length (ports_at begun)
   pub each : (place : ℕ) (none : Client) → place < length clients
       → ClientHeard place (length (answers_of (held_by (node_in begun)) place)) acts log (answers_of (held_by ended) place) (get_or clients place none)

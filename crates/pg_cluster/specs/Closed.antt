@@ -81,8 +81,8 @@ abbrev pub logs_in : Closed → List (List (ℕ × NodeEvent))
 logs_in closed = map (λ v. v.items) closed.logs.items
 
 -- their entries are merged by clock and then by node
-abbrev pub IsInOrder : Closed → Type 0
-IsInOrder closed = Merges (length (logs_in closed)) (clocks_in (logs_in closed)) closed.order.items
+abbrev pub IsByClock : Closed → Type 0
+IsByClock closed = Merges (length (logs_in closed)) (clocks_in (logs_in closed)) closed.order.items
 
 -- these steps are its nodes' events and losses, in their order
 abbrev pub AreStepsOf : Closed → List FrameStep → Type 0

@@ -60,16 +60,16 @@ pub record SameRow (a b : List End) : Type 0 where
   pub each : (place : ℕ) (none : End) → SameEnd (get_or a place none) (get_or b place none)
 
 -- the links of a node to its peers
-abbrev pub Row : Type 0
-Row = Vec End Global
+abbrev pub NodeRow : Type 0
+NodeRow = Vec End Global
 
 -- what is asked of the row of a last node, and of those of the nodes before it
-abbrev pub AreLast : List Row → List End → Type 0
-AreLast rows row = (x : ℕ) (none : Row) → x < length rows
+abbrev pub AreLast : List NodeRow → List End → Type 0
+AreLast rows row = (x : ℕ) (none : NodeRow) → x < length rows
     → (length rows - 1 < length (get_or rows x none).items) × (x < length row) × AreEndsAt (get_or rows x none).items (length rows - 1) row x
 
-abbrev pub SameRows : List Row → List Row → Type 0
-SameRows rows rows2 = (length rows2 ≡ length rows) × ((x : ℕ) (none : Row) → SameRow (get_or rows x none).items (get_or rows2 x none).items)
+abbrev pub SameRows : List NodeRow → List NodeRow → Type 0
+SameRows rows rows2 = (length rows2 ≡ length rows) × ((x : ℕ) (none : NodeRow) → SameRow (get_or rows x none).items (get_or rows2 x none).items)
 
-abbrev pub ArrivedLast : List Row → List End → Type 0
-ArrivedLast rows row = (x : ℕ) (none : Row) → x < length rows → ArrivedAt (get_or rows x none).items (length rows - 1) row x
+abbrev pub ArrivedLast : List NodeRow → List End → Type 0
+ArrivedLast rows row = (x : ℕ) (none : NodeRow) → x < length rows → ArrivedAt (get_or rows x none).items (length rows - 1) row x

@@ -12,13 +12,13 @@ use Rattle.pg_run.specs.Runs.{Runs, RanBy, Ended, stop_of}
 abbrev pub TakesIn : RingOut → ℕ → ℕ → Type 0
 TakesIn end offered count = count ≤ offered
 
-abbrev pub Gives : RingIn → ℕ → ℕ → Type 0
-Gives end asked count = count ≤ asked
+abbrev pub GivesUpTo : RingIn → ℕ → ℕ → Type 0
+GivesUpTo end asked count = count ≤ asked
 
 -- what a thread tells of the node that it was given
 pub record RanAs {T K : Type 0} {g : Ghosts T} (run : NodeRun T RingOut RingIn K g) (limit : ℕ) (ran : Ran T RingOut RingIn K g) : Type 0 where
   pub runs : Runs Sends Receives run ran.run
-  pub made : RanBy Sends Receives TakesIn Gives run ran
+  pub made : RanBy Sends Receives TakesIn GivesUpTo run ran
   pub turns : ran.turns ≤ limit
   pub short : ran.short ≤ ran.turns
   pub ended : Ended Receives (stop_of run) (stop_of ran.run) limit ran.turns

@@ -79,8 +79,8 @@ abbrev pub is_loss_pending : List Bool → List Log → Bool
 is_loss_pending lost logs = any_before (λ node. was_lost lost node && is_missing is_loss_of lost logs node) (length logs)
 
 -- A lost node was asked for an update of the group, or some of the others took no packet of it, and so not what it told at first.
-abbrev pub is_of_lost : List Bool → List Log → Term → Bool
-is_of_lost lost logs name =
+abbrev pub is_touched_by_lost : List Bool → List Log → Term → Bool
+is_touched_by_lost lost logs name =
     any_before (λ node. was_lost lost node && (has_event (is_change_of name) (log_at logs node) || is_missing is_take_of lost logs node)) (length logs)
 
 -- ---- one opinion
@@ -88,7 +88,7 @@ is_of_lost lost logs name =
 module _ {T : Type 0} {g : Ghosts T} where
   -- the group is compared: one of these nodes sees its lock free, and it is not of a lost node
   abbrev pub is_compared : List (Node T g) → List Bool → List Log → Term → Bool
-  is_compared nodes lost logs name = is_seen_free nodes name && not (is_of_lost lost logs name)
+  is_compared nodes lost logs name = is_seen_free nodes name && not (is_touched_by_lost lost logs name)
 
   -- a node has the same as each of these nodes that is formed, of each of its groups that is compared
   abbrev pub AgreesOf : (Term → Bool) → List (Node T g) → Node T g → Type 0

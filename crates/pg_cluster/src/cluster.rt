@@ -85,7 +85,7 @@ impl<K: Rng + Drop + Send + 'static> Cluster<K> {
     ghost use Rattle.pg_run.specs.Ports.{IsSilent};
     ghost use Rattle.pg_cluster.specs.Clients.{AreClients, ClientsRest, AllHeard};
     ghost use Rattle.pg_cluster.specs.Closed.{AllTold, JoinsToOneLosingRun, JoinsToOneRun, NoticesCame, tellers_of};
-    ghost use Rattle.pg_cluster.specs.Closed.{HasSteps, IsInOrder, IsOneLosingRun, IsOneRun};
+    ghost use Rattle.pg_cluster.specs.Closed.{HasSteps, IsByClock, IsOneLosingRun, IsOneRun};
     ghost use Rattle.pg_cluster.specs.Closed.{threads_of, lost_of, nodes_of, logs_of, turns_of, losses_of, clients_of};
     ghost use Rattle.pg_cluster.specs.Fault.{CantRun};
     ghost use Rattle.pg_cluster.specs.Notices.{NobodyLost};
@@ -213,7 +213,7 @@ impl<K: Rng + Drop + Send + 'static> Cluster<K> {
             → IsOneRun given closed) }
         ensures agree { IfOk result (λ closed. NobodyLost (lost_of self) → (given : Configuration) → AreMade given (map begun_by (threads_of self))
             → Agree closed.nodes.items closed.logs.items) }
-        ensures order { IfOk result IsInOrder }
+        ensures order { IfOk result IsByClock }
         ensures steps { IfOk result HasSteps }
         ensures losing_run { IfOk result (λ closed. (given : Configuration) → AreMade given (map begun_by (threads_of self))
             → IsOneLosingRun given closed) }

@@ -50,7 +50,7 @@ impl Running {
     ghost use Rattle.pg_run.specs.declared.port.Client.{Client as ClientEnd};
     ghost use Rattle.pg_step.specs.declared.refusal.Refusal.TheVariants.{NoSuchPlace, NodeLost};
     ghost use Rattle.pg_cluster.specs.Clients.{AllHeard, ClientsRest};
-    ghost use Rattle.pg_cluster.specs.Closed.{AllTold, HasSteps, IsInOrder, IsOneLosingRun, IsOneRun, JoinsToOneLosingRun, JoinsToOneRun};
+    ghost use Rattle.pg_cluster.specs.Closed.{AllTold, HasSteps, IsByClock, IsOneLosingRun, IsOneRun, JoinsToOneLosingRun, JoinsToOneRun};
     ghost use Rattle.pg_cluster.specs.Closed.{NoticesCame, nodes_of, logs_of, turns_of, losses_of, clients_of};
     ghost use Rattle.pg_cluster.specs.Fault.{CantRun};
     ghost use Rattle.pg_cluster.specs.Judges.{Agree};
@@ -187,7 +187,7 @@ impl Running {
         ensures one_run { IfOk result.0 (λ closed. NobodyLost (losses_in self)
             → ∥ IsOneRun (config_in self).starts.items closed ∥₁) }
         ensures agree { IfOk result.0 (λ closed. NobodyLost (losses_in self) → ∥ Agree closed.nodes.items closed.logs.items ∥₁) }
-        ensures order { IfOk result.0 IsInOrder }
+        ensures order { IfOk result.0 IsByClock }
         ensures steps { IfOk result.0 HasSteps }
         ensures losing_run { IfOk result.0 (IsOneLosingRun (config_in self).starts.items) }
         ensures survivors { IfOk result.0 (λ closed. ∥ SurvivorsAgree closed.nodes.items closed.lost.items closed.logs.items ∥₁) }

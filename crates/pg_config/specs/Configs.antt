@@ -47,7 +47,7 @@ refusal_of ring config =
     cond (is_config config) (cond (have_names config) (cond (is_capacity ring) None (Some BadCapacity)) (Some NameTooLarge)) (Some BadConfig)
 
 -- an answer is what is told, or memory ran out
-abbrev pub IsJudged : {X : Type 0} → Option WorldFault → Result X WorldFault → Type 0
-IsJudged told (Ok x) = told ≡ None
-IsJudged told (Err OutOfMemory) = Unit {0}
-IsJudged told (Err fault) = told ≡ Some fault
+abbrev pub IsAsTold : {X : Type 0} → Option WorldFault → Result X WorldFault → Type 0
+IsAsTold told (Ok x) = told ≡ None
+IsAsTold told (Err OutOfMemory) = Unit {0}
+IsAsTold told (Err fault) = told ≡ Some fault

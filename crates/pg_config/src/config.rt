@@ -6,7 +6,7 @@ ghost use Rattle.pg_term.specs.Same.{same_atom};
 ghost use Rattle.pg_ends.specs.Numbers.{is_among as is_made_by};
 ghost use Rattle.pg_step.specs.Config.{was_made};
 ghost use Rattle.pg_config.specs.Configs.{are_apart, are_made, is_start, is_config, are_names};
-ghost use Rattle.pg_config.specs.Configs.{have_names, is_capacity, refusal_of, IsJudged};
+ghost use Rattle.pg_config.specs.Configs.{have_names, is_capacity, refusal_of, IsAsTold};
 
 use crate::fault::WorldFault;
 use pg_ends::MAX_PROCESSES;
@@ -40,7 +40,7 @@ impl Config {
     /// Cost: a look at the nodes, at most 16, for each member, and a walk over the name of each group; memory for the
     /// names of a node's groups, where they do not ascend in the order of terms.
     pub fn check(&self, alloc: Global) -> Result<(), WorldFault>
-        ensures { IsJudged (refusal_of self.now.ring self.now.starts.items) result }
+        ensures { IsAsTold (refusal_of self.now.ring self.now.starts.items) result }
     {
         let starts = self.starts.as_slice();
         if !is_config(alloc, starts)? {

@@ -6,7 +6,7 @@ use Rattle.pg_diagram.specs.declared.arrows.Arrow.{Arrow}
 use Rattle.pg_diagram.specs.declared.data.Event.{Event}
 use Rattle.pg_diagram.specs.declared.data.Event.TheVariants as events
 use Rattle.pg_diagram.specs.declared.data.Topic.{Topic}
-use Rattle.pg_diagram.specs.Arrows.{taken_in, arrows_from, lands, landed, with_event}
+use Rattle.pg_diagram.specs.Arrows.{taken_row, arrows_from, lands, landed, with_event}
 
 -- ---- a packet is taken
 
@@ -40,18 +40,18 @@ or_none (Some row) = refl
 or_none None = refl
 
 module _ (e : Event) where
-  taken_more : (packet row : ℕ) (xs : List Event) → taken_in packet row (xs ++ e ∷ []) ≡ or_else (taken_in packet row xs) (taken_in packet (row + length xs) (e ∷ []))
-  taken_more packet row [] = ap (λ n. taken_in packet n (e ∷ [])) (omega arith)
+  taken_more : (packet row : ℕ) (xs : List Event) → taken_row packet row (xs ++ e ∷ []) ≡ or_else (taken_row packet row xs) (taken_row packet (row + length xs) (e ∷ []))
+  taken_more packet row [] = ap (λ n. taken_row packet n (e ∷ [])) (omega arith)
   taken_more packet row (events.Taken other ∷ xs) = go (nat_eq other packet) (taken_more packet (row + 1) xs)
     where
-      go : (b : Bool) → taken_in packet (row + 1) (xs ++ e ∷ []) ≡ or_else (taken_in packet (row + 1) xs) (taken_in packet (row + 1 + length xs) (e ∷ []))
-          → cond b (Some row) (taken_in packet (row + 1) (xs ++ e ∷ [])) ≡ or_else (cond b (Some row) (taken_in packet (row + 1) xs)) (taken_in packet (row + length (events.Taken other ∷ xs)) (e ∷ []))
+      go : (b : Bool) → taken_row packet (row + 1) (xs ++ e ∷ []) ≡ or_else (taken_row packet (row + 1) xs) (taken_row packet (row + 1 + length xs) (e ∷ []))
+          → cond b (Some row) (taken_row packet (row + 1) (xs ++ e ∷ [])) ≡ or_else (cond b (Some row) (taken_row packet (row + 1) xs)) (taken_row packet (row + length (events.Taken other ∷ xs)) (e ∷ []))
       go true more = refl
-      go false more = more ∙ ap (λ n. or_else (taken_in packet (row + 1) xs) (taken_in packet n (e ∷ []))) (omega arith)
-  taken_more packet row (events.Line line ∷ xs) = taken_more packet (row + 1) xs ∙ ap (λ n. or_else (taken_in packet (row + 1) xs) (taken_in packet n (e ∷ []))) (omega arith)
-  taken_more packet row (events.Sent from to topic label ∷ xs) = taken_more packet (row + 1) xs ∙ ap (λ n. or_else (taken_in packet (row + 1) xs) (taken_in packet n (e ∷ []))) (omega arith)
-  taken_more packet row (events.Note node label ∷ xs) = taken_more packet (row + 1) xs ∙ ap (λ n. or_else (taken_in packet (row + 1) xs) (taken_in packet n (e ∷ []))) (omega arith)
-  taken_more packet row (events.Lost node ∷ xs) = taken_more packet (row + 1) xs ∙ ap (λ n. or_else (taken_in packet (row + 1) xs) (taken_in packet n (e ∷ []))) (omega arith)
+      go false more = more ∙ ap (λ n. or_else (taken_row packet (row + 1) xs) (taken_row packet n (e ∷ []))) (omega arith)
+  taken_more packet row (events.Line line ∷ xs) = taken_more packet (row + 1) xs ∙ ap (λ n. or_else (taken_row packet (row + 1) xs) (taken_row packet n (e ∷ []))) (omega arith)
+  taken_more packet row (events.Sent from to topic label ∷ xs) = taken_more packet (row + 1) xs ∙ ap (λ n. or_else (taken_row packet (row + 1) xs) (taken_row packet n (e ∷ []))) (omega arith)
+  taken_more packet row (events.Note node label ∷ xs) = taken_more packet (row + 1) xs ∙ ap (λ n. or_else (taken_row packet (row + 1) xs) (taken_row packet n (e ∷ []))) (omega arith)
+  taken_more packet row (events.Lost node ∷ xs) = taken_more packet (row + 1) xs ∙ ap (λ n. or_else (taken_row packet (row + 1) xs) (taken_row packet n (e ∷ []))) (omega arith)
 
 -- what an event makes of arrows of which the first has this number
 abbrev with_from : (first row : ℕ) → Event → List Arrow → List Arrow
@@ -71,7 +71,7 @@ module _ (from to : ℕ) (topic : Topic) (start : ℕ) where
   arrow end = record { from = from; to = to; topic = topic; start = start; end = end }
 
   -- behind an arrow that is there
-  joined : (first row : ℕ) (e : Event) (o : Option ℕ) (xs : List Arrow) → arrow (or_else o (taken_in first row (e ∷ []))) ∷ with_from (first + 1) row e xs ≡ with_from first row e (arrow o ∷ xs)
+  joined : (first row : ℕ) (e : Event) (o : Option ℕ) (xs : List Arrow) → arrow (or_else o (taken_row first row (e ∷ []))) ∷ with_from (first + 1) row e xs ≡ with_from first row e (arrow o ∷ xs)
   joined first row (events.Sent f t c l) o xs = ap (λ p. arrow p ∷ with_from (first + 1) row (events.Sent f t c l) xs) (or_none o)
   joined first row (events.Taken packet) o xs = go (nat_eq packet first) o
     where
@@ -96,9 +96,9 @@ module _ (e : Event) where
   arrows_more packet row [] = first_more packet row e
   arrows_more packet row (events.Sent from to topic label ∷ xs) =
       ap (λ o. arrow from to topic row o ∷ arrows_from (packet + 1) (row + 1) (xs ++ e ∷ [])) (taken_more e packet (row + 1) xs)
-      ∙ ap (λ ys. arrow from to topic row (or_else (taken_in packet (row + 1) xs) (taken_in packet (row + 1 + length xs) (e ∷ []))) ∷ ys) (arrows_more (packet + 1) (row + 1) xs)
-      ∙ joined from to topic row packet (row + 1 + length xs) e (taken_in packet (row + 1) xs) (arrows_from (packet + 1) (row + 1) xs)
-      ∙ ap (λ n. with_from packet n e (arrow from to topic row (taken_in packet (row + 1) xs) ∷ arrows_from (packet + 1) (row + 1) xs)) (omega arith)
+      ∙ ap (λ ys. arrow from to topic row (or_else (taken_row packet (row + 1) xs) (taken_row packet (row + 1 + length xs) (e ∷ []))) ∷ ys) (arrows_more (packet + 1) (row + 1) xs)
+      ∙ joined from to topic row packet (row + 1 + length xs) e (taken_row packet (row + 1) xs) (arrows_from (packet + 1) (row + 1) xs)
+      ∙ ap (λ n. with_from packet n e (arrow from to topic row (taken_row packet (row + 1) xs) ∷ arrows_from (packet + 1) (row + 1) xs)) (omega arith)
   arrows_more packet row (events.Taken other ∷ xs) = arrows_more packet (row + 1) xs ∙ ap (λ n. with_from packet n e (arrows_from packet (row + 1) xs)) (omega arith)
   arrows_more packet row (events.Line line ∷ xs) = arrows_more packet (row + 1) xs ∙ ap (λ n. with_from packet n e (arrows_from packet (row + 1) xs)) (omega arith)
   arrows_more packet row (events.Note node label ∷ xs) = arrows_more packet (row + 1) xs ∙ ap (λ n. with_from packet n e (arrows_from packet (row + 1) xs)) (omega arith)

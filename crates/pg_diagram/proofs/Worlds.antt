@@ -7,18 +7,18 @@ use Rattle.std.proofs.lemmas.List.{append-nil, take_more, length-take-le}
 use Rattle.pg_diagram.specs.declared.graph.Link.{Link}
 use Rattle.pg_diagram.specs.declared.graph.Spot.{Spot}
 use Rattle.pg_diagram.specs.declared.pen.Pen.{Pen}
-use Rattle.pg_diagram.specs.Graphs.{count_in, point_of, spot_text, spots_text}
+use Rattle.pg_diagram.specs.Graphs.{worlds_in_row, point_of, spot_text, spots_text}
 use Rattle.pg_diagram.specs.Pens.{Writes}
 use Rattle.pg_diagram.proofs.Penned.{wrote_as, wrote_both}
 
 -- one world more is counted where it is in the row
-pub count_more : (row : ℕ) (xs : List Spot) (x : Spot) → count_in row (xs ++ x ∷ []) ≡ count_in row xs + cond (nat_eq x.row row) 1 0
+pub count_more : (row : ℕ) (xs : List Spot) (x : Spot) → worlds_in_row row (xs ++ x ∷ []) ≡ worlds_in_row row xs + cond (nat_eq x.row row) 1 0
 count_more row [] x = omega arith
 count_more row (y ∷ ys) x = let more = count_more row ys x in omega (arith, more)
 
 pub count_taken : (row k : ℕ) (xs : List Spot) (d : Spot) → k < length xs
-    → count_in row (take (k + 1) xs) ≡ count_in row (take k xs) + cond (nat_eq (get_or xs k d).row row) 1 0
-count_taken row k xs d within = ap (count_in row) (take_more xs k d within) ∙ count_more row (take k xs) (get_or xs k d)
+    → worlds_in_row row (take (k + 1) xs) ≡ worlds_in_row row (take k xs) + cond (nat_eq (get_or xs k d).row row) 1 0
+count_taken row k xs d within = ap (worlds_in_row row) (take_more xs k d within) ∙ count_more row (take k xs) (get_or xs k d)
 
 -- one step more is drawn
 pub links_more : (f : Link → List ℕ) (xs : List Link) (k : ℕ) (x : Link) (a b c : Pen) → k < length xs → x ≡ get_or xs k x

@@ -9,27 +9,27 @@ use Rattle.pg_diagram.specs.declared.data.Event.TheVariants as events
 -- ---- from where a packet was sent to where it was taken
 
 -- the first row in which a packet is taken, where the first of these events stands in the row `row`
-abbrev pub taken_in : (packet row : ℕ) → List Event → Option ℕ
-taken_in packet row [] = None
-taken_in packet row (events.Taken other ∷ later) = cond (nat_eq other packet) (Some row) (taken_in packet (row + 1) later)
-taken_in packet row (event ∷ later) = taken_in packet (row + 1) later
+abbrev pub taken_row : (packet row : ℕ) → List Event → Option ℕ
+taken_row packet row [] = None
+taken_row packet row (events.Taken other ∷ later) = cond (nat_eq other packet) (Some row) (taken_row packet (row + 1) later)
+taken_row packet row (event ∷ later) = taken_row packet (row + 1) later
 
 -- The packets that are sent, as arrows, in their order: the first of them has the number `packet`, and is taken after it was sent.
 abbrev pub arrows_from : (packet row : ℕ) → List Event → List Arrow
 arrows_from packet row [] = []
 arrows_from packet row (events.Sent from to topic label ∷ later) =
-    record { from = from; to = to; topic = topic; start = row; end = taken_in packet (row + 1) later } ∷ arrows_from (packet + 1) (row + 1) later
+    record { from = from; to = to; topic = topic; start = row; end = taken_row packet (row + 1) later } ∷ arrows_from (packet + 1) (row + 1) later
 arrows_from packet row (event ∷ later) = arrows_from packet (row + 1) later
 
 -- ---- one event more
 
 -- a packet was taken in a row, if it was not taken before
-abbrev pub end_at : ℕ → Option ℕ → Option ℕ
-end_at row None = Some row
-end_at row (Some before) = Some before
+abbrev pub arrow_end : ℕ → Option ℕ → Option ℕ
+arrow_end row None = Some row
+arrow_end row (Some before) = Some before
 
 abbrev pub lands : ℕ → Arrow → Arrow
-lands row arrow = record { from = arrow.from; to = arrow.to; topic = arrow.topic; start = arrow.start; end = end_at row arrow.end }
+lands row arrow = record { from = arrow.from; to = arrow.to; topic = arrow.topic; start = arrow.start; end = arrow_end row arrow.end }
 
 -- the packet of a number was taken in a row, where the first of these has the number `first`
 abbrev pub landed : (packet row first : ℕ) → List Arrow → List Arrow
@@ -49,9 +49,9 @@ is_loss node (events.Lost other) = nat_eq other node
 is_loss node event = false
 
 -- the first row in which a node is lost, where the first of these events stands in the row `row`
-abbrev pub lost_in : (node row : ℕ) → List Event → Option ℕ
-lost_in node row [] = None
-lost_in node row (event ∷ later) = cond (is_loss node event) (Some row) (lost_in node (row + 1) later)
+abbrev pub loss_row : (node row : ℕ) → List Event → Option ℕ
+loss_row node row [] = None
+loss_row node row (event ∷ later) = cond (is_loss node event) (Some row) (loss_row node (row + 1) later)
 
 -- by where its packet was taken, where its node is lost, and where it was sent
 abbrev pub ending : (taken lost : Option ℕ) → ℕ → Ending
@@ -60,4 +60,4 @@ ending None (Some row) start = endings.Lost (max row start)
 ending None None start = endings.OnItsWay
 
 abbrev pub ending_of : List Event → Arrow → Ending
-ending_of all arrow = ending arrow.end (lost_in arrow.to 0 all) arrow.start
+ending_of all arrow = ending arrow.end (loss_row arrow.to 0 all) arrow.start

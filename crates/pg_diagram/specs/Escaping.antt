@@ -4,7 +4,7 @@ use Rattle.std.specs.List.{flat_map}
 use Rattle.std.specs.Str.{encode_utf8_all}
 
 -- the bytes grew at their end by these characters
-pub record Adds (text before after : List ℕ) : Type 0 where
+pub record GrowsBy (text before after : List ℕ) : Type 0 where
   pub all : after ≡ before ++ encode_utf8_all text
 
 -- the character, or U+FFFD in the place of one that XML has not

@@ -14,9 +14,9 @@ use Rattle.pg_diagram.specs.Lines.{CLOSED, line_text}
 -- ---- where a world is, in pixels
 
 -- how many of these worlds are in a row
-abbrev pub count_in : ℕ → List Spot → ℕ
-count_in row [] = 0
-count_in row (spot ∷ spots) = cond (nat_eq spot.row row) 1 0 + count_in row spots
+abbrev pub worlds_in_row : ℕ → List Spot → ℕ
+worlds_in_row row [] = 0
+worlds_in_row row (spot ∷ spots) = cond (nat_eq spot.row row) 1 0 + worlds_in_row row spots
 
 -- how wide a picture is that has so many worlds in a row
 abbrev pub width_of : ℕ → ℕ
@@ -28,7 +28,7 @@ point_in most row count before = record { x = (width_of most - 52 * count) / 2 +
 
 -- the world at a place among all worlds, which is in this row
 abbrev pub point_of : (most : ℕ) → List Spot → (place row : ℕ) → Point
-point_of most spots place row = point_in most row (count_in row spots) (count_in row (take place spots))
+point_of most spots place row = point_in most row (worlds_in_row row spots) (worlds_in_row row (take place spots))
 
 abbrev pub point_if : (most : ℕ) → List Spot → ℕ → Option Spot → Option Point
 point_if most spots place None = None

@@ -1,7 +1,7 @@
 //! The packets of a diagram as arrows between rows.
 
 ghost use Rattle.std.specs.Prelude.{◌≡◌, IfOk, OnOk};
-ghost use Rattle.pg_diagram.specs.Arrows.{arrows_from, ending_of, is_loss, landed, lost_in, with_event};
+ghost use Rattle.pg_diagram.specs.Arrows.{arrows_from, ending_of, is_loss, landed, loss_row, with_event};
 
 use crate::data::{Event, Topic};
 use std::alloc::{AllocError, Global};
@@ -109,7 +109,7 @@ pub(crate) fn ending_of(events: &[Event], arrow: &Arrow) -> Ending
 
 /// The row in which a node is lost.
 pub(crate) fn lost_in(events: &[Event], node: usize) -> Option<usize>
-    ensures { result ≡ lost_in node 0 events.now }
+    ensures { result ≡ loss_row node 0 events.now }
 {
     for row in 0..events.len() {
         if is_loss(&events[row], node) {

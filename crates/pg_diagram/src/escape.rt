@@ -2,7 +2,7 @@
 
 ghost use Rattle.std.specs.Prelude.{◌≡◌, OnOk, string_bytes};
 ghost use Rattle.std.specs.Str.{chars};
-ghost use Rattle.pg_diagram.specs.Escaping.{Adds, allowed, escaped, escaped_char};
+ghost use Rattle.pg_diagram.specs.Escaping.{GrowsBy, allowed, escaped, escaped_char};
 
 use crate::adding::{add_char, add_text};
 use std::alloc::AllocError;
@@ -10,7 +10,7 @@ use std::alloc::AllocError;
 /// Appends a text so that XML reads it as this text, in an element and in a quoted attribute. A character that XML
 /// has not is written as U+FFFD.
 pub(crate) fn add_escaped(out: &mut String, text: &str) -> Result<(), AllocError>
-    ensures { OnOk result (Adds (escaped (chars text.now)) (string_bytes out.old) (string_bytes out.new)) }
+    ensures { OnOk result (GrowsBy (escaped (chars text.now)) (string_bytes out.old) (string_bytes out.new)) }
 {
     for character in text.chars() {
         add_escaped_char(out, character)?;
@@ -20,7 +20,7 @@ pub(crate) fn add_escaped(out: &mut String, text: &str) -> Result<(), AllocError
 
 /// Appends one character.
 pub(crate) fn add_escaped_char(out: &mut String, character: char) -> Result<(), AllocError>
-    ensures { OnOk result (Adds (escaped_char character) (string_bytes out.old) (string_bytes out.new)) }
+    ensures { OnOk result (GrowsBy (escaped_char character) (string_bytes out.old) (string_bytes out.new)) }
 {
     match character {
         '&' => add_text(out, "&amp;"),

@@ -2,7 +2,7 @@
 
 ghost use Rattle.std.specs.Prelude.{◌≡◌, ◌≤◌, IfOk, length, string_bytes, take};
 ghost use Rattle.std.specs.List.{flat_map};
-ghost use Rattle.pg_diagram.specs.Graphs.{ShowsGraph, circle_text, count_in, end_text, line_between, link_class};
+ghost use Rattle.pg_diagram.specs.Graphs.{ShowsGraph, circle_text, worlds_in_row, end_text, line_between, link_class};
 ghost use Rattle.pg_diagram.specs.Graphs.{link_text, number_text, point_at, point_of, shapes_of, spot_class};
 ghost use Rattle.pg_diagram.specs.Graphs.{spot_text, spots_text, width_of};
 ghost use Rattle.pg_diagram.specs.Pens.{Writes};
@@ -109,7 +109,7 @@ fn most_in(spots: &[Spot]) -> usize {
 /// How many of the first `count` worlds are in a row.
 fn count_in(spots: &[Spot], count: usize, row: usize) -> usize
     requires { count ≤ length spots.now }
-    ensures { result ≡ count_in row (take count spots.now) }
+    ensures { result ≡ worlds_in_row row (take count spots.now) }
 {
     let mut found = 0usize;
     for place in 0..count {

@@ -22,7 +22,7 @@ use Rattle.pg_step.specs.Turns.{NodeTurn, and_then, becomes}
 use Rattle.pg_step.specs.Peers.{exchange}
 use Rattle.pg_step.specs.declared.answer.Odd.TheVariants.{Stranger, Double}
 use Rattle.pg_examples.specs.Examples.{behind, AllHappen, a, b, c, op_at, stands, three_nodes}
-use Rattle.pg_examples.specs.Examples.{with_replies, asked_greatest, gathered, completed}
+use Rattle.pg_examples.specs.Examples.{with_replies, asked_greatest, gathering_events, completed}
 use Rattle.pg_step.specs.Attempts.{strange, count_ok}
 use Rattle.pg_machine.proofs.Sequences.{run_there}
 use Rattle.pg_examples.proofs.Trace.{Move, AllMake, walked, walk, part, held_at, changed_at, all_of_group, asks_peer}
@@ -117,27 +117,27 @@ module _ (g : Term) (named : is_name g ≡ true) (same : same_term g g ≡ true)
   unfolding behind
   there0 = run_there (machine_of three_nodes) (asked_greatest g) (at 0) (at 3) leads0
 
-  leads1 : Leads (machine_of three_nodes) (at 0) (asked_greatest g ++ gathered) (at 10)
+  leads1 : Leads (machine_of three_nodes) (at 0) (asked_greatest g ++ gathering_events) (at 10)
   leads1 = walk three_nodes (take 10 (drop 0 moves)) (at 0) refl (part three_nodes 0 10 moves (with_replies) made)
 
-  there1 : behind three_nodes (at 0) (asked_greatest g ++ gathered) ≡ (at 10)
+  there1 : behind three_nodes (at 0) (asked_greatest g ++ gathering_events) ≡ (at 10)
   unfolding behind
-  there1 = run_there (machine_of three_nodes) (asked_greatest g ++ gathered) (at 0) (at 10) leads1
+  there1 = run_there (machine_of three_nodes) (asked_greatest g ++ gathering_events) (at 0) (at 10) leads1
 
-  leads2 : Leads (machine_of three_nodes) (at 0) (asked_greatest g ++ gathered ++ completed) (at 11)
+  leads2 : Leads (machine_of three_nodes) (at 0) (asked_greatest g ++ gathering_events ++ completed) (at 11)
   leads2 = walk three_nodes moves (with_replies) refl made
 
-  there2 : behind three_nodes (at 0) (asked_greatest g ++ gathered ++ completed) ≡ (at 11)
+  there2 : behind three_nodes (at 0) (asked_greatest g ++ gathering_events ++ completed) ≡ (at 11)
   unfolding behind
-  there2 = run_there (machine_of three_nodes) (asked_greatest g ++ gathered ++ completed) (at 0) (at 11) leads2
+  there2 = run_there (machine_of three_nodes) (asked_greatest g ++ gathering_events ++ completed) (at 0) (at 11) leads2
 
-  pub happen : AllHappen three_nodes (with_replies) (asked_greatest g ++ gathered ++ completed)
+  pub happen : AllHappen three_nodes (with_replies) (asked_greatest g ++ gathering_events ++ completed)
   unfolding AllHappen
-  happen = subst (Leads (machine_of three_nodes) (at 0) (asked_greatest g ++ gathered ++ completed)) (sym there2) leads2
+  happen = subst (Leads (machine_of three_nodes) (at 0) (asked_greatest g ++ gathering_events ++ completed)) (sym there2) leads2
 
-  pub outcome : GatheredReplies g (behind three_nodes (with_replies) (asked_greatest g)) (behind three_nodes (with_replies) (asked_greatest g ++ gathered)) (behind three_nodes (with_replies) (asked_greatest g ++ gathered ++ completed))
+  pub outcome : GatheredReplies g (behind three_nodes (with_replies) (asked_greatest g)) (behind three_nodes (with_replies) (asked_greatest g ++ gathering_events)) (behind three_nodes (with_replies) (asked_greatest g ++ gathering_events ++ completed))
   unfolding upd
-  outcome = (subst (λ x. GatheredReplies g x (behind three_nodes (with_replies) (asked_greatest g ++ gathered)) (behind three_nodes (with_replies) (asked_greatest g ++ gathered ++ completed))) (sym there0) (subst (λ x. GatheredReplies g (at 3) x (behind three_nodes (with_replies) (asked_greatest g ++ gathered ++ completed))) (sym there1) (subst (λ x. GatheredReplies g (at 3) (at 10) x) (sym there2) (record {
+  outcome = (subst (λ x. GatheredReplies g x (behind three_nodes (with_replies) (asked_greatest g ++ gathering_events)) (behind three_nodes (with_replies) (asked_greatest g ++ gathering_events ++ completed))) (sym there0) (subst (λ x. GatheredReplies g (at 3) x (behind three_nodes (with_replies) (asked_greatest g ++ gathering_events ++ completed))) (sym there1) (subst (λ x. GatheredReplies g (at 3) (at 10) x) (sym there2) (record {
     wrong_kind = refl;
     not_asked = refl;
     odd = refl;

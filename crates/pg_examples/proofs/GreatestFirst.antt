@@ -15,7 +15,7 @@ use Rattle.pg_step.specs.Nodes.{Nodes}
 use Rattle.pg_step.specs.Step.{Issue}
 use Rattle.pg_step.specs.Turns.{NodeTurn}
 use Rattle.pg_step.specs.Peers.{exchange}
-use Rattle.pg_examples.specs.Examples.{start, behind, AllHappen, a, b, c, op_at, three_nodes, asked_first}
+use Rattle.pg_examples.specs.Examples.{start, behind, AllHappen, a, b, c, op_at, three_nodes, first_request}
 use Rattle.pg_machine.proofs.Sequences.{run_there}
 use Rattle.pg_examples.proofs.Trace.{Move, AllMake, walked, walk, part, asks_peer, named_as, opens}
 use Rattle.pg_examples.specs.Outcomes.{GreatestFirst}
@@ -77,18 +77,18 @@ module _ (g : Term) (named : is_name g ≡ true) (same : same_term g g ≡ true)
     ),
   ))
 
-  leads0 : Leads (machine_of three_nodes) (at 0) (asked_first g) (at 7)
+  leads0 : Leads (machine_of three_nodes) (at 0) (first_request g) (at 7)
   leads0 = walk three_nodes moves (start three_nodes) refl made
 
-  there0 : behind three_nodes (at 0) (asked_first g) ≡ (at 7)
+  there0 : behind three_nodes (at 0) (first_request g) ≡ (at 7)
   unfolding behind
-  there0 = run_there (machine_of three_nodes) (asked_first g) (at 0) (at 7) leads0
+  there0 = run_there (machine_of three_nodes) (first_request g) (at 0) (at 7) leads0
 
-  pub happen : AllHappen three_nodes (start three_nodes) (asked_first g)
+  pub happen : AllHappen three_nodes (start three_nodes) (first_request g)
   unfolding AllHappen
-  happen = subst (Leads (machine_of three_nodes) (at 0) (asked_first g)) (sym there0) leads0
+  happen = subst (Leads (machine_of three_nodes) (at 0) (first_request g)) (sym there0) leads0
 
-  pub outcome : GreatestFirst g (behind three_nodes (start three_nodes) (asked_first g))
+  pub outcome : GreatestFirst g (behind three_nodes (start three_nodes) (first_request g))
   unfolding upd
   outcome = (subst (λ x. GreatestFirst g x) (sym there0) (record {
     none_to_b = refl;

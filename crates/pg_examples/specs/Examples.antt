@@ -101,8 +101,8 @@ abbrev pub is_ok : ℕ → ℕ × Response
 is_ok number = (number, Given reply.Ok)
 
 -- a query of this number is answered by a table
-abbrev pub reads : ℕ → Command → Table → ℕ × Response
-reads number query table = (number, Read query table)
+abbrev pub query_answer : ℕ → Command → Table → ℕ × Response
+query_answer number query table = (number, Read query table)
 
 -- the command of this number of node i stands in the history with its update
 abbrev pub stands : ℕ → ℕ → Update → Entry
@@ -226,8 +226,8 @@ abbrev pub joined_after : Term → List (Event Action)
 joined_after g = Take 1 0 ∷ at 1 (command.Join g a1) ∷ change_by_b
 
 -- a asks for a lock among three.
-abbrev pub asked_first : Term → List (Event Action)
-asked_first g = three_meet ++ at 0 (command.Create g) ∷ []
+abbrev pub first_request : Term → List (Event Action)
+first_request g = three_meet ++ at 0 (command.Create g) ∷ []
 
 -- c is formed, and b, which has not taken a's exchange, asks for the lock of a delete: c grants, and b asks a. a takes
 -- b's exchange and then its request; c's exchange is still on the way.
@@ -280,8 +280,8 @@ asked_greatest g = Take 0 1 ∷ Take 0 2 ∷ at 0 (command.Create g) ∷ []
 
 -- a true of b, of c, of c again and of b; then the update is on its way: an ok of b, of b again, and of c under another
 -- reference.
-abbrev pub gathered : List (Event Action)
-gathered = Take 0 1 ∷ Take 0 2 ∷ Take 0 2 ∷ Take 0 1 ∷ Take 0 1 ∷ Take 0 1 ∷ Take 0 2 ∷ []
+abbrev pub gathering_events : List (Event Action)
+gathering_events = Take 0 1 ∷ Take 0 2 ∷ Take 0 2 ∷ Take 0 1 ∷ Take 0 1 ∷ Take 0 1 ∷ Take 0 2 ∷ []
 
 -- the ok of c
 abbrev pub completed : List (Event Action)

@@ -25,7 +25,7 @@ use Rattle.pg_step.specs.LossLaws.{see_refusal as timed_see_refusal, lose_refusa
 use Rattle.pg_step.specs.Config.{Config, name_at, nodes_at}
 use Rattle.pg_step.specs.FrameMachine.{losing_machine_of, losing_frame_machine, last_notice}
 use Rattle.pg_history.specs.History.{history, answers_by}
-use Rattle.pg_examples.specs.Examples.{node, a, b, a1, b1, at, again, is_ok, op_at, reads, stands}
+use Rattle.pg_examples.specs.Examples.{node, a, b, a1, b1, at, again, is_ok, op_at, query_answer, stands}
 use Rattle.pg_examples.specs.Examples.{two_meet, two_nodes, three_nodes, three_meet, lock_ref}
 use Rattle.pg_step.specs.Faults.{first_that_holds}
 
@@ -154,8 +154,8 @@ pub record MembersOfTheLost (g : Term) : Type 0 where
   pub still_there : count_in ((done.world.node 1).table g) b1 ≡ 1
   pub read_done : Reads b (command.Members g) (done.world.node 1).table (reply.Pids (b1 ∷ []))
   pub answers_b : answers_by 1 done.world.reported 0
-      ≡ reads 1 (command.Members g) (lost.world.node 1).table ∷ reads 2 (command.Members g) (seen.world.node 1).table
-      ∷ is_ok 3 ∷ reads 4 (command.Members g) (done.world.node 1).table ∷ []
+      ≡ query_answer 1 (command.Members g) (lost.world.node 1).table ∷ query_answer 2 (command.Members g) (seen.world.node 1).table
+      ∷ is_ok 3 ∷ query_answer 4 (command.Members g) (done.world.node 1).table ∷ []
 
 -- ---- with clocks
 

@@ -20,7 +20,7 @@ use Rattle.pg_machine.specs.Runs.{Leads}
 use Rattle.pg_step.specs.FrameMachine.{FrameWorld, machine_of}
 use Rattle.pg_history.specs.History.{history, is_formed}
 use Rattle.pg_examples.specs.Examples.{a, b, c, a1, b1, op_at, start, answers_of, table_of, has_group}
-use Rattle.pg_examples.specs.Examples.{has_counts, holder_at, is_ok, reads, stands, odd_of, yes, no}
+use Rattle.pg_examples.specs.Examples.{has_counts, holder_at, is_ok, query_answer, stands, odd_of, yes, no}
 use Rattle.pg_examples.specs.Examples.{at, change_by_b, two_meet, two_nodes}
 use Rattle.pg_examples.specs.Examples.{done, two_tables, three_nodes, three_tables, lock_ref, update_ref}
 
@@ -35,7 +35,7 @@ pub record OneAfterAnother (g : Term) : Type 0 where
   pub group_b : has_group answered 1 g ≡ true
   -- a query comes in at b, and then a delete
   pub second : Leads (machine_of two_nodes) answered (at 1 (command.Members g) ∷ Take 1 0 ∷ at 1 (command.Delete g) ∷ change_by_b) done
-  pub answers_b : answers_of done 1 ≡ reads 1 (command.Members g) (table_of answered 1) ∷ is_ok 2 ∷ []
+  pub answers_b : answers_of done 1 ≡ query_answer 1 (command.Members g) (table_of answered 1) ∷ is_ok 2 ∷ []
   pub none_a : table_of done 0 g ≡ None
   pub none_b : table_of done 1 g ≡ None
   -- which comes after the create
@@ -43,7 +43,7 @@ pub record OneAfterAnother (g : Term) : Type 0 where
 
 -- Two creators at once.
 pub record TwoCreators (g : Term) (w : FrameWorld) : Type 0 where
-  pub answers_a : answers_of w 0 ≡ is_ok 1 ∷ reads 2 command.WhichGroups (table_of w 0) ∷ []
+  pub answers_a : answers_of w 0 ≡ is_ok 1 ∷ query_answer 2 command.WhichGroups (table_of w 0) ∷ []
   pub answers_b : answers_of w 1 ≡ is_ok 1 ∷ []
   pub names_a : Reads a command.WhichGroups (table_of w 0) (reply.Groups (g ∷ []))
   -- the group is there, and its lock is free
@@ -120,8 +120,8 @@ pub record DeniedByAnother (g : Term) (granted denied : FrameWorld) : Type 0 whe
 -- A group is deleted between the look of a join and its lock.
 pub record DeleteBetween (g : Term) (w : FrameWorld) : Type 0 where
   -- the join is answered ok all the same
-  pub answers_a : answers_of w 0 ≡ is_ok 1 ∷ is_ok 2 ∷ reads 3 (command.Members g) (table_of w 0) ∷ []
-  pub answers_b : answers_of w 1 ≡ is_ok 1 ∷ reads 2 (command.Members g) (table_of w 1) ∷ []
+  pub answers_a : answers_of w 0 ≡ is_ok 1 ∷ is_ok 2 ∷ query_answer 3 (command.Members g) (table_of w 0) ∷ []
+  pub answers_b : answers_of w 1 ≡ is_ok 1 ∷ query_answer 2 (command.Members g) (table_of w 1) ∷ []
   -- and there is no group
   pub none_a : Reads a (command.Members g) (table_of w 0) (reply.NoSuchGroup g)
   pub none_b : Reads b (command.Members g) (table_of w 1) (reply.NoSuchGroup g)
@@ -149,14 +149,14 @@ pub record InitialTables (g h : Term) (met later : FrameWorld) : Type 0 where
   -- before it is formed a answers from its own groups
   pub first_a : Reads a (command.Members g) (table_of (start (two_tables g)) 0) (reply.Pids (a1 ∷ a1 ∷ []))
   pub answers_a : answers_of later 0
-      ≡ reads 1 (command.Members g) (table_of (start (two_tables g)) 0) ∷ reads 2 (command.Members g) (table_of met 0) ∷ []
+      ≡ query_answer 1 (command.Members g) (table_of (start (two_tables g)) 0) ∷ query_answer 2 (command.Members g) (table_of met 0) ∷ []
   -- then both have the greater count of each process
   pub met_a : Reads a (command.Members g) (table_of met 0) (reply.Pids (a1 ∷ a1 ∷ b1 ∷ []))
   pub met_b : Reads b (command.Members g) (table_of met 1) (reply.Pids (a1 ∷ a1 ∷ b1 ∷ []))
   -- b's create waits, and has no lock at a; tried again, it is answered behind the query
-  pub unanswered : answers_of met 1 ≡ reads 2 (command.Members g) (table_of met 1) ∷ []
+  pub unanswered : answers_of met 1 ≡ query_answer 2 (command.Members g) (table_of met 1) ∷ []
   pub free_met : holder_at met 0 h ≡ None
-  pub answers_b : answers_of later 1 ≡ reads 2 (command.Members g) (table_of met 1) ∷ is_ok 1 ∷ []
+  pub answers_b : answers_of later 1 ≡ query_answer 2 (command.Members g) (table_of met 1) ∷ is_ok 1 ∷ []
   pub group_a : has_group later 0 h ≡ true
   pub group_b : has_group later 1 h ≡ true
 
@@ -166,9 +166,9 @@ pub record EndBeatsLateJoin (g : Term) (ended later : FrameWorld) : Type 0 where
   pub ended_b : Reads b (command.Members g) (table_of ended 1) (reply.Pids (a1 ∷ a1 ∷ []))
   pub ended_a : Reads a (command.Members g) (table_of ended 0) (reply.Pids [])
   pub answers_a : answers_of later 0
-      ≡ is_ok 1 ∷ reads 2 (command.Members g) (table_of ended 0) ∷ reads 3 (command.Members g) (table_of later 0) ∷ []
+      ≡ is_ok 1 ∷ query_answer 2 (command.Members g) (table_of ended 0) ∷ query_answer 3 (command.Members g) (table_of later 0) ∷ []
   pub answers_b : answers_of later 1
-      ≡ reads 2 (command.Members g) (table_of ended 1) ∷ is_ok 1 ∷ reads 3 (command.Members g) (table_of later 1) ∷ []
+      ≡ query_answer 2 (command.Members g) (table_of ended 1) ∷ is_ok 1 ∷ query_answer 3 (command.Members g) (table_of later 1) ∷ []
   -- then neither has it
   pub gone_a : Reads a (command.Members g) (table_of later 0) (reply.Pids [])
   pub gone_b : Reads b (command.Members g) (table_of later 1) (reply.Pids [])
@@ -181,9 +181,9 @@ pub record JoinTwiceLeaveOnce (g : Term) (joined left : FrameWorld) : Type 0 whe
   pub left_a : Reads a (command.Members g) (table_of left 0) (reply.Pids (a1 ∷ []))
   pub left_b : Reads b (command.Members g) (table_of left 1) (reply.Pids (a1 ∷ []))
   pub answers_a : answers_of left 0 ≡ is_ok 1 ∷ (2, Given (reply.Made a1))
-      ∷ reads 3 (command.Members g) (table_of joined 0) ∷ reads 4 (command.Members g) (table_of left 0) ∷ []
-  pub answers_b : answers_of left 1 ≡ is_ok 1 ∷ is_ok 2 ∷ reads 3 (command.Members g) (table_of joined 1)
-      ∷ is_ok 4 ∷ reads 5 (command.Members g) (table_of left 1) ∷ []
+      ∷ query_answer 3 (command.Members g) (table_of joined 0) ∷ query_answer 4 (command.Members g) (table_of left 0) ∷ []
+  pub answers_b : answers_of left 1 ≡ is_ok 1 ∷ is_ok 2 ∷ query_answer 3 (command.Members g) (table_of joined 1)
+      ∷ is_ok 4 ∷ query_answer 5 (command.Members g) (table_of left 1) ∷ []
 
 -- A single node creates a group, in one event.
 pub record SingleNode (g : Term) (w : FrameWorld) : Type 0 where

@@ -5,8 +5,8 @@ ghost use Rattle.pg_message.specs.Name.{is_name};
 ghost use Rattle.pg_examples.specs.Examples.{behind, start, AllHappen, one_node, two_nodes, two_and_member, two_tables};
 ghost use Rattle.pg_examples.specs.Examples.{three_nodes, three_tables, with_replies, joined_twice, left_once};
 ghost use Rattle.pg_examples.specs.Examples.{deleted_between, created_by_two, tables_met, created_later, ended_between};
-ghost use Rattle.pg_examples.specs.Examples.{joined_late, asked_greatest, gathered, completed, met_one, met_both};
-ghost use Rattle.pg_examples.specs.Examples.{ended_at_home, joined_after, asked_first, asked_unformed, given_back};
+ghost use Rattle.pg_examples.specs.Examples.{joined_late, asked_greatest, gathering_events, completed, met_one, met_both};
+ghost use Rattle.pg_examples.specs.Examples.{ended_at_home, joined_after, first_request, asked_unformed, given_back};
 ghost use Rattle.pg_examples.specs.Examples.{granted_at_home, denied_by_b, created_alone, created_by_three};
 ghost use Rattle.pg_step.specs.Config.{IsConfig};
 ghost use Rattle.pg_examples.specs.Outcomes.{JoinTwiceLeaveOnce, DeleteBetween, TwoCreators, InitialTables};
@@ -73,12 +73,12 @@ pub fn end_beats_late_join()
 /// doubles and change nothing, and a reply of another kind is no message.
 pub fn gathered_replies()
     ensures happen { (g : Term) → is_name g ≡ true →
-        AllHappen three_nodes with_replies (asked_greatest g ++ gathered ++ completed) }
+        AllHappen three_nodes with_replies (asked_greatest g ++ gathering_events ++ completed) }
     ensures outcome { (g : Term) → is_name g ≡ true →
         GatheredReplies g
         (behind three_nodes with_replies (asked_greatest g))
-        (behind three_nodes with_replies (asked_greatest g ++ gathered))
-        (behind three_nodes with_replies (asked_greatest g ++ gathered ++ completed)) }
+        (behind three_nodes with_replies (asked_greatest g ++ gathering_events))
+        (behind three_nodes with_replies (asked_greatest g ++ gathering_events ++ completed)) }
 {}
 
 /// A node of three is formed once it has taken both exchanges; until then it denies every lock. Each count becomes
@@ -105,10 +105,10 @@ pub fn pending_end()
 /// The greatest of three nodes is asked for a lock alone.
 pub fn greatest_first()
     ensures happen { (g : Term) → is_name g ≡ true →
-        AllHappen three_nodes (start three_nodes) (asked_first g) }
+        AllHappen three_nodes (start three_nodes) (first_request g) }
     ensures outcome { (g : Term) → is_name g ≡ true →
         GreatestFirst g
-        (behind three_nodes (start three_nodes) (asked_first g)) }
+        (behind three_nodes (start three_nodes) (first_request g)) }
 {}
 
 /// A node of three that is not formed denies itself the lock which both others grant: no update begins, the others' locks

@@ -10,7 +10,7 @@ use Rattle.pg_explore.specs.declared.explored.Met.{Met}
 use Rattle.pg_explore.specs.declared.moves.Move.{Move}
 use Rattle.pg_explore.specs.declared.plan.Plan.{Plan}
 use Rattle.pg_explore.specs.declared.visitor.Led.{Led}
-use Rattle.pg_explore.specs.Explorations.{Grows, IsAlikeAt, IsSound}
+use Rattle.pg_explore.specs.Explorations.{MeetsMore, IsAlikeAt, IsSound}
 use Rattle.pg_explore.specs.Moments.{Sight}
 use Rattle.pg_explore.specs.Ways.{IsAmong, LeadsToAt, StaysAt}
 
@@ -21,7 +21,7 @@ pub record LedBelow (plans : List Plan) (mets : List Met) (place : ℕ) (moves :
 
 pub record SoFar (config : Config) (plans : List Plan) (most limit : ℕ) (place : ℕ) (moves : List Move) (count : ℕ) (old : List Met) (lent now_lent : ℕ) (bins : Bins) (mets : List Met) (ways : List Led) : Type 0 where
   pub holds : IsSound config plans most bins mets
-  pub grows : Grows old mets
+  pub grows : MeetsMore old mets
   pub few : length mets ≤ max (length old) limit
   pub lent_same : now_lent ≡ lent
   pub led : LedBelow plans mets place moves count ways

@@ -13,7 +13,7 @@ use Rattle.pg_explore.specs.declared.explored.Met.{Met}
 use Rattle.pg_explore.specs.declared.moves.Move.{Move}
 use Rattle.pg_explore.specs.declared.plan.Plan.{Plan}
 use Rattle.pg_explore.specs.declared.visitor.Led.{Led}
-use Rattle.pg_explore.specs.Explorations.{AreFollowedAt, Grows, IsFollowed, IsOpenAt, LeadsFrom, sight_in}
+use Rattle.pg_explore.specs.Explorations.{AreFollowedAt, MeetsMore, IsFollowed, IsOpenAt, LeadsFrom, sight_in}
 use Rattle.pg_explore.specs.Listings.{IsOpenMove}
 use Rattle.pg_explore.specs.Moments.{Sight}
 use Rattle.pg_explore.specs.Moves.{MoveLeads, Stays}
@@ -26,32 +26,32 @@ use Rattle.pg_explore.proofs.Reached.{low_or_same}
 -- ---- the moment of a place
 
 -- what stands at a place is what stood there
-same_at : (old new : List Met) (place : ℕ) (was met : Met) → Grows old new → slice_get old place ≡ Some was → slice_get new place ≡ Some met → was ≡ met
+same_at : (old new : List Met) (place : ℕ) (was met : Met) → MeetsMore old new → slice_get old place ≡ Some was → slice_get new place ≡ Some met → was ≡ met
 same_at old new place was met grows at here = some_is was met (sym (grows place was at) ∙ here)
 
-pub leads_to_on : (plans : List Plan) (old new : List Met) (sight : Sight) (step : Move) (place : ℕ) → Grows old new → LeadsTo plans old sight step place → LeadsTo plans new sight step place
+pub leads_to_on : (plans : List Plan) (old new : List Met) (sight : Sight) (step : Move) (place : ℕ) → MeetsMore old new → LeadsTo plans old sight step place → LeadsTo plans new sight step place
 leads_to_on plans old new sight step place grows h = (h.0, h.1, (h.2.0, grows place h.2.0 h.2.1, h.2.2))
 
-pub stays_at_on : (plans : List Plan) (old new : List Met) (place : ℕ) (step : Move) → Grows old new → place < length old → StaysAt plans old place step → StaysAt plans new place step
+pub stays_at_on : (plans : List Plan) (old new : List Met) (place : ℕ) (step : Move) → MeetsMore old new → place < length old → StaysAt plans old place step → StaysAt plans new place step
 stays_at_on plans old new place step grows inside h = λ met at.
     let was = inside_some old place inside in
     subst (λ (m : Met). Stays plans (sight_in m) step) (same_at old new place was.0 met grows was.1 at) (h was.0 was.1)
 
-pub leads_to_at_on : (plans : List Plan) (old new : List Met) (place : ℕ) (step : Move) (reached : ℕ) → Grows old new → place < length old
+pub leads_to_at_on : (plans : List Plan) (old new : List Met) (place : ℕ) (step : Move) (reached : ℕ) → MeetsMore old new → place < length old
     → LeadsToAt plans old place step reached → LeadsToAt plans new place step reached
 leads_to_at_on plans old new place step reached grows inside h = λ met at.
     let was = inside_some old place inside in
     subst (λ (m : Met). LeadsTo plans new (sight_in m) step reached) (same_at old new place was.0 met grows was.1 at)
     (leads_to_on plans old new (sight_in was.0) step reached grows (h was.0 was.1))
 
-leads_from_on : (plans : List Plan) (old new : List Met) (place : ℕ) (step : Move) (sight : Sight) → Grows old new → place < length old → LeadsFrom plans old place step sight → LeadsFrom plans new place step sight
+leads_from_on : (plans : List Plan) (old new : List Met) (place : ℕ) (step : Move) (sight : Sight) → MeetsMore old new → place < length old → LeadsFrom plans old place step sight → LeadsFrom plans new place step sight
 leads_from_on plans old new place step sight grows inside h = λ met at.
     let was = inside_some old place inside in
     subst (λ (m : Met). MoveLeads plans (sight_in m) step sight) (same_at old new place was.0 met grows was.1 at) (h was.0 was.1)
 
 -- ---- where a step leads
 
-pub arrives_by : {E : Type 0} (r : Result Arrival E) (plans : List Plan) (old new : List Met) (place : ℕ) (step : Move) (sight : Sight) → Grows old new → place < length old
+pub arrives_by : {E : Type 0} (r : Result Arrival E) (plans : List Plan) (old new : List Met) (place : ℕ) (step : Move) (sight : Sight) → MeetsMore old new → place < length old
     → LeadsFrom plans old place step sight → IfOk r (IsArrived new sight) → IfOk r (Arrives plans new place step)
 arrives_by (Ok Nowhere) plans old new place step sight grows inside leads h = absurd h
 arrives_by (Ok (At reached)) plans old new place step sight grows inside leads h = λ met at. (sight, leads_from_on plans old new place step sight grows inside leads met at, h)
@@ -61,7 +61,7 @@ arrives_by (Err f) plans old new place step sight grows inside leads h = tt
 -- ---- the steps of a moment, one after another
 
 -- one that does not happen
-pub below_stays : (plans : List Plan) (old new : List Met) (place : ℕ) (moves : List Move) (i : ℕ) (step : Move) (led : List Led) → Grows old new → place < length old → slice_get moves i ≡ Some step
+pub below_stays : (plans : List Plan) (old new : List Met) (place : ℕ) (moves : List Move) (i : ℕ) (step : Move) (led : List Led) → MeetsMore old new → place < length old → slice_get moves i ≡ Some step
     → StaysAt plans new place step → LedBelow plans old place moves i led → LedBelow plans new place moves (i + 1) led
 below_stays plans old new place moves i step led grows inside at here h = record {
   lead = λ way among. let l = h.lead way among in (l.0, leads_to_at_on plans old new place way.step way.place grows inside l.1);
@@ -79,7 +79,7 @@ among_more : (led : List Led) (way : Led) (step : Move) → IsAmong led step →
 among_more led way step h = (h.0, Contains-append_left led (way ∷ []) h.0 h.1, h.2)
 
 -- one that leads to a moment
-pub below_leads : (plans : List Plan) (old new : List Met) (place : ℕ) (moves : List Move) (i : ℕ) (step : Move) (led : List Led) (reached : ℕ) → Grows old new → place < length old
+pub below_leads : (plans : List Plan) (old new : List Met) (place : ℕ) (moves : List Move) (i : ℕ) (step : Move) (led : List Led) (reached : ℕ) → MeetsMore old new → place < length old
     → slice_get moves i ≡ Some step → Contains moves step → LeadsToAt plans new place step reached → LedBelow plans old place moves i led
     → LedBelow plans new place moves (i + 1) (led ++ record { step = step; place = reached } ∷ [])
 below_leads plans old new place moves i step led reached grows inside at listed here h = record { lead = lead; all = λ k other l is. go k other is (low_or_same k i l) }
@@ -98,7 +98,7 @@ below_leads plans old new place moves i step led reached grows inside at listed 
     go k other is (inr e) = inr (record { step = step; place = reached }, Contains-push led (record { step = step; place = reached }), some_is step other (sym at ∙ ap (slice_get moves) (sym e) ∙ is))
 
 -- all of them
-pub led_all : (plans : List Plan) (most : ℕ) (old new : List Met) (place : ℕ) (moves : List Move) (count : ℕ) (led : List Led) → Grows old new → place < length old → length moves ≤ count
+pub led_all : (plans : List Plan) (most : ℕ) (old new : List Met) (place : ℕ) (moves : List Move) (count : ℕ) (led : List Led) → MeetsMore old new → place < length old → length moves ≤ count
     → ((step : Move) → Contains moves step ↔ IsOpenAt plans most old place step) → LedBelow plans new place moves count led → AreLedAt plans most new place led
 led_all plans most old new place moves count led grows inside past listed h = λ met at.
     let was = inside_some old place inside in
@@ -129,13 +129,13 @@ followed_by plans most mets place led h = λ met step at can.
 
 -- ---- those of moments that were lent
 
-led_on : (plans : List Plan) (most : ℕ) (old new : List Met) (sight : Sight) (led : List Led) → Grows old new → AreLed plans most old sight led → AreLed plans most new sight led
+led_on : (plans : List Plan) (most : ℕ) (old new : List Met) (sight : Sight) (led : List Led) → MeetsMore old new → AreLed plans most old sight led → AreLed plans most new sight led
 led_on plans most old new sight led grows h = record {
   lead = λ way among. let l = h.lead way among in (l.0, leads_to_on plans old new sight way.step way.place grows l.1);
   all = h.all;
 }
 
-ways_on : (plans : List Plan) (most : ℕ) (old new : List Met) (n : ℕ) (all : List (List Led)) → Grows old new → n ≤ length old → AreWays plans most old n all → AreWays plans most new n all
+ways_on : (plans : List Plan) (most : ℕ) (old new : List Met) (n : ℕ) (all : List (List Led)) → MeetsMore old new → n ≤ length old → AreWays plans most old n all → AreWays plans most new n all
 ways_on plans most old new n all grows many h = record {
   len = h.len;
   led = λ place met inside at.
@@ -158,14 +158,14 @@ pub no_ways : (before : Option (List (List Led))) (plans : List Plan) (most : �
 no_ways None plans most mets = tt
 no_ways (Some xs) plans most mets = ([], ap Some (sym (append-nil xs)), record { len = refl; led = λ place met inside at. absurd (omega (arith, inside)) })
 
-pub ways_more : (before mid after : Option (List (List Led))) (plans : List Plan) (most : ℕ) (old new : List Met) (n : ℕ) (led : List Led) → Grows old new → n ≤ length old
+pub ways_more : (before mid after : Option (List (List Led))) (plans : List Plan) (most : ℕ) (old new : List Met) (n : ℕ) (led : List Led) → MeetsMore old new → n ≤ length old
     → AreLentWays before mid (AreWays plans most old n) → AreLedAt plans most new n led → IsLentWays mid after led → AreLentWays before after (AreWays plans most new (n + 1))
 ways_more None mid after plans most old new n led grows many h here k = tt
 ways_more (Some xs) mid after plans most old new n led grows many h here k =
     let last : IsLentWays (Some (xs ++ h.0)) after led = subst (λ (o : Option (List (List Led))). IsLentWays o after led) h.1 k in
     (h.0 ++ led ∷ [], last ∙ ap Some (append_assoc xs h.0 (led ∷ [])), ways_push plans most new n h.0 led (ways_on plans most old new n h.0 grows many h.2) here)
 
-pub ways_same : (before mid after : Option (List (List Led))) (plans : List Plan) (most : ℕ) (old new : List Met) (n m : ℕ) → Grows old new → n ≤ length old → m ≡ n → after ≡ mid
+pub ways_same : (before mid after : Option (List (List Led))) (plans : List Plan) (most : ℕ) (old new : List Met) (n m : ℕ) → MeetsMore old new → n ≤ length old → m ≡ n → after ≡ mid
     → AreLentWays before mid (AreWays plans most old n) → AreLentWays before after (AreWays plans most new m)
 ways_same None mid after plans most old new n m grows many e same h = tt
 ways_same (Some xs) mid after plans most old new n m grows many e same h =

@@ -7,7 +7,7 @@ use Rattle.pg_step.specs.Config.{Config}
 use Rattle.pg_explore.specs.declared.explored.Explored.{Explored}
 use Rattle.pg_explore.specs.declared.explored.Met.{Met}
 use Rattle.pg_explore.specs.declared.plan.Plan.{Plan}
-use Rattle.pg_explore.specs.Explorations.{AreFollowed, Grows, ExploredHolds, IsSound, Lends, met_of}
+use Rattle.pg_explore.specs.Explorations.{AreFollowed, MeetsMore, ExploredHolds, IsSound, Lends, met_of}
 use Rattle.pg_explore.specs.declared.visitor.Led.{Led}
 use Rattle.pg_explore.specs.Lent.{AreLent}
 use Rattle.pg_explore.specs.Ways.{AreLentWays, AreWays}

@@ -6,16 +6,16 @@ use Rattle.std.specs.List.{Contains}
 use Rattle.pg_explore.specs.declared.moves.Move.{Move}
 use Rattle.pg_explore.specs.declared.moves.Move.TheVariants.{Take, Next, Loss, Retry, SeeLoss}
 use Rattle.pg_explore.specs.declared.plan.Plan.{Plan}
-use Rattle.pg_explore.specs.Listings.{Adds, AddsOpen, IsAt, IsListed, IsMoveOfPeer, IsOfPeers}
+use Rattle.pg_explore.specs.Listings.{ListsWanted, AddsOpen, IsAtNode, IsListed, IsMoveOfPeer, IsOfPeers}
 use Rattle.pg_explore.specs.Listings.{IsOfPeersBelow, IsOpenMove, IsPlannedOf, IsRetryOf, IsThere, node_of}
 use Rattle.pg_explore.specs.Moments.{Sight}
 
 -- ---- lists
 
-pub adds_none : (W : Move → Type 0) (old : List Move) → ((step : Move) → W step → ⊥) → Adds W old old
+pub adds_none : (W : Move → Type 0) (old : List Move) → ((step : Move) → W step → ⊥) → ListsWanted W old old
 adds_none W old none = record { kept = λ step h. h; all = λ step w. absurd (none step w); only = λ step h. inl h }
 
-pub adds_one : (W : Move → Type 0) (old : List Move) (x : Move) → W x → ((step : Move) → W step → step ≡ x) → Adds W old (old ++ x ∷ [])
+pub adds_one : (W : Move → Type 0) (old : List Move) (x : Move) → W x → ((step : Move) → W step → step ≡ x) → ListsWanted W old (old ++ x ∷ [])
 adds_one W old x w same = record {
   kept = λ step h. Contains-append_left old (x ∷ []) step h;
   all = λ step v. subst (λ s. Contains (old ++ x ∷ []) s) (sym (same step v)) (Contains-push old x);
@@ -27,7 +27,7 @@ adds_one W old x w same = record {
     go step (inr e) = inr (subst W e w)
 
 pub adds_both : (P Q W : Move → Type 0) (a b c : List Move) → ((step : Move) → W step → P step ⊎ Q step) → ((step : Move) → P step → W step) → ((step : Move) → Q step → W step)
-    → Adds P a b → Adds Q b c → Adds W a c
+    → ListsWanted P a b → ListsWanted Q b c → ListsWanted W a c
 adds_both P Q W a b c cases left right x y = record {
   kept = λ step h. y.kept step (x.kept step h);
   all = λ step w. found step (cases step w);
@@ -46,7 +46,7 @@ adds_both P Q W a b c cases left right x y = record {
     back step (inl h) = first step (x.only step h)
     back step (inr q) = inr (right step q)
 
-pub adds_same : (P W : Move → Type 0) (a b : List Move) → ((step : Move) → W step → P step) → ((step : Move) → P step → W step) → Adds P a b → Adds W a b
+pub adds_same : (P W : Move → Type 0) (a b : List Move) → ((step : Move) → W step → P step) → ((step : Move) → P step → W step) → ListsWanted P a b → ListsWanted W a b
 adds_same P W a b to from x = record {
   kept = x.kept;
   all = λ step w. x.all step (to step w);
@@ -65,21 +65,21 @@ none_in step h = omega (arith, h.1)
 module _ (plans : List Plan) (most : ℕ) (sight : Sight) where
   -- of peers and what is planned, and of commands that are tried again
   pub kinds : (i : ℕ) (old a b c : List Move) → AddsOpen plans most sight (IsOfPeers i) old a → AddsOpen plans most sight (IsPlannedOf i) a b → AddsOpen plans most sight (IsRetryOf i) b c
-      → AddsOpen plans most sight (IsAt i) old c
+      → AddsOpen plans most sight (IsAtNode i) old c
   kinds i old a b c x y z = adds_both (λ s. IsOpenMove plans most sight s × (IsOfPeers i s ⊎ IsPlannedOf i s)) _ _ old b c cases left (λ s q. (q.0, retry_at s q.1)) (adds_both _ _ _ old a b both (λ s p. (p.0, inl p.1)) (λ s q. (q.0, inr q.1)) x y) z
     where
       both : (s : Move) → IsOpenMove plans most sight s × (IsOfPeers i s ⊎ IsPlannedOf i s) → (IsOpenMove plans most sight s × IsOfPeers i s) ⊎ (IsOpenMove plans most sight s × IsPlannedOf i s)
       both s (o, inl h) = inl (o, h)
       both s (o, inr h) = inr (o, h)
 
-      cases : (s : Move) → IsOpenMove plans most sight s × IsAt i s → (IsOpenMove plans most sight s × (IsOfPeers i s ⊎ IsPlannedOf i s)) ⊎ (IsOpenMove plans most sight s × IsRetryOf i s)
+      cases : (s : Move) → IsOpenMove plans most sight s × IsAtNode i s → (IsOpenMove plans most sight s × (IsOfPeers i s ⊎ IsPlannedOf i s)) ⊎ (IsOpenMove plans most sight s × IsRetryOf i s)
       cases (Take j q) w = inl (w.0, inl w.1)
       cases (Next j) w = inl (w.0, inr w.1)
       cases (Loss j keep) w = inl (w.0, inr w.1)
       cases (Retry j op) w = inr (w.0, w.1)
       cases (SeeLoss j q) w = inl (w.0, inl w.1)
 
-      either_at : (s : Move) → IsOfPeers i s ⊎ IsPlannedOf i s → IsAt i s
+      either_at : (s : Move) → IsOfPeers i s ⊎ IsPlannedOf i s → IsAtNode i s
       either_at (Take j q) (inl h) = h
       either_at (Take j q) (inr h) = absurd h
       either_at (Next j) (inl h) = absurd h
@@ -91,10 +91,10 @@ module _ (plans : List Plan) (most : ℕ) (sight : Sight) where
       either_at (SeeLoss j q) (inl h) = h
       either_at (SeeLoss j q) (inr h) = absurd h
 
-      left : (s : Move) → IsOpenMove plans most sight s × (IsOfPeers i s ⊎ IsPlannedOf i s) → IsOpenMove plans most sight s × IsAt i s
+      left : (s : Move) → IsOpenMove plans most sight s × (IsOfPeers i s ⊎ IsPlannedOf i s) → IsOpenMove plans most sight s × IsAtNode i s
       left s w = (w.0, either_at s w.1)
 
-      retry_at : (s : Move) → IsRetryOf i s → IsAt i s
+      retry_at : (s : Move) → IsRetryOf i s → IsAtNode i s
       retry_at (Take j q) h = absurd h
       retry_at (Next j) h = absurd h
       retry_at (Loss j keep) h = absurd h
@@ -117,22 +117,22 @@ module _ (plans : List Plan) (most : ℕ) (sight : Sight) where
   low_or_same n i l = search arith
 
   -- a node more
-  pub one_more : (i : ℕ) (a b : List Move) → Adds (IsBelow i) [] a → AddsOpen plans most sight (IsAt i) a b → Adds (IsBelow (i + 1)) [] b
+  pub one_more : (i : ℕ) (a b : List Move) → ListsWanted (IsBelow i) [] a → AddsOpen plans most sight (IsAtNode i) a b → ListsWanted (IsBelow (i + 1)) [] b
   one_more i a b x y = adds_both _ _ _ [] a b cases (λ s p. (p.0, omega (arith, p.1))) (λ s q. (q.0, omega (arith, q.1))) x y
     where
-      pick : (s : Move) → IsOpenMove plans most sight s → (node_of s < i) ⊎ (node_of s ≡ i) → IsBelow i s ⊎ (IsOpenMove plans most sight s × IsAt i s)
+      pick : (s : Move) → IsOpenMove plans most sight s → (node_of s < i) ⊎ (node_of s ≡ i) → IsBelow i s ⊎ (IsOpenMove plans most sight s × IsAtNode i s)
       pick s o (inl l) = inl (o, l)
       pick s o (inr e) = inr (o, e)
 
-      cases : (s : Move) → IsBelow (i + 1) s → IsBelow i s ⊎ (IsOpenMove plans most sight s × IsAt i s)
+      cases : (s : Move) → IsBelow (i + 1) s → IsBelow i s ⊎ (IsOpenMove plans most sight s × IsAtNode i s)
       cases s w = pick s w.0 (low_or_same (node_of s) i w.1)
 
   -- a node more that is lost
-  pub lost_more : (i : ℕ) (a : List Move) → (IsThere sight i → ⊥) → Adds (IsBelow i) [] a → Adds (IsBelow (i + 1)) [] a
+  pub lost_more : (i : ℕ) (a : List Move) → (IsThere sight i → ⊥) → ListsWanted (IsBelow i) [] a → ListsWanted (IsBelow (i + 1)) [] a
   lost_more i a lost x = one_more i a a x (adds_none _ a (λ s w. lost (subst (λ n. IsThere sight n) w.1 (there s w.0))))
 
   -- all nodes
-  pub all_listed : (count : ℕ) (moves : List Move) → length sight.progress ≤ count → Adds (IsBelow count) [] moves → IsListed plans most sight moves
+  pub all_listed : (count : ℕ) (moves : List Move) → length sight.progress ≤ count → ListsWanted (IsBelow count) [] moves → IsListed plans most sight moves
   all_listed count moves many x = λ s. (back s, λ o. x.all s (o, omega (arith, many, (there s o).place)))
     where
       pick : (s : Move) → Contains [] s ⊎ IsBelow count s → IsOpenMove plans most sight s
@@ -176,7 +176,7 @@ module _ (plans : List Plan) (most : ℕ) (sight : Sight) where
   below_at i p (Loss j keep) h = absurd h
   below_at i p (Retry j op) h = absurd h
 
-  pub no_peer : (i : ℕ) (old : List Move) → Adds (IsOfBelow i 0) old old
+  pub no_peer : (i : ℕ) (old : List Move) → ListsWanted (IsOfBelow i 0) old old
   no_peer i old = adds_none _ old (λ s w. none s w.1)
     where
       none : (s : Move) → IsOfPeersBelow i 0 s → ⊥
@@ -186,7 +186,7 @@ module _ (plans : List Plan) (most : ℕ) (sight : Sight) where
       none (Loss j keep) h = h
       none (Retry j op) h = h
 
-  pub one_peer : (i p : ℕ) (old a b : List Move) → Adds (IsOfBelow i p) old a → AddsOpen plans most sight (IsMoveOfPeer i p) a b → Adds (IsOfBelow i (p + 1)) old b
+  pub one_peer : (i p : ℕ) (old a b : List Move) → ListsWanted (IsOfBelow i p) old a → AddsOpen plans most sight (IsMoveOfPeer i p) a b → ListsWanted (IsOfBelow i (p + 1)) old b
   one_peer i p old a b x y = adds_both _ _ _ old a b cases (λ s w. (w.0, below_on i p s w.1)) (λ s w. (w.0, below_at i p s w.1)) x y
     where
       pick : (s : Move) → IsOpenMove plans most sight s → IsOfPeersBelow i p s ⊎ IsMoveOfPeer i p s → IsOfBelow i p s ⊎ (IsOpenMove plans most sight s × IsMoveOfPeer i p s)

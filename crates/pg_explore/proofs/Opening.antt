@@ -22,7 +22,7 @@ use Rattle.pg_explore.specs.declared.plan.Planned.{Planned}
 use Rattle.pg_explore.specs.declared.plan.Planned.TheVariants as planned
 use Rattle.pg_frame_world.specs.declared.step.FrameStep.{FrameStep}
 use Rattle.pg_explore.specs.Keeping.{AreUpTo}
-use Rattle.pg_explore.specs.Listings.{Adds, AddsOpen, IsLossOf, IsMoveOfPeer, IsOfPeers, IsOfPeersBelow}
+use Rattle.pg_explore.specs.Listings.{ListsWanted, AddsOpen, IsLossOf, IsMoveOfPeer, IsOfPeers, IsOfPeersBelow}
 use Rattle.pg_explore.specs.Listings.{IsOpenMove, IsPlannedOf, IsRetryOf, IsThere, MayRetry, sight_waits_at}
 use Rattle.pg_explore.specs.Moments.{Progress, Sight}
 use Rattle.pg_explore.specs.Moves.{planned_next}
@@ -82,7 +82,7 @@ module _ (plans : List Plan) (most : ℕ) (sight : Sight) where
       none (Retry j op) w = w.1
 
   -- all peers
-  pub all_peers : (i count : ℕ) (old new : List Move) → length sight.progress ≤ count → Adds (IsOfBelow plans most sight i count) old new → AddsOpen plans most sight (IsOfPeers i) old new
+  pub all_peers : (i count : ℕ) (old new : List Move) → length sight.progress ≤ count → ListsWanted (IsOfBelow plans most sight i count) old new → AddsOpen plans most sight (IsOfPeers i) old new
   all_peers i count old new many x = adds_same _ _ old new to from x
     where
       to : (s : Move) → IsOpenMove plans most sight s × IsOfPeers i s → IsOfBelow plans most sight i count s
@@ -117,7 +117,7 @@ module _ (plans : List Plan) (most : ℕ) (sight : Sight) where
       same (Retry j op) w = absurd w.1
       same (SeeLoss j q) w = absurd w.1
 
-  pub losses_open : (i : ℕ) (old new : List Move) → IsThere sight i → planned_next plans sight.progress i ≡ Some planned.Loss → Adds (IsLossOf i (get_or sight.view.traffic.ways i [])) old new
+  pub losses_open : (i : ℕ) (old new : List Move) → IsThere sight i → planned_next plans sight.progress i ≡ Some planned.Loss → ListsWanted (IsLossOf i (get_or sight.view.traffic.ways i [])) old new
       → AddsOpen plans most sight (IsPlannedOf i) old new
   losses_open i old new there is x = adds_same _ _ old new to from x
     where
@@ -155,7 +155,7 @@ module _ (plans : List Plan) (most : ℕ) (sight : Sight) where
   IsRetryIn i ops (Retry j op) = (j ≡ i) × Contains ops op × MayRetry most sight.progress i op.number
   IsRetryIn i ops s = ⊥
 
-  pub no_retry : (i : ℕ) (old : List Move) → Adds (IsRetryIn i []) old old
+  pub no_retry : (i : ℕ) (old : List Move) → ListsWanted (IsRetryIn i []) old old
   no_retry i old = adds_none _ old none
     where
       none : (s : Move) → IsRetryIn i [] s → ⊥
@@ -172,7 +172,7 @@ module _ (plans : List Plan) (most : ℕ) (sight : Sight) where
   retry_on i ops op (Take j q) w = absurd w
   retry_on i ops op (SeeLoss j q) w = absurd w
 
-  pub retry_more : (i : ℕ) (ops : List OpId) (op : OpId) (old new : List Move) → MayRetry most sight.progress i op.number → Adds (IsRetryIn i ops) old new → Adds (IsRetryIn i (ops ++ op ∷ [])) old (new ++ Retry i op ∷ [])
+  pub retry_more : (i : ℕ) (ops : List OpId) (op : OpId) (old new : List Move) → MayRetry most sight.progress i op.number → ListsWanted (IsRetryIn i ops) old new → ListsWanted (IsRetryIn i (ops ++ op ∷ [])) old (new ++ Retry i op ∷ [])
   retry_more i ops op old new may x = adds_both (IsRetryIn i ops) (λ s. s ≡ Retry i op) (IsRetryIn i (ops ++ op ∷ [])) old new (new ++ Retry i op ∷ []) cases (retry_on i ops op) here x (adds_one _ new (Retry i op) refl (λ s e. e))
     where
       pick : (j : ℕ) (other : OpId) → j ≡ i → MayRetry most sight.progress i other.number → Contains ops other ⊎ (op ≡ other) → IsRetryIn i ops (Retry j other) ⊎ (Retry j other ≡ Retry i op)
@@ -189,7 +189,7 @@ module _ (plans : List Plan) (most : ℕ) (sight : Sight) where
       here : (s : Move) → s ≡ Retry i op → IsRetryIn i (ops ++ op ∷ []) s
       here s e = subst (IsRetryIn i (ops ++ op ∷ [])) (sym e) (refl, Contains-push ops op, may)
 
-  pub retry_less : (i : ℕ) (ops : List OpId) (op : OpId) (old new : List Move) → (MayRetry most sight.progress i op.number → ⊥) → Adds (IsRetryIn i ops) old new → Adds (IsRetryIn i (ops ++ op ∷ [])) old new
+  pub retry_less : (i : ℕ) (ops : List OpId) (op : OpId) (old new : List Move) → (MayRetry most sight.progress i op.number → ⊥) → ListsWanted (IsRetryIn i ops) old new → ListsWanted (IsRetryIn i (ops ++ op ∷ [])) old new
   retry_less i ops op old new may x = adds_same _ _ old new to (retry_on i ops op) x
     where
       pick : (j : ℕ) (other : OpId) → j ≡ i → MayRetry most sight.progress i other.number → Contains ops other ⊎ (op ≡ other) → IsRetryIn i ops (Retry j other)
@@ -203,7 +203,7 @@ module _ (plans : List Plan) (most : ℕ) (sight : Sight) where
       to (Take j q) w = absurd w
       to (SeeLoss j q) w = absurd w
 
-  pub all_retries : (i : ℕ) (ops : List OpId) (old new : List Move) → IsThere sight i → ((op : OpId) → Contains ops op ↔ (sight_waits_at sight.view.traffic.nodes i op ≡ true)) → Adds (IsRetryIn i ops) old new
+  pub all_retries : (i : ℕ) (ops : List OpId) (old new : List Move) → IsThere sight i → ((op : OpId) → Contains ops op ↔ (sight_waits_at sight.view.traffic.nodes i op ≡ true)) → ListsWanted (IsRetryIn i ops) old new
       → AddsOpen plans most sight (IsRetryOf i) old new
   all_retries i ops old new there waits x = adds_same _ _ old new to from x
     where
@@ -251,7 +251,7 @@ abbrev pub IsLossIn : ℕ → List (List ℕ) → Move → Type 0
 IsLossIn i keeps (Loss j keep) = (j ≡ i) × Contains keeps keep
 IsLossIn i keeps s = ⊥
 
-pub no_loss : (i : ℕ) (old : List Move) → Adds (IsLossIn i []) old old
+pub no_loss : (i : ℕ) (old : List Move) → ListsWanted (IsLossIn i []) old old
 no_loss i old = adds_none _ old none
   where
     none : (s : Move) → IsLossIn i [] s → ⊥
@@ -261,7 +261,7 @@ no_loss i old = adds_none _ old none
     none (Take j q) w = w
     none (SeeLoss j q) w = w
 
-pub loss_more : (i : ℕ) (keeps : List (List ℕ)) (keep : List ℕ) (old new : List Move) → Adds (IsLossIn i keeps) old new → Adds (IsLossIn i (keeps ++ keep ∷ [])) old (new ++ Loss i keep ∷ [])
+pub loss_more : (i : ℕ) (keeps : List (List ℕ)) (keep : List ℕ) (old new : List Move) → ListsWanted (IsLossIn i keeps) old new → ListsWanted (IsLossIn i (keeps ++ keep ∷ [])) old (new ++ Loss i keep ∷ [])
 loss_more i keeps keep old new x = adds_both (IsLossIn i keeps) (λ s. s ≡ Loss i keep) (IsLossIn i (keeps ++ keep ∷ [])) old new (new ++ Loss i keep ∷ []) cases on here x (adds_one _ new (Loss i keep) refl (λ s e. e))
   where
     pick : (j : ℕ) (other : List ℕ) → j ≡ i → Contains keeps other ⊎ (keep ≡ other) → IsLossIn i keeps (Loss j other) ⊎ (Loss j other ≡ Loss i keep)
@@ -285,7 +285,7 @@ loss_more i keeps keep old new x = adds_both (IsLossIn i keeps) (λ s. s ≡ Los
     here : (s : Move) → s ≡ Loss i keep → IsLossIn i (keeps ++ keep ∷ []) s
     here s e = subst (IsLossIn i (keeps ++ keep ∷ [])) (sym e) (refl, Contains-push keeps keep)
 
-pub all_losses : (i : ℕ) (ways : List (List (Stamped Message))) (keeps : List (List ℕ)) (old new : List Move) → AreUpTo (map length ways) keeps → Adds (IsLossIn i keeps) old new → Adds (IsLossOf i ways) old new
+pub all_losses : (i : ℕ) (ways : List (List (Stamped Message))) (keeps : List (List ℕ)) (old new : List Move) → AreUpTo (map length ways) keeps → ListsWanted (IsLossIn i keeps) old new → ListsWanted (IsLossOf i ways) old new
 all_losses i ways keeps old new h x = adds_same _ _ old new to from x
   where
     to : (s : Move) → IsLossOf i ways s → IsLossIn i keeps s

@@ -11,7 +11,7 @@ use Rattle.pg_explore.specs.declared.plan.Plan.{Plan}
 use Rattle.pg_explore.specs.Bins.{spots_of}
 use Rattle.pg_explore.specs.Listings.{IsOpenMove}
 use Rattle.pg_explore.specs.Lent.{IsLent}
-use Rattle.pg_explore.specs.Moments.{AreAlike, IsFirst, IsOf, IsSized, Sight, sight_of}
+use Rattle.pg_explore.specs.Moments.{AreAlike, IsFirst, IsMomentOf, IsSized, Sight, sight_of}
 use Rattle.pg_explore.specs.Moves.{MoveLeads, Stays}
 use Rattle.pg_explore.specs.Numbers.{number_in}
 
@@ -25,19 +25,19 @@ sight_in met = sight_of met.moment
 -- ---- each is reached
 
 -- A moment that was met is led to by a step that can be made at an earlier one; or it is the first of all, with which the configuration begins.
-abbrev pub IsReached : Config → List Plan → ℕ → List Met → ℕ → Sight → Option Before → Type 0
-IsReached config plans most mets place sight None = (place ≡ 0) × IsFirst config sight
-IsReached config plans most mets place sight (Some before) = (before.place < place) × ((old : Met) × (slice_get mets before.place ≡ Some old)
+abbrev pub IsLedTo : Config → List Plan → ℕ → List Met → ℕ → Sight → Option Before → Type 0
+IsLedTo config plans most mets place sight None = (place ≡ 0) × IsFirst config sight
+IsLedTo config plans most mets place sight (Some before) = (before.place < place) × ((old : Met) × (slice_get mets before.place ≡ Some old)
     × IsOpenMove plans most (sight_in old) before.step × MoveLeads plans (sight_in old) before.step sight)
 
 abbrev pub AreReached : Config → List Plan → ℕ → List Met → Type 0
-AreReached config plans most mets = (place : ℕ) (met : Met) → slice_get mets place ≡ Some met → IsReached config plans most mets place (sight_in met) met.before
+AreReached config plans most mets = (place : ℕ) (met : Met) → slice_get mets place ≡ Some met → IsLedTo config plans most mets place (sight_in met) met.before
 
 -- ---- no two are the same
 
 -- no two of them are the same but for clocks and stamps
-abbrev pub AreApart : List Met → Type 0
-AreApart mets = (i j : ℕ) (one other : Met) → slice_get mets i ≡ Some one → slice_get mets j ≡ Some other → AreAlike (sight_in one) (sight_in other) → i ≡ j
+abbrev pub AreUnlike : List Met → Type 0
+AreUnlike mets = (i j : ℕ) (one other : Met) → slice_get mets i ≡ Some one → slice_get mets j ≡ Some other → AreAlike (sight_in one) (sight_in other) → i ≡ j
 
 -- ---- all are met
 
@@ -57,27 +57,27 @@ AreFollowed plans most mets count = (place : ℕ) (met : Met) (step : Move) → 
 -- ---- how the code keeps it
 
 -- all are moments of the configuration
-abbrev pub AreOf : Config → List Met → Type 0
-AreOf config mets = (place : ℕ) (met : Met) → slice_get mets place ≡ Some met → IsOf config met.moment
+abbrev pub AreMomentsOf : Config → List Met → Type 0
+AreMomentsOf config mets = (place : ℕ) (met : Met) → slice_get mets place ≡ Some met → IsMomentOf config met.moment
 
 -- the place of each is in the bin of its number
-abbrev pub AreKept : Bins → List Met → Type 0
-AreKept bins mets = (place : ℕ) (met : Met) → slice_get mets place ≡ Some met
+abbrev pub AreBinned : Bins → List Met → Type 0
+AreBinned bins mets = (place : ℕ) (met : Met) → slice_get mets place ≡ Some met
     → Contains (spots_of bins (number_in (sight_in met))) (record { number = number_in (sight_in met); place = place })
 
 -- what holds of moments all along
 pub record IsSound (config : Config) (plans : List Plan) (most : ℕ) (bins : Bins) (mets : List Met) : Type 0 where
-  pub of : AreOf config mets
+  pub of : AreMomentsOf config mets
   pub reached : AreReached config plans most mets
-  pub distinct : AreApart mets
-  pub kept : AreKept bins mets
+  pub distinct : AreUnlike mets
+  pub kept : AreBinned bins mets
 
 abbrev pub ExploredHolds : Config → List Plan → ℕ → Explored → Type 0
 ExploredHolds config plans most explored = IsSound config plans most explored.bins explored.met.items
 
 -- more are met, and the others stand where they stood
-abbrev pub Grows : List Met → List Met → Type 0
-Grows old new = (place : ℕ) (met : Met) → slice_get old place ≡ Some met → slice_get new place ≡ Some met
+abbrev pub MeetsMore : List Met → List Met → Type 0
+MeetsMore old new = (place : ℕ) (met : Met) → slice_get old place ≡ Some met → slice_get new place ≡ Some met
 
 -- a moment of this place is the same
 abbrev pub IsAlikeAt : List Met → ℕ → Sight → Type 0

@@ -89,20 +89,20 @@ node_of (Loss i keep) = i
 node_of (Retry i op) = i
 node_of (SeeLoss i p) = i
 
-abbrev pub IsAt : ℕ → Move → Type 0
-IsAt i step = node_of step ≡ i
+abbrev pub IsAtNode : ℕ → Move → Type 0
+IsAtNode i step = node_of step ≡ i
 
 -- ---- listings
 
 -- a list has all that were there, and those steps that are wanted, and no others
-pub record Adds (Wanted : Move → Type 0) (old new : List Move) : Type 0 where
+pub record ListsWanted (Wanted : Move → Type 0) (old new : List Move) : Type 0 where
   pub kept : (step : Move) → Contains old step → Contains new step
   pub all : (step : Move) → Wanted step → Contains new step
   pub only : (step : Move) → Contains new step → Contains old step ⊎ Wanted step
 
 -- those that can be made, and are of this kind
 abbrev pub AddsOpen : List Plan → ℕ → Sight → (Move → Type 0) → List Move → List Move → Type 0
-AddsOpen plans most sight IsKind old new = Adds (λ step. IsOpenMove plans most sight step × IsKind step) old new
+AddsOpen plans most sight IsKind old new = ListsWanted (λ step. IsOpenMove plans most sight step × IsKind step) old new
 
 -- those steps that can be made, and no others
 abbrev pub IsListed : List Plan → ℕ → Sight → List Move → Type 0

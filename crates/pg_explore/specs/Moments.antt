@@ -37,7 +37,7 @@ pub record AreAlike (one other : Sight) : Type 0 where
   pub progress : one.progress ≡ other.progress
 
 -- the moment is one of a configuration: its world began there, and there is a plan for each node
-pub record IsOf (config : Config) (moment : Moment) : Type 0 where
+pub record IsMomentOf (config : Config) (moment : Moment) : Type 0 where
   pub given : given_of moment.world ≡ config
   pub size : length moment.strands.items ≡ length config
 

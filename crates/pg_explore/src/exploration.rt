@@ -1,7 +1,7 @@
 //! The exploration.
 
 ghost use Rattle.std.specs.Prelude.{◌≡◌, ◌<◌, ◌≤◌, ◌+◌, IfOk, IfErr, OnOk, length, max, take};
-ghost use Rattle.pg_explore.specs.Explorations.{AreApart, AreFollowed, AreReached, ExploredHolds, met_of};
+ghost use Rattle.pg_explore.specs.Explorations.{AreUnlike, AreFollowed, AreReached, ExploredHolds, met_of};
 ghost use Rattle.pg_explore.specs.Faults.{CantExplore};
 ghost use Rattle.pg_explore.specs.Lent.{AreLent};
 ghost use Rattle.pg_explore.specs.Ways.{AreLentWays, AreWays};
@@ -35,7 +35,7 @@ pub fn explore<V: Visitor>(
     visitor: &mut V,
 ) -> Result<Explored, ExploreFault>
     ensures reached { IfOk result (λ explored. AreReached config.now.starts.items plans.now limits.retries (met_of explored)) }
-    ensures distinct { IfOk result (λ explored. AreApart (met_of explored)) }
+    ensures distinct { IfOk result (λ explored. AreUnlike (met_of explored)) }
     ensures first { IfOk result (λ explored. 0 < length (met_of explored)) }
     ensures few { IfOk result (λ explored. length (met_of explored) ≤ max 1 limits.worlds) }
     ensures followed { IfOk result (λ explored. AreFollowed plans.now limits.retries (met_of explored) explored.lent) }

@@ -7,10 +7,10 @@ ghost use Rattle.std.specs.Option.{ForSome};
 ghost use Rattle.pg_explore.specs.declared.explored.Arrival.TheVariants.{Beyond};
 ghost use Rattle.pg_explore.specs.declared.moves.Move.{Move};
 ghost use Rattle.pg_explore.specs.Bins.{Keeps, spots_of};
-ghost use Rattle.pg_explore.specs.Explorations.{AreFollowed, AreKept, AreSized, Grows, ExploredHolds};
+ghost use Rattle.pg_explore.specs.Explorations.{AreFollowed, AreBinned, AreSized, MeetsMore, ExploredHolds};
 ghost use Rattle.pg_explore.specs.Explorations.{IsAlikeAt, IsFound, IsOpenAt, LeadsFrom, Lends, met_of};
 ghost use Rattle.pg_explore.specs.Faults.{CantExplore};
-ghost use Rattle.pg_explore.specs.Moments.{IsOf, sight_of};
+ghost use Rattle.pg_explore.specs.Moments.{IsMomentOf, sight_of};
 ghost use Rattle.pg_explore.specs.Numbers.{number_in};
 ghost use Rattle.pg_explore.specs.Ways.{AreLedAt, Arrives, IsArrived, LendsWays};
 
@@ -134,7 +134,7 @@ impl Explored {
         requires more { self.old.lent < length (met_of self.old) }
         requires followed { AreFollowed plans.now limits.retries (met_of self.old) self.old.lent }
         ensures holds { ExploredHolds config.now.starts.items plans.now limits.retries self.new }
-        ensures grows { Grows (met_of self.old) (met_of self.new) }
+        ensures grows { MeetsMore (met_of self.old) (met_of self.new) }
         ensures few { length (met_of self.new) ≤ max (length (met_of self.old)) limits.worlds }
         ensures followed { OnOk result (AreFollowed plans.now limits.retries (met_of self.new) self.new.lent) }
         ensures lends { IfOk result (Lends (V.lent visitor.old) (V.lent visitor.new) self.old.lent self.new.lent (met_of self.new)) }
@@ -170,7 +170,7 @@ impl Explored {
         requires holds { ExploredHolds config.now.starts.items plans.now limits.retries self.old }
         requires place { place < length (met_of self.old) }
         ensures holds { ExploredHolds config.now.starts.items plans.now limits.retries self.new }
-        ensures grows { Grows (met_of self.old) (met_of self.new) }
+        ensures grows { MeetsMore (met_of self.old) (met_of self.new) }
         ensures few { length (met_of self.new) ≤ max (length (met_of self.old)) limits.worlds }
         ensures lent { self.new.lent ≡ self.old.lent }
         ensures led { IfOk result (λ led. ForSome led (λ ways. AreLedAt plans.now limits.retries (met_of self.new) place ways.items)) }
@@ -220,7 +220,7 @@ impl Explored {
         requires can { IsOpenAt plans.now limits.retries (met_of self.old) place step.now }
         requires place { place < length (met_of self.old) }
         ensures holds { ExploredHolds config.now.starts.items plans.now limits.retries self.new }
-        ensures grows { Grows (met_of self.old) (met_of self.new) }
+        ensures grows { MeetsMore (met_of self.old) (met_of self.new) }
         ensures few { length (met_of self.new) ≤ max (length (met_of self.old)) limits.worlds }
         ensures lent { self.new.lent ≡ self.old.lent }
         ensures arrives { IfOk result (Arrives plans.now (met_of self.new) place step.now) }
@@ -250,9 +250,9 @@ impl Explored {
         requires can { IsOpenAt plans.now limits.retries (met_of self.old) place step.now }
         requires place { place < length (met_of self.old) }
         requires leads { LeadsFrom plans.now (met_of self.old) place step.now (sight_of moment) }
-        requires of { IsOf config.now.starts.items moment }
+        requires of { IsMomentOf config.now.starts.items moment }
         ensures holds { ExploredHolds config.now.starts.items plans.now limits.retries self.new }
-        ensures grows { Grows (met_of self.old) (met_of self.new) }
+        ensures grows { MeetsMore (met_of self.old) (met_of self.new) }
         ensures few { length (met_of self.new) ≤ max (length (met_of self.old)) limits.worlds }
         ensures lent { self.new.lent ≡ self.old.lent }
         ensures arrived { IfOk result (IsArrived (met_of self.new) (sight_of moment)) }
@@ -289,11 +289,11 @@ impl Explored {
         requires can { IsOpenAt plans.now limits.retries (met_of self.old) place step.now }
         requires place { place < length (met_of self.old) }
         requires leads { LeadsFrom plans.now (met_of self.old) place step.now (sight_of moment) }
-        requires of { IsOf config.now.starts.items moment }
+        requires of { IsMomentOf config.now.starts.items moment }
         requires number { number ≡ number_in (sight_of moment) }
         requires new { IsFound (met_of self.old) (sight_of moment) None }
         ensures holds { ExploredHolds config.now.starts.items plans.now limits.retries self.new }
-        ensures grows { Grows (met_of self.old) (met_of self.new) }
+        ensures grows { MeetsMore (met_of self.old) (met_of self.new) }
         ensures few { length (met_of self.new) ≤ max (length (met_of self.old)) limits.worlds }
         ensures lent { self.new.lent ≡ self.old.lent }
         ensures arrived { IfOk result (IsArrived (met_of self.new) (sight_of moment)) }
@@ -320,7 +320,7 @@ impl Explored {
     ///
     /// Errors: `AllocError`.
     fn find(&self, moment: &Moment, number: u64) -> Result<Option<usize>, AllocError>
-        requires kept { AreKept self.now.bins (met_of self.now) }
+        requires kept { AreBinned self.now.bins (met_of self.now) }
         requires number { number ≡ number_in (sight_of moment.now) }
         ensures { IfOk result (IsFound (met_of self.now) (sight_of moment.now)) }
     {
@@ -351,7 +351,7 @@ impl Explored {
         requires number { number ≡ number_in (sight_of moment) }
         ensures ok { OnOk result (met_of self.new ≡ met_of self.old ++ record { moment = moment; before = before } ∷ []) }
         ensures err { OnErr result (met_of self.new ≡ met_of self.old) }
-        ensures kept { AreKept self.old.bins (met_of self.old) → AreKept self.new.bins (met_of self.new) }
+        ensures kept { AreBinned self.old.bins (met_of self.old) → AreBinned self.new.bins (met_of self.new) }
         ensures lent { self.new.lent ≡ self.old.lent }
     {
         match self.make_room(number) {

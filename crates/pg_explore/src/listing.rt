@@ -8,7 +8,7 @@ ghost use Rattle.pg_frame_world.specs.FrameWorlds.{lost_of, traffic_of};
 ghost use Rattle.pg_frame_world.specs.Losing.{seen_at};
 ghost use Rattle.pg_account.specs.Losses.{is_lost};
 ghost use Rattle.pg_frame_world.specs.Views.{on_the_way};
-ghost use Rattle.pg_explore.specs.Listings.{AddsOpen, IsAt, IsListed, IsMoveOfPeer, IsOfPeers};
+ghost use Rattle.pg_explore.specs.Listings.{AddsOpen, IsAtNode, IsListed, IsMoveOfPeer, IsOfPeers};
 ghost use Rattle.pg_explore.specs.Listings.{IsPlannedOf, IsRetryOf, IsThere, MayRetry, sight_waits_at};
 ghost use Rattle.pg_explore.specs.Moments.{IsSized, sight_of};
 
@@ -54,7 +54,7 @@ fn add_moves(
 ) -> Result<(), AllocError>
     requires sized { IsSized moment.now }
     requires there { IsThere (sight_of moment.now) node }
-    ensures { OnOk result (AddsOpen plans.now limits.retries (sight_of moment.now) (IsAt node) moves.old.items moves.new.items) }
+    ensures { OnOk result (AddsOpen plans.now limits.retries (sight_of moment.now) (IsAtNode node) moves.old.items moves.new.items) }
 {
     add_peers(moves, moment, plans, limits, node)?;
     add_planned(moves, alloc, moment, plans, limits, node)?;

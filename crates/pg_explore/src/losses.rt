@@ -3,7 +3,7 @@
 ghost use Rattle.std.specs.Prelude.{◌≡◌, ◌<◌, ◌++◌, ◌∷◌, ◌↔◌, ◌≤◌, [], ℕ, IfOk, OnOk, get_or, length, map};
 ghost use Rattle.std.specs.List.{Contains};
 ghost use Rattle.pg_frame_world.specs.FrameWorlds.{traffic_of};
-ghost use Rattle.pg_explore.specs.Listings.{Adds, IsLossOf};
+ghost use Rattle.pg_explore.specs.Listings.{ListsWanted, IsLossOf};
 ghost use Rattle.pg_explore.specs.Keeping.{AddsLonger, AreLonger, AreUpTo};
 ghost use Rattle.pg_explore.specs.Moments.{IsSized};
 
@@ -24,7 +24,7 @@ pub(crate) fn add_losses(
 ) -> Result<(), AllocError>
     requires sized { IsSized moment.now }
     requires node { node < length moment.now.strands.items }
-    ensures { OnOk result (Adds (IsLossOf node (get_or (traffic_of moment.now.world).ways node [])) moves.old.items moves.new.items) }
+    ensures { OnOk result (ListsWanted (IsLossOf node (get_or (traffic_of moment.now.world).ways node [])) moves.old.items moves.new.items) }
 {
     let lens = lens_of(alloc, moment, node)?;
     let keeps = keeps_of(alloc, lens.as_slice())?;

@@ -4,7 +4,7 @@ ghost use Rattle.std.specs.Prelude.{◌≡◌, ◌↔◌, IsTrue, IfOk, IfErr, m
 ghost use Rattle.std.specs.Option.{ForSome};
 ghost use Rattle.pg_frame_world.specs.FrameWorlds.{view_of, lost_of, given_of};
 ghost use Rattle.pg_explore.specs.Faults.{CantExplore};
-ghost use Rattle.pg_explore.specs.Moments.{AreAlike, IsFirst, IsOf, progress_after, progress_of, sight_of};
+ghost use Rattle.pg_explore.specs.Moments.{AreAlike, IsFirst, IsMomentOf, progress_after, progress_of, sight_of};
 ghost use Rattle.pg_explore.specs.Moves.{ComesOf, ComesFrom};
 
 use crate::fault::ExploreFault;
@@ -31,7 +31,7 @@ impl Moment {
     /// Errors: those of `FrameWorld::new`; `OutOfMemory`.
     pub(crate) fn begin(alloc: Global, config: &Config) -> Result<Moment, ExploreFault>
         ensures first { IfOk result (λ moment. IsFirst config.now.starts.items (sight_of moment)) }
-        ensures of { IfOk result (IsOf config.now.starts.items) }
+        ensures of { IfOk result (IsMomentOf config.now.starts.items) }
         ensures fault { IfErr result (CantExplore config.now) }
     {
         let strands = idle_strands(alloc, config.starts.len())?;
@@ -64,9 +64,9 @@ impl Moment {
         plans: &[Plan],
         step: &Move,
     ) -> Result<Option<Moment>, AllocError>
-        requires { IsOf config.now.starts.items self.now }
+        requires { IsMomentOf config.now.starts.items self.now }
         ensures comes { IfOk result (ComesOf plans.now (sight_of self.now) step.now) }
-        ensures of { IfOk result (λ after. ForSome after (IsOf config.now.starts.items)) }
+        ensures of { IfOk result (λ after. ForSome after (IsMomentOf config.now.starts.items)) }
     {
         let strands = strands_after(alloc, self.strands.as_slice(), step)?;
         let copy = self.world.copy(config);

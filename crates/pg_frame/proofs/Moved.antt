@@ -3,9 +3,9 @@ use Rattle.std.specs.Prelude.{◌≡◌, ℕ, List, [], ◌∷◌, ◌++◌, tak
 use Rattle.std.proofs.Common.{sym, ap, ◌∙◌}
 use Rattle.std.proofs.lemmas.List.{append_assoc, take-append-drop}
 use Rattle.pg_frame.specs.Frames.{frame}
-use Rattle.pg_frame.specs.Pieces.{Bytes, all_of, put, pull, sent, frames_of, ArePackets}
+use Rattle.pg_frame.specs.Pieces.{Bytes, all_of, ring_put, pull, sent, frames_of, ArePackets}
 
-put-keeps : (count : ℕ) (b : Bytes) → all_of (put count b) ≡ all_of b
+put-keeps : (count : ℕ) (b : Bytes) → all_of (ring_put count b) ≡ all_of b
 put-keeps count b = ap (λ xs. b.came ++ xs)
     (append_assoc b.ring (take count b.outbox) (drop count b.outbox)
     ∙ ap (λ xs. b.ring ++ xs) (take-append-drop count b.outbox))
@@ -16,7 +16,7 @@ pull-keeps count b = append_assoc b.came (take count b.ring) (drop count b.ring 
     (sym (append_assoc (take count b.ring) (drop count b.ring) b.outbox)
     ∙ ap (λ xs. xs ++ b.outbox) (take-append-drop count b.ring))
 
-pub put_packets : {P : Type 0} (write : P → List ℕ) (packets : List P) (b : Bytes) (count : ℕ) → ArePackets write packets b → ArePackets write packets (put count b)
+pub put_packets : {P : Type 0} (write : P → List ℕ) (packets : List P) (b : Bytes) (count : ℕ) → ArePackets write packets b → ArePackets write packets (ring_put count b)
 put_packets write packets b count are = put-keeps count b ∙ are
 
 pub pull_packets : {P : Type 0} (write : P → List ℕ) (packets : List P) (b : Bytes) (count : ℕ) → ArePackets write packets b → ArePackets write packets (pull count b)

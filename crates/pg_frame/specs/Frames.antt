@@ -63,10 +63,10 @@ contents (Ok body) = Ok (option_copied body)
 contents (Err fault) = Err fault
 
 -- what `next` answers: whether there is such a body
-abbrev pub is_whole : Result (Option (List ℕ)) TooLong → Result Bool TooLong
-is_whole (Ok (Some body)) = Ok true
-is_whole (Ok None) = Ok false
-is_whole (Err fault) = Err fault
+abbrev pub has_frame : Result (Option (List ℕ)) TooLong → Result Bool TooLong
+has_frame (Ok (Some body)) = Ok true
+has_frame (Ok None) = Ok false
+has_frame (Err fault) = Err fault
 
 -- the bytes behind a frame with this body
 abbrev pub behind : List ℕ → List ℕ → List ℕ

@@ -31,8 +31,8 @@ ArePackets write packets bytes = all_of bytes ≡ frames_of write packets
 -- ---- what moves
 
 -- the first bytes of the outbox go on the ring, so many at most
-abbrev pub put : ℕ → Bytes → Bytes
-put count bytes = record bytes { outbox = drop count bytes.outbox; ring = bytes.ring ++ take count bytes.outbox }
+abbrev pub ring_put : ℕ → Bytes → Bytes
+ring_put count bytes = record bytes { outbox = drop count bytes.outbox; ring = bytes.ring ++ take count bytes.outbox }
 
 -- the first bytes of the ring come, so many at most
 abbrev pub pull : ℕ → Bytes → Bytes

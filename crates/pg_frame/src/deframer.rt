@@ -1,6 +1,6 @@
 ghost use Rattle.std.specs.Prelude.{◌≡◌, ℕ, ◌^◌, ◌<◌, ◌≤◌, [], ◌++◌, length, IsTrue, IsOk, IfOk, OnOk, OnErr};
 ghost use Rattle.pg_frame.specs.Buffered.{UsesRoom, MakesRoom};
-ghost use Rattle.pg_frame.specs.Frames.{IsBytes, contents, is_whole, front_of, after_front};
+ghost use Rattle.pg_frame.specs.Frames.{IsBytes, contents, has_frame, front_of, after_front};
 
 use crate::{MAX_BODY, TooLong};
 use byteorder::{BigEndian, ByteOrder};
@@ -103,7 +103,7 @@ impl Deframer {
     /// Cost: no memory, and the room stays as it is; O(1).
     #[tactic(auto, using(crate::proofs::Fronts::front_fits, crate::proofs::Fronts::shorter_behind), unfolding(crate::specs::Frames::after_front))]
     pub fn next(&mut self) -> Result<bool, TooLong>
-        ensures taken { result ≡ is_whole (front_of self.old.unread) }
+        ensures taken { result ≡ has_frame (front_of self.old.unread) }
         ensures unread { self.new.unread ≡ after_front self.old.unread }
         ensures shorter { IfOk result
             (λ taken. IsTrue taken → length self.new.unread < length self.old.unread) }

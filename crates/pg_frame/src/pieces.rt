@@ -5,7 +5,7 @@
 ghost use Rattle.std.specs.Prelude.{◌≡◌, ◌≢◌, ◌∷◌, ◌++◌, ℕ, List, [], Ok, Err, Some};
 ghost use Rattle.std.specs.List.{AllByRecursion, flat_map};
 ghost use Rattle.pg_frame.specs.Frames.{IsBody, frame, front_of, too_long};
-ghost use Rattle.pg_frame.specs.Pieces.{Bytes, ArePackets, AreShort, frames_of, put, pull, sent, piece_taken};
+ghost use Rattle.pg_frame.specs.Pieces.{Bytes, ArePackets, AreShort, frames_of, ring_put, pull, sent, piece_taken};
 ghost use Rattle.pg_frame.specs.Pieces.{FirstPacket, FirstPackets, AreCut, StayWhole, FirstOfCut};
 
 use crate::laws::{pieces_continue, taking_leaves_others, written_is_read};
@@ -13,7 +13,7 @@ use crate::laws::{pieces_continue, taking_leaves_others, written_is_read};
 /// Bytes that move between the outbox, the ring and what came are the same packets, however many move at once.
 pub fn moving_keeps_packets<P>()
     ensures put { (write : P → List ℕ) (packets : List P) (bytes : Bytes) (count : ℕ)
-        → ArePackets write packets bytes → ArePackets write packets (put count bytes) }
+        → ArePackets write packets bytes → ArePackets write packets (ring_put count bytes) }
     ensures pull { (write : P → List ℕ) (packets : List P) (bytes : Bytes) (count : ℕ)
         → ArePackets write packets bytes → ArePackets write packets (pull count bytes) }
 {}

@@ -24,7 +24,7 @@ use Rattle.pg_node_state.specs.States.{kept_by}
 use Rattle.pg_config.specs.declared.fault.WorldFault.{WorldFault}
 use Rattle.pg_config.specs.declared.fault.WorldFault.TheVariants.{BadConfig, NameTooLarge}
 use Rattle.pg_config.specs.declared.fault.WorldFault.TheVariants.{BadCapacity, TooLong, OutOfMemory}
-use Rattle.pg_config.specs.Configs.{is_config, is_capacity, are_names, have_names, refusal_of, IsJudged}
+use Rattle.pg_config.specs.Configs.{is_config, is_capacity, are_names, have_names, refusal_of, IsAsTold}
 use Rattle.pg_frame_world.specs.Openings.{AreReady, SomeIsTooLong, are_few, have_few, TellsNames}
 use Rattle.pg_frame_world.specs.Openings.{FitsOpening, IsTooLong, AllFit, SomeCantOpen, CantBegin, CantStart}
 use Rattle.pg_starts.specs.Firsts.{firsts, seen_first}
@@ -183,11 +183,11 @@ never_long false c d e = absurd cc
 same_fault : {X : Type 0} (a b : WorldFault) → ◌≡◌ {A = Result X WorldFault} (Err a) (Err b) → a ≡ b
 same_fault a b e = cc
 
-pub judged : {X : Type 0} (ring : ℕ) (config : Config) (fault : WorldFault) (result : Result X WorldFault) → result ≡ Err fault → IsJudged (refusal_of ring config) result → CantBegin ring config fault
+pub judged : {X : Type 0} (ring : ℕ) (config : Config) (fault : WorldFault) (result : Result X WorldFault) → result ≡ Err fault → IsAsTold (refusal_of ring config) result → CantBegin ring config fault
 judged {X} ring config fault (Ok x) e told = absurd cc
 judged {X} ring config fault (Err other) e told = subst (CantBegin ring config) (same_fault {X = X} other fault e) (of_told other told)
   where
-    of_told : (f : WorldFault) → IsJudged {X = X} (refusal_of ring config) (Err f) → CantBegin ring config f
+    of_told : (f : WorldFault) → IsAsTold {X = X} (refusal_of ring config) (Err f) → CantBegin ring config f
     of_told OutOfMemory t = tt
     of_told TooLong t = absurd (never_long (is_config config) (have_names config) (is_capacity ring) t)
     of_told BadConfig t = t

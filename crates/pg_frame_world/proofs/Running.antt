@@ -30,7 +30,7 @@ use Rattle.pg_frame_world.specs.Losing.{lost_after, losing_of, told_loss, told_o
 use Rattle.pg_step.specs.LossLaws.{LosingFrameWorld}
 use Rattle.pg_frame_world.specs.Views.{View}
 use Rattle.pg_frame_world.specs.Worlds.{TimedFrameWorld, ShowsWorld, ComesTo, IsUnseen, StepComesTo, is_loss, event_of}
-use Rattle.pg_frame_world.specs.Runs.{Kind, over_packets, IsTold, IsPassed, IsUnlost}
+use Rattle.pg_frame_world.specs.Runs.{Kind, over_packets, IsTold, ChangesNothing, IsUnlost}
 use Rattle.pg_frame_world.specs.Runs.{SeesNone, number_told, StepsTo, RunsTo, GoesTo, Ran}
 use Rattle.pg_frame_world.specs.Starts.{Orders}
 
@@ -145,7 +145,7 @@ module _ {S : Type 0} (kind : Kind S) (config : Config) where
 
 -- what a step came to, by its number
 module _ (config : Config) (w : TimedFrameWorld) (old new : View) where
-  module _ (step : FrameStep) (e : Event Action) (is : event_of step ≡ Some e) (passes : (number : ℕ) → IsTold config w e number → IsPassed config w step number) where
+  module _ (step : FrameStep) (e : Event Action) (is : event_of step ≡ Some e) (passes : (number : ℕ) → IsTold config w e number → ChangesNothing config w step number) where
     event_so : (result : Result Stepped NodeFault) (stepped : Stepped) → result ≡ Ok stepped → ShowsWorld config old w
         → ComesTo config w e result (ShowsWorld config new) → (result ≡ Ok Nothing → new ≡ old) → StepsTo over_packets config w step 0 (ShowsWorld config new)
     event_so (Ok (Happened effect)) stepped r shows (did, (v, happened, shown)) nothing = inl (record { listed = refl; e = e; is = is; left = v; happened = happened; rest = shown })

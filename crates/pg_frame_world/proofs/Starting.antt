@@ -26,7 +26,7 @@ use Rattle.pg_starts.specs.Seen.{Seen, seen_of}
 use Rattle.pg_frame_world.specs.Views.{ways_of, fresh_view, traffic_in, peer_place, on_the_way, IsWhole}
 use Rattle.pg_frame_world.specs.Worlds.{ShowsNode, TimedFrameWorld}
 use Rattle.pg_starts.specs.Firsts.{seen_first, firsts}
-use Rattle.pg_frame_world.specs.Starts.{TellsFew, Opens, AllOpen, Orders, Begins}
+use Rattle.pg_frame_world.specs.Starts.{TellsFew, AnnouncesToEach, AllOpen, Orders, Begins}
 use Rattle.pg_starts.proofs.Starting.{firsts_are, firsts_length}
 use Rattle.pg_frame_world.proofs.Ordered.{ordered_names, ordered_length, same_first, tells_few}
 use Rattle.pg_frame_world.proofs.Peering.{known, place_within}
@@ -36,7 +36,7 @@ use Rattle.pg_frame_world.proofs.Turning.{pair_is}
 
 -- one more node whose packets are on the way
 pub open_more : (peers : ℕ) (nodes : List Seen) (rows : List (List (List (Stamped Message)))) (node : Seen) (row : List (List (Stamped Message)))
-    → AllOpen peers nodes rows → Opens peers node row → AllOpen peers (nodes ++ node ∷ []) (rows ++ row ∷ [])
+    → AllOpen peers nodes rows → AnnouncesToEach peers node row → AllOpen peers (nodes ++ node ∷ []) (rows ++ row ∷ [])
 open_more peers [] [] node row going one = (one, tt)
 open_more peers [] (r ∷ rows) node row going one = absurd going
 open_more peers (n ∷ nodes) [] node row going one = absurd going
@@ -44,7 +44,7 @@ open_more peers (n ∷ nodes) (r ∷ rows) node row going one = (going.0, open_m
 
 -- the same of the code's nodes
 pub opening_more : {T : Type 0} {g : Ghosts T} (peers : ℕ) (nodes : List (NodeState T g)) (outs : List Outgoing) (k : ℕ) (node : NodeState T g) (out : Outgoing) → k < length nodes → node ≡ get_or nodes k node
-    → AllOpen peers (map seen_of (take k nodes)) (map ways_of outs) → Opens peers (seen_of node) (ways_of out) → AllOpen peers (map seen_of (take (k + 1) nodes)) (map ways_of (outs ++ out ∷ []))
+    → AllOpen peers (map seen_of (take k nodes)) (map ways_of outs) → AnnouncesToEach peers (seen_of node) (ways_of out) → AllOpen peers (map seen_of (take (k + 1) nodes)) (map ways_of (outs ++ out ∷ []))
 opening_more {T} {g} peers nodes outs k node out within here before one =
     let nodes_are : map seen_of (take (k + 1) nodes) ≡ map seen_of (take k nodes) ++ seen_of node ∷ [] =
     ap (map seen_of) (take_more nodes k node within ∙ ap (λ (x : NodeState T g). take k nodes ++ x ∷ []) (sym here)) ∙ map-append seen_of (take k nodes) (node ∷ []) in

@@ -46,15 +46,15 @@ abbrev pub IsUnlost : Config → TimedFrameWorld → ℕ → List ℕ → ℕ �
 IsUnlost config w i keep number = (number ≡ option_map_or refusal_number_of (loss_refusal config (losing_of config w []) i keep) 10) ⊎ (number ≡ 10)
 
 -- a step that left a frame world as it was, where no node is lost
-abbrev pub IsPassed : Config → TimedFrameWorld → FrameStep → ℕ → Type 0
-IsPassed config w (frames.Take i p) number = IsTold config w (Take i p) number
-IsPassed config w (frames.Command i port command) number = IsTold config w (Do i (Issue port command)) number
-IsPassed config w (frames.Retry i op) number = IsTold config w (Do i (Retry op)) number
-IsPassed config w (frames.SeeLoss i p) number = SeesNone (is_pair (length config) i p) number
-IsPassed config w (frames.Lose i keep) number = IsUnlost config w i keep.items number
+abbrev pub ChangesNothing : Config → TimedFrameWorld → FrameStep → ℕ → Type 0
+ChangesNothing config w (frames.Take i p) number = IsTold config w (Take i p) number
+ChangesNothing config w (frames.Command i port command) number = IsTold config w (Do i (Issue port command)) number
+ChangesNothing config w (frames.Retry i op) number = IsTold config w (Do i (Retry op)) number
+ChangesNothing config w (frames.SeeLoss i p) number = SeesNone (is_pair (length config) i p) number
+ChangesNothing config w (frames.Lose i keep) number = IsUnlost config w i keep.items number
 
 abbrev pub over_packets : Kind FrameStep
-over_packets = record { event = event_of; Passed = IsPassed }
+over_packets = record { event = event_of; Passed = ChangesNothing }
 
 -- none of these steps is a loss
 abbrev pub LosesNone : List FrameStep → Type 0

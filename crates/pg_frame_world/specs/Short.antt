@@ -8,8 +8,8 @@ use Rattle.pg_message.specs.declared.packet.Packet.{Packet}
 use Rattle.pg_message.specs.Members.{IsShort}
 
 -- no group in any of these has more than 2^32 members
-abbrev pub AreShort : List Packet → Type 0
-AreShort packets = AllByRecursion (λ (packet : Packet). IsShort (2 ^ 32) packet.message) packets
+abbrev pub HaveShortGroups : List Packet → Type 0
+HaveShortGroups packets = AllByRecursion (λ (packet : Packet). IsShort (2 ^ 32) packet.message) packets
 
 pub IsShort-prop : (limit : ℕ) (message : Message) → (a b : IsShort limit message) → a ≡ b
 IsShort-prop limit (Exchange node groups) = AllByRecursion-prop _ (λ group. le_prop) groups
@@ -18,5 +18,5 @@ IsShort-prop limit (Reply reference said) = λ a b. refl
 IsShort-prop limit (DelLock name reference) = λ a b. refl
 IsShort-prop limit (Down pid) = λ a b. refl
 
-pub AreShort-prop : (packets : List Packet) → (a b : AreShort packets) → a ≡ b
-AreShort-prop packets = AllByRecursion-prop _ (λ packet. IsShort-prop (2 ^ 32) packet.message) packets
+pub HaveShortGroups-prop : (packets : List Packet) → (a b : HaveShortGroups packets) → a ≡ b
+HaveShortGroups-prop packets = AllByRecursion-prop _ (λ packet. IsShort-prop (2 ^ 32) packet.message) packets

@@ -34,13 +34,13 @@ pub TellsFew-prop : (table : Table) → (a b : TellsFew table) → a ≡ b
 TellsFew-prop table a b = λ i groups is. HasFewMembers-prop (2 ^ 32) groups (a groups is) (b groups is) i
 
 -- to each of so many peers one packet is on the way, which tells all groups of the node's table and fits into a frame
-abbrev pub Opens : ℕ → Seen → List (List (Stamped Message)) → Type 0
-Opens peers node row = (packet : Packet) × IsAnnouncement node.state.state.table (name_at node.names 0) packet × (row ≡ replicate peers (stamped_of packet ∷ [])) × FitsFrame packet
+abbrev pub AnnouncesToEach : ℕ → Seen → List (List (Stamped Message)) → Type 0
+AnnouncesToEach peers node row = (packet : Packet) × IsAnnouncement node.state.state.table (name_at node.names 0) packet × (row ≡ replicate peers (stamped_of packet ∷ [])) × FitsFrame packet
 
 -- the same of each node
 abbrev pub AllOpen : ℕ → List Seen → List (List (List (Stamped Message))) → Type 0
 AllOpen peers [] [] = Unit {0}
-AllOpen peers (node ∷ nodes) (row ∷ rows) = Opens peers node row × AllOpen peers nodes rows
+AllOpen peers (node ∷ nodes) (row ∷ rows) = AnnouncesToEach peers node row × AllOpen peers nodes rows
 AllOpen peers nodes rows = ⊥
 
 -- ---- the configuration that is told

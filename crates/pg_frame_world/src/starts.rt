@@ -9,7 +9,7 @@ ghost use Rattle.pg_node_state.specs.States.{kept_by, stamped_of};
 ghost use Rattle.pg_starts.specs.Seen.{seen_of};
 ghost use Rattle.pg_frame_world.specs.Fitting.{FitsFrame, CantSend};
 ghost use Rattle.pg_frame_world.specs.Openings.{TellsNames, CantOpen, SomeCantOpen};
-ghost use Rattle.pg_frame_world.specs.Starts.{TellsFew, Opens, AllOpen};
+ghost use Rattle.pg_frame_world.specs.Starts.{TellsFew, AnnouncesToEach, AllOpen};
 ghost use Rattle.pg_frame_world.specs.Views.{ways_of};
 
 use crate::outgoing::Outgoing;
@@ -54,7 +54,7 @@ fn opening<T: GroupTable + Drop>(
 ) -> Result<Outgoing, WorldFault>
     requires few { TellsFew (kept_by node.now).table }
     requires named { TellsNames (kept_by node.now).table }
-    ensures open { IfOk result (λ outgoing. Opens peers (seen_of node.now) (ways_of outgoing)) }
+    ensures open { IfOk result (λ outgoing. AnnouncesToEach peers (seen_of node.now) (ways_of outgoing)) }
     ensures fault { IfErr result (CantOpen (seen_of node.now)) }
 {
     match node.announcement() {

@@ -5,7 +5,7 @@ ghost use Rattle.std.specs.Prelude.{take, length, map, option_map, IfOk, OnOk};
 ghost use Rattle.std.specs.Option.{option_copied};
 ghost use Rattle.pg_message.specs.declared.packet.Packet.{Packet};
 ghost use Rattle.pg_message.specs.Members.{IsShort};
-ghost use Rattle.pg_frame_world.specs.Short.{AreShort, AreShort-prop};
+ghost use Rattle.pg_frame_world.specs.Short.{HaveShortGroups, HaveShortGroups-prop};
 
 use crate::message::same_message;
 use pg_message::Packet;
@@ -16,7 +16,7 @@ use std::collections::VecDeque;
 #[derive(Drop)]
 pub(crate) struct Way {
     packets: VecDeque<Packet>,
-    ghost short: { AreShort packets.items } by { AreShort-prop packets.items },
+    ghost short: { HaveShortGroups packets.items } by { HaveShortGroups-prop packets.items },
 }
 
 impl Way {

@@ -38,7 +38,7 @@ impl<T: GroupTable + Drop> FrameNodes<T> {
     ghost use Rattle.pg_machine.specs.Machine.{Take, Do};
     ghost use Rattle.pg_step.specs.Config.{Config};
     ghost use Rattle.pg_step.specs.Step.{Issue, Retry};
-    ghost use Rattle.pg_account.specs.Histories.{IsSettled};
+    ghost use Rattle.pg_account.specs.Histories.{AreInRows};
     ghost use Rattle.pg_frame_world.specs.Worlds.{traffic_of, view_of, has_port, has_places};
     ghost use Rattle.pg_frame_world.specs.Worlds.{TimedFrameWorld, ShowsWorld, ComesTo, StepComesTo};
     ghost use Rattle.pg_step.specs.LossLaws.{LosingFrameWorld};
@@ -160,7 +160,7 @@ impl<T: GroupTable + Drop> FrameNodes<T> {
 
     /// A node takes the first packet on the way from a peer.
     fn take(&mut self, node: usize, peer: usize) -> Result<Stepped, NodeFault>
-        requires settled { IsSettled self.old.histories }
+        requires settled { AreInRows self.old.histories }
         requires pair { is_pair (length (traffic_of self.old).nodes) node peer ≡ true }
         ensures event { (config : Config) (w : TimedFrameWorld) → ShowsWorld config (view_of self.old) w
             → ComesTo config w (Take node peer) result (ShowsWorld config (view_of self.new)) }
@@ -201,7 +201,7 @@ impl<T: GroupTable + Drop> FrameNodes<T> {
 
     /// A command comes in at a port of a node.
     fn command(&mut self, node: usize, port: u16, command: &Command) -> Result<Stepped, NodeFault>
-        requires settled { IsSettled self.old.histories }
+        requires settled { AreInRows self.old.histories }
         requires port { has_port (traffic_of self.old).nodes node port ≡ true }
         ensures event { (config : Config) (w : TimedFrameWorld) → ShowsWorld config (view_of self.old) w
             → ComesTo config w (Do node (Issue port command.now)) result (ShowsWorld config (view_of self.new)) }
@@ -229,7 +229,7 @@ impl<T: GroupTable + Drop> FrameNodes<T> {
 
     /// A node tries a command again that waits.
     fn retry(&mut self, node: usize, op: OpId) -> Result<Stepped, NodeFault>
-        requires settled { IsSettled self.old.histories }
+        requires settled { AreInRows self.old.histories }
         requires port { has_port (traffic_of self.old).nodes node op.port ≡ true }
         ensures event { (config : Config) (w : TimedFrameWorld) → ShowsWorld config (view_of self.old) w
             → ComesTo config w (Do node (Retry op)) result (ShowsWorld config (view_of self.new)) }

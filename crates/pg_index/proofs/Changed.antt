@@ -16,7 +16,7 @@ use Rattle.pg_group.proofs.Merges.{raised, between_so_far}
 use Rattle.pg_members.specs.declared.row.Row.{Row}
 use Rattle.pg_members.specs.Rows.{counts_of}
 use Rattle.pg_index.specs.Groups.{Numbered, is_used, counts_changed, IsPartlyRaised}
-use Rattle.pg_index.specs.Listings.{listed_as, AreListed}
+use Rattle.pg_index.specs.Listings.{listed_as, ListsByMember}
 use Rattle.pg_index.proofs.Numbers.{number_is, number_itself}
 use Rattle.pg_index.proofs.Listed.{marked_same}
 use Rattle.pg_index.proofs.Dropped.{changed_elsewhere, changed_of_others}
@@ -44,7 +44,7 @@ marked_twice listed pid group a b =
 
 -- a pid is listed by its new count
 pub listed_after : (listed listed' : Pid → ℕ → Bool) (counts counts' : Numbered) (pid : Pid) (group : ℕ) (b : Bool) (k : ℕ)
-    → AreListed listed counts → listed' ≡ listed_as listed pid group b → counts' ≡ counts_changed counts group pid k → b ≡ nat_lt 0 (counts' group pid) → AreListed listed' counts'
+    → ListsByMember listed counts → listed' ≡ listed_as listed pid group b → counts' ≡ counts_changed counts group pid k → b ≡ nat_lt 0 (counts' group pid) → ListsByMember listed' counts'
 listed_after listed listed' counts counts' pid group b k h e f is q n = go (same_pid pid q) refl
   where
     own : (t : Bool) → nat_eq group n ≡ t → listed' pid n ≡ nat_lt 0 (counts' n pid)
@@ -60,7 +60,7 @@ listed_after listed listed' counts counts' pid group b k h e f is q n = go (same
         ∙ ap (nat_lt 0) (sym (ap (λ c. c n q) f ∙ changed_of_others counts group pid k n q g))
 
 pub listed_kept : (listed : Pid → ℕ → Bool) (counts counts' : Numbered) (pid : Pid) (group : ℕ) (k : ℕ)
-    → AreListed listed counts → counts' ≡ counts_changed counts group pid k → nat_lt 0 (counts group pid) ≡ nat_lt 0 (counts' group pid) → AreListed listed counts'
+    → ListsByMember listed counts → counts' ≡ counts_changed counts group pid k → nat_lt 0 (counts group pid) ≡ nat_lt 0 (counts' group pid) → ListsByMember listed counts'
 listed_kept listed counts counts' pid group k h f is = listed_after listed listed counts counts' pid group (listed pid group) k h (marked_same listed pid group (listed pid group) refl) f (h pid group ∙ is)
 
 -- a count that stays

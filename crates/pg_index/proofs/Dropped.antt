@@ -15,7 +15,7 @@ use Rattle.pg_group.specs.Scope.{at_node}
 use Rattle.pg_group.proofs.Changes.{upd_from, upd_same, upd_at, upd_other}
 use Rattle.pg_index.specs.declared.listing.Listing.{Listing}
 use Rattle.pg_index.specs.Groups.{Numbered, counts_changed, without_pid, without_node, without_nodes}
-use Rattle.pg_index.specs.Listings.{process_of, listing_of, listing_cmp, listed_in, AreGroupsOf, AreListed}
+use Rattle.pg_index.specs.Listings.{process_of, listing_of, listing_cmp, listed_in, AreGroupsOf, ListsByMember}
 use Rattle.pg_index.proofs.Numbers.{number_is, number_itself}
 use Rattle.pg_index.proofs.Listed.{Nodes, has, at_group, apart, same_node, node_is, listing_is, node_alike, nodes_tie}
 
@@ -101,13 +101,13 @@ without_others counts pid n q e = upd_other same_pid (counts n) pid 0 q e
 
 -- the listings, once the set of the pid's node has none of the pid
 pub listed_without : (old new : Nodes) (pid : Pid) (was now : BTreeSet Listing) (before after : Numbered)
-    → AreListed (listed_in old) before
+    → ListsByMember (listed_in old) before
     → get atom_cmp old pid.node ≡ Some was
     → ((node : List ℕ) → get atom_cmp new node ≡ cond (is_at (atom_cmp pid.node) node) (Some now) (get atom_cmp old node))
     → after ≡ without_pid before pid
     → ((n : ℕ) → contains listing_cmp now (listing_of pid n) ≡ false)
     → ((other : Pid) (group : ℕ) → pid.node ≡ other.node → same_pid pid other ≡ false → contains listing_cmp now (listing_of other group) ≡ contains listing_cmp was (listing_of other group))
-    → AreListed (listed_in new) after
+    → ListsByMember (listed_in new) after
 listed_without old new pid was now before after listed had put counts none others q n = go (same_pid pid q) refl
   where
     other : (t : Bool) → is_at (atom_cmp pid.node) q.node ≡ t → same_pid pid q ≡ false → has (cond t (Some now) (get atom_cmp old q.node)) (listing_of q n) ≡ listed_in old q n
@@ -188,15 +188,15 @@ at_node_is : (node : List ℕ) (pid : Pid) → at_node node pid ≡ true → pid
 at_node_is node pid e = sym (node_alike node pid.node e)
 
 -- what is listed at the node of a set
-pub set_of_node : (old : Nodes) (node : List ℕ) (set : BTreeSet Listing) (counts : Numbered) → AreListed (listed_in old) counts → get atom_cmp old node ≡ Some set → (pid : Pid) → at_node node pid ≡ true → AreGroupsOf set counts pid
+pub set_of_node : (old : Nodes) (node : List ℕ) (set : BTreeSet Listing) (counts : Numbered) → ListsByMember (listed_in old) counts → get atom_cmp old node ≡ Some set → (pid : Pid) → at_node node pid ≡ true → AreGroupsOf set counts pid
 set_of_node old node set counts listed had pid at n =
     ap (λ o. has o (listing_of pid n)) (sym had ∙ ap (λ (a : List ℕ). get atom_cmp old a) (sym (at_node_is node pid at))) ∙ listed pid n
 
 pub listed_without_node : (old new : Nodes) (node : List ℕ) (before after : Numbered)
-    → AreListed (listed_in old) before
+    → ListsByMember (listed_in old) before
     → ((other : List ℕ) → get atom_cmp new other ≡ cond (is_at (atom_cmp node) other) None (get atom_cmp old other))
     → after ≡ without_nodes before node
-    → AreListed (listed_in new) after
+    → ListsByMember (listed_in new) after
 listed_without_node old new node before after listed put counts q n = go (at_node node q) refl
   where
     at : is_at (atom_cmp node) q.node ≡ at_node node q
@@ -212,7 +212,7 @@ listed_without_node old new node before after listed put counts q n = go (at_nod
         ∙ ap (nat_lt 0) (sym (ap (λ f. f n q) counts ∙ ap (λ t. cond t 0 (before n q)) e))
 
 -- a node with no set has no member anywhere
-pub no_set : (old : Nodes) (node : List ℕ) (counts : Numbered) → AreListed (listed_in old) counts → get atom_cmp old node ≡ None → counts ≡ without_nodes counts node
+pub no_set : (old : Nodes) (node : List ℕ) (counts : Numbered) → ListsByMember (listed_in old) counts → get atom_cmp old node ≡ None → counts ≡ without_nodes counts node
 no_set old node counts listed had = fun_ext (λ n. fun_ext (λ pid. go n pid (at_node node pid) refl))
   where
     go : (n : ℕ) (pid : Pid) (t : Bool) → at_node node pid ≡ t → counts n pid ≡ cond t 0 (counts n pid)

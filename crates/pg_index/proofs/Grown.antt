@@ -13,7 +13,7 @@ use Rattle.pg_group.specs.Functions.{upd}
 use Rattle.pg_group.specs.Value.{nobody, greater, told}
 use Rattle.pg_group.proofs.Changes.{upd_other, upd_twice}
 use Rattle.pg_index.specs.Groups.{Numbered, counts_in, is_used, counts_raised, IsPartlyRaised}
-use Rattle.pg_index.specs.Index.{Numbers, number_of, table_of, HasGroups, AreApart}
+use Rattle.pg_index.specs.Index.{Numbers, number_of, table_of, HasGroups, AreNumberedApart}
 use Rattle.pg_index.specs.Grown.{IsGrown}
 use Rattle.pg_index.specs.declared.memberships.Memberships.{Memberships}
 use Rattle.pg_index.proofs.Numbers.{number_is}
@@ -167,7 +167,7 @@ module _ (n : Numbers) (m : Memberships) (numbers : Numbers) (now : Memberships)
     pub back_there : HasGroups (number_of numbers) (is_used now.groups)
     back_there name group has = grown.used group (there name group (sym (number_back name) ∙ has))
 
-    pub back_apart : AreApart (number_of n) → AreApart (number_of numbers)
+    pub back_apart : AreNumberedApart (number_of n) → AreNumberedApart (number_of numbers)
     back_apart apart one other group e f = apart one other group (sym (number_back one) ∙ e) (sym (number_back other) ∙ f)
 
     pub table_back : table_of numbers now ≡ table_of n m

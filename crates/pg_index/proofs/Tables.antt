@@ -23,7 +23,7 @@ use Rattle.pg_members.specs.Rows.{counts_of}
 use Rattle.pg_index.specs.Groups.{Numbered, counts_at, counts_changed, counts_raised}
 use Rattle.pg_index.specs.Groups.{without_pid, without_nodes, IsPartlyRaised}
 use Rattle.pg_index.specs.Listings.{listed_as}
-use Rattle.pg_index.specs.Index.{contents_of, HasGroups, AreApart}
+use Rattle.pg_index.specs.Index.{contents_of, HasGroups, AreNumberedApart}
 use Rattle.pg_index.proofs.Numbers.{number_is, number_itself}
 use Rattle.pg_index.proofs.Changed.{marked_here, marked_of_others, marked_elsewhere}
 
@@ -52,7 +52,7 @@ row_removed listed listed' counts counts' pid group e f = (λ h q. mine h q (sam
 
 module _ (number_of : Term → Option ℕ) (counts : Numbered) where
   -- one group has other members
-  pub group_changed : AreApart number_of → (name : Term) (group : ℕ) (after : Counts) (counts' : Numbered) → number_of name ≡ Some group → counts' ≡ upd nat_eq counts group after
+  pub group_changed : AreNumberedApart number_of → (name : Term) (group : ℕ) (after : Counts) (counts' : Numbered) → number_of name ≡ Some group → counts' ≡ upd nat_eq counts group after
       → contents_of number_of counts' ≡ upd same_term (contents_of number_of counts) name (Some after)
   group_changed apart name group after counts' had e =
       upd_from same_term (contents_of number_of counts) name (contents_of number_of counts') (Some after) (λ q. go q (same_term name q) refl)
@@ -144,7 +144,7 @@ module _ (number_of number_of' : Term → Option ℕ) (used used' : ℕ → Bool
           ap used' (sym is) ∙ ap (λ (u : ℕ → Bool). u group) opened ∙ upd_at nat_eq used group true (number_itself group)
       go false f = still_used n (there q n (sym (at_name q ∙ ap (λ t. cond t (Some group) (number_of q)) f) ∙ e))
 
-  pub made_apart : AreApart number_of → AreApart number_of'
+  pub made_apart : AreNumberedApart number_of → AreNumberedApart number_of'
   made_apart apart one other n e f = go (same_term name one) (same_term name other) refl refl
     where
       new : (q : Term) → same_term name q ≡ true → number_of' q ≡ Some n → group ≡ n
@@ -177,7 +177,7 @@ given_up_there number_of number_of' used used' used'' group there same free open
 module _ (number_of number_of' : Term → Option ℕ) (used used' : ℕ → Bool) (counts counts' : Numbered) (name : Term) (group : ℕ)
     (had : number_of name ≡ Some group)
     (removed : (q : Term) → number_of' q ≡ cond (same_term name q) None (number_of q))
-    (apart : AreApart number_of) where
+    (apart : AreNumberedApart number_of) where
   kept_number : (q : Term) (n : ℕ) → number_of' q ≡ Some n → (number_of q ≡ Some n) × (nat_eq group n ≡ false)
   kept_number q n e = go (same_term name q) refl
     where
@@ -194,7 +194,7 @@ module _ (number_of number_of' : Term → Option ℕ) (used used' : ℕ → Bool
       let kept = kept_number q n e in
       ap (λ (u : ℕ → Bool). u n) closed ∙ upd_other nat_eq used group false n kept.1 ∙ there q n kept.0
 
-  pub gone_apart : AreApart number_of'
+  pub gone_apart : AreNumberedApart number_of'
   gone_apart one other n e f = apart one other n ((kept_number one n e).0) ((kept_number other n f).0)
 
   pub gone : counts' ≡ upd nat_eq counts group nobody → contents_of number_of' counts' ≡ upd same_term (contents_of number_of counts) name None
@@ -213,7 +213,7 @@ absent_gone number_of counts name e = table_kept (contents_of number_of counts) 
 
 -- ---- counts of one group
 
-module _ (number_of : Term → Option ℕ) (counts counts' : Numbered) (name : Term) (group : ℕ) (apart : AreApart number_of) (had : number_of name ≡ Some group) where
+module _ (number_of : Term → Option ℕ) (counts counts' : Numbered) (name : Term) (group : ℕ) (apart : AreNumberedApart number_of) (had : number_of name ≡ Some group) where
   has_counts : contents_of number_of counts name ≡ Some (counts group)
   has_counts = ap (option_map counts) had
 
@@ -239,7 +239,7 @@ module _ (number_of : Term → Option ℕ) (counts : Numbered) (name : Term) (ha
   pub left_absent : (pid : Pid) → contents_of number_of counts ≡ upd same_term (contents_of number_of counts) name (apply (contents_of number_of counts name) (Leave name pid))
   left_absent pid = table_kept (contents_of number_of counts) name (apply (contents_of number_of counts name) (Leave name pid)) (ap (λ (v : Value). apply v (Leave name pid)) none_here ∙ sym none_here)
 
-pub joined_if : (number_of : Term → Option ℕ) (counts counts' : Numbered) (name : Term) (group : ℕ) → AreApart number_of → Some group ≡ number_of name → (pid : Pid) {T E : Type 0} (result : Result T E)
+pub joined_if : (number_of : Term → Option ℕ) (counts counts' : Numbered) (name : Term) (group : ℕ) → AreNumberedApart number_of → Some group ≡ number_of name → (pid : Pid) {T E : Type 0} (result : Result T E)
     → OnOk result (counts' ≡ counts_changed counts group pid (counts group pid + 1))
     → OnOk result (contents_of number_of counts' ≡ upd same_term (contents_of number_of counts) name (apply (contents_of number_of counts name) (Join name pid)))
 joined_if number_of counts counts' name group apart had pid (Ok v) h = joined number_of counts counts' name group apart (sym had) pid h
@@ -248,7 +248,7 @@ joined_if number_of counts counts' name group apart had pid (Err e) h = tt
 -- ---- a merge
 
 pub merged_whole : (number_of : Term → Option ℕ) (counts counts' : Numbered) (old : Table) (name : Term) (group : ℕ) (pids : List Pid) (ended : Pid → Bool)
-    → AreApart number_of → Some group ≡ number_of name
+    → AreNumberedApart number_of → Some group ≡ number_of name
     → contents_of number_of counts ≡ upd same_term old name (apply (old name) (Create name))
     → {T E : Type 0} (result : Result T E)
     → OnOk result (counts' ≡ counts_raised counts group pids ended)
@@ -260,7 +260,7 @@ merged_whole number_of counts counts' old name group pids ended apart had made (
     (group_changed number_of counts apart name group after counts' (sym had) h) refl
 
 pub merged_partly : (number_of : Term → Option ℕ) (counts counts' : Numbered) (old : Table) (name : Term) (group : ℕ) (pids : List Pid) (ended : Pid → Bool)
-    → AreApart number_of → Some group ≡ number_of name
+    → AreNumberedApart number_of → Some group ≡ number_of name
     → contents_of number_of counts ≡ upd same_term old name (apply (old name) (Create name))
     → {T E : Type 0} (result : Result T E)
     → OnErr result (IsPartlyRaised counts counts' group pids ended)

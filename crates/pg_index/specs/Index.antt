@@ -28,8 +28,8 @@ abbrev pub HasGroups : (Term → Option ℕ) → (ℕ → Bool) → Type 0
 HasGroups number_of used = (name : Term) (group : ℕ) → number_of name ≡ Some group → used group ≡ true
 
 -- no two names have one number
-abbrev pub AreApart : (Term → Option ℕ) → Type 0
-AreApart number_of = (one other : Term) (group : ℕ) → number_of one ≡ Some group → number_of other ≡ Some group → same_term one other ≡ true
+abbrev pub AreNumberedApart : (Term → Option ℕ) → Type 0
+AreNumberedApart number_of = (one other : Term) (group : ℕ) → number_of one ≡ Some group → number_of other ≡ Some group → same_term one other ≡ true
 
 -- these are the rows of the group
 abbrev pub MembersOf : Table → Term → Option (List Row) → Type 0

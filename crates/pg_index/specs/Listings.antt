@@ -41,5 +41,5 @@ abbrev pub AreGroupsOf : BTreeSet Listing → Numbered → Pid → Type 0
 AreGroupsOf set counts pid = (group : ℕ) → contains listing_cmp set (listing_of pid group) ≡ nat_lt 0 (counts group pid)
 
 -- each pid is listed in the groups that it is a member of, and in no other
-abbrev pub AreListed : (Pid → ℕ → Bool) → Numbered → Type 0
-AreListed listed counts = (pid : Pid) (group : ℕ) → listed pid group ≡ nat_lt 0 (counts group pid)
+abbrev pub ListsByMember : (Pid → ℕ → Bool) → Numbered → Type 0
+ListsByMember listed counts = (pid : Pid) (group : ℕ) → listed pid group ≡ nat_lt 0 (counts group pid)

@@ -7,7 +7,7 @@ ghost use Rattle.pg_group.specs.Value.{apply, count_in};
 ghost use Rattle.pg_group.specs.Table.{changed, merged, all_merged, Adds, AreAbsent, HasRoom, LacksRoom, Overfills};
 ghost use Rattle.pg_group.specs.declared.update.Update.TheVariants.{Create, Delete, Join, Leave};
 ghost use Rattle.pg_index.specs.Groups.{is_used};
-ghost use Rattle.pg_index.specs.Index.{Numbers, number_of, table_of, HasGroups, AreApart, MembersOf};
+ghost use Rattle.pg_index.specs.Index.{Numbers, number_of, table_of, HasGroups, AreNumberedApart, MembersOf};
 ghost use Rattle.pg_index.specs.Grown.{IsGrown};
 ghost use Rattle.pg_index.specs.declared.memberships.Memberships.{Memberships};
 
@@ -26,7 +26,7 @@ pub struct IndexTable {
     memberships: Memberships,
     alloc: Global,
     ghost there: { HasGroups (number_of numbers) (is_used memberships.groups) },
-    ghost apart: { AreApart (number_of numbers) },
+    ghost apart: { AreNumberedApart (number_of numbers) },
 }
 
 /// The same numbers of the same names: memory for each name.

@@ -6,7 +6,7 @@ ghost use Rattle.pg_group.specs.Scope.{at_node};
 ghost use Rattle.pg_members.specs.Rows.{counts_of};
 ghost use Rattle.pg_index.specs.Groups.{counts_in, is_used, without_pid, without_nodes};
 ghost use Rattle.pg_index.specs.Listings.{process_of, listing_of, listing_cmp, listed_in};
-ghost use Rattle.pg_index.specs.Listings.{listed_as, IsFirstListing, AreGroupsOf, AreListed};
+ghost use Rattle.pg_index.specs.Listings.{listed_as, IsFirstListing, AreGroupsOf, ListsByMember};
 
 use crate::groups::{self, Groups};
 use crate::listing::{Listing, Process};
@@ -139,10 +139,10 @@ pub fn drop_listed(set: &mut BTreeSet<Listing>, groups: &mut Groups, pid: &Pid)
 ///
 /// Cost: no memory.
 pub fn drop_pid(listings: &mut Listings, groups: &mut Groups, pid: &Pid)
-    requires { AreListed (listed_in listings.old) (counts_in groups.old) }
+    requires { ListsByMember (listed_in listings.old) (counts_in groups.old) }
     ensures counts { counts_in groups.new ≡ without_pid (counts_in groups.old) pid.now }
     ensures used { is_used groups.new ≡ is_used groups.old }
-    ensures listed { AreListed (listed_in listings.new) (counts_in groups.new) }
+    ensures listed { ListsByMember (listed_in listings.new) (counts_in groups.new) }
 {
     match listings.get_mut(&pid.node) {
         Some(set) => drop_listed(set, groups, pid),
@@ -167,10 +167,10 @@ pub fn drop_each(groups: &mut Groups, set: BTreeSet<Listing>, node: &Atom)
 ///
 /// Cost: no memory.
 pub fn drop_node(listings: &mut Listings, groups: &mut Groups, node: &Atom)
-    requires { AreListed (listed_in listings.old) (counts_in groups.old) }
+    requires { ListsByMember (listed_in listings.old) (counts_in groups.old) }
     ensures counts { counts_in groups.new ≡ without_nodes (counts_in groups.old) node.now }
     ensures used { is_used groups.new ≡ is_used groups.old }
-    ensures listed { AreListed (listed_in listings.new) (counts_in groups.new) }
+    ensures listed { ListsByMember (listed_in listings.new) (counts_in groups.new) }
 {
     if let Some(set) = listings.remove(node) {
         drop_each(groups, set, node);

@@ -7,7 +7,7 @@ ghost use Rattle.pg_group.specs.Value.{with_one_less, nobody};
 ghost use Rattle.pg_index.specs.Groups.{counts_in, is_used, counts_changed, counts_raised};
 ghost use Rattle.pg_index.specs.Groups.{without_pid, without_nodes, IsPartlyRaised};
 ghost use Rattle.pg_group.specs.Table.{LacksRoom};
-ghost use Rattle.pg_index.specs.Listings.{listed_in, AreListed};
+ghost use Rattle.pg_index.specs.Listings.{listed_in, ListsByMember};
 
 use crate::groups::{self, Groups};
 use crate::listings::{self, Listings};
@@ -24,7 +24,7 @@ pub struct Memberships {
     pub groups: Groups,
     pub listings: Listings,
     alloc: Global,
-    ghost each: { AreListed (listed_in listings) (counts_in groups) },
+    ghost each: { ListsByMember (listed_in listings) (counts_in groups) },
 }
 
 impl Memberships {

@@ -15,7 +15,7 @@ use Rattle.pg_opens.specs.Places.{name_at}
 use Rattle.pg_run.specs.declared.log.NodeEvent.{NodeEvent}
 use Rattle.pg_run.specs.declared.log.NodeEvent.TheVariants as entries
 use Rattle.pg_run.specs.Acts.{Act, Given, Took, Saw, Did, IsFromPeer, Standing, ActLeads}
-use Rattle.pg_run.specs.Acts.{AllLead, entry_of, event_of, loss_of, losses_of, act_step}
+use Rattle.pg_run.specs.Acts.{AllLead, log_entry, event_of, loss_of, losses_of, act_step}
 use Rattle.pg_step.specs.Config.{Config, name_at as config_name, names_of, nodes_at, ports_at}
 use Rattle.pg_step.specs.FrameMachine.{placed, place_turn, sent_packet}
 use Rattle.pg_step.specs.Losses.{see_loss}
@@ -321,32 +321,32 @@ module _ (config : Config) (i : ℕ) (within : i < length config) where
   -- ---- what the log tells
 
   -- how many packets of a node its log tells that it took
-  pub takes_are : (x : ℕ) → x ≢ i → (acts : List Act) → takes_of x i (map (λ (entry : ℕ × NodeEvent). entry.1) (map entry_of acts)) ≡ length (packets_taken (peer_place i x) acts)
+  pub takes_are : (x : ℕ) → x ≢ i → (acts : List Act) → takes_of x i (map (λ (entry : ℕ × NodeEvent). entry.1) (map log_entry acts)) ≡ length (packets_taken (peer_place i x) acts)
   takes_are x other [] = refl
   takes_are x other (act ∷ acts) = go act.input (takes_are x other acts)
     where
-      go : (input : Given) → takes_of x i (map (λ (entry : ℕ × NodeEvent). entry.1) (map entry_of acts)) ≡ length (packets_taken (peer_place i x) acts)
-          → cond (is_take x i (event_of input)) 1 0 + takes_of x i (map (λ (entry : ℕ × NodeEvent). entry.1) (map entry_of acts)) ≡ length (packet_of_peer (peer_place i x) input ++ packets_taken (peer_place i x) acts)
+      go : (input : Given) → takes_of x i (map (λ (entry : ℕ × NodeEvent). entry.1) (map log_entry acts)) ≡ length (packets_taken (peer_place i x) acts)
+          → cond (is_take x i (event_of input)) 1 0 + takes_of x i (map (λ (entry : ℕ × NodeEvent). entry.1) (map log_entry acts)) ≡ length (packet_of_peer (peer_place i x) input ++ packets_taken (peer_place i x) acts)
       go (Saw p last) rest = none_more _ ∙ rest
       go (Did (Issue port command)) rest = none_more _ ∙ rest
       go (Did (Retry op)) rest = none_more _ ∙ rest
       go (Took p z) rest =
-          ap (λ b. cond b 1 0 + takes_of x i (map (λ (entry : ℕ × NodeEvent). entry.1) (map entry_of acts))) (same_place i x p other)
+          ap (λ b. cond b 1 0 + takes_of x i (map (λ (entry : ℕ × NodeEvent). entry.1) (map log_entry acts))) (same_place i x p other)
           ∙ one (nat_eq p (peer_place i x))
         where
-          one : (b : Bool) → cond b 1 0 + takes_of x i (map (λ (entry : ℕ × NodeEvent). entry.1) (map entry_of acts)) ≡ length (cond b (z ∷ []) [] ++ packets_taken (peer_place i x) acts)
+          one : (b : Bool) → cond b 1 0 + takes_of x i (map (λ (entry : ℕ × NodeEvent). entry.1) (map log_entry acts)) ≡ length (cond b (z ∷ []) [] ++ packets_taken (peer_place i x) acts)
           one true = omega (arith, rest)
           one false = omega (arith, rest)
 
   -- behind the sight of a loss nothing is taken of the lost
-  pub ceases : (a : Standing) (acts : List Act) (b : Standing) → AllLead names ports a acts b → Ceases i (map entry_of acts)
+  pub ceases : (a : Standing) (acts : List Act) (b : Standing) → AllLead names ports a acts b → Ceases i (map log_entry acts)
   ceases a [] b lead zero clock peer rest e = absurd (cc)
   ceases a [] b lead (suc n) clock peer rest e = absurd (cc)
   ceases a (act ∷ acts) b (m, lead, later) (suc n) clock peer rest e = ceases m acts b later n clock peer rest e
   ceases a (act ∷ acts) b (m, lead, later) zero clock peer rest e =
-      let first = heads (entry_of act) (clock, entries.SeeLoss peer) (map entry_of acts) rest e in
+      let first = heads (log_entry act) (clock, entries.SeeLoss peer) (map log_entry acts) rest e in
       let event : event_of act.input ≡ entries.SeeLoss peer = ap (λ (entry : ℕ × NodeEvent). entry.1) first.0 in
-      let more : map entry_of acts ≡ rest = first.1 in
+      let more : map log_entry acts ≡ rest = first.1 in
       ap (λ (es : List (ℕ × NodeEvent)). takes_of (place_of_peer i peer) i (map (λ entry. entry.1) es)) (sym more)
       ∙ (takes_are (place_of_peer i peer) (own_place i peer) acts
       ∙ (ap (λ k. length (packets_taken k acts)) (sym back)

@@ -13,7 +13,7 @@ use Rattle.pg_machine.proofs.Places.{set_at_here, set_at_other}
 use Rattle.pg_machine.proofs.Sequences.{told_by_append}
 use Rattle.pg_machine.proofs.Steps.{pair_apart}
 use Rattle.pg_joining.specs.Logs.{LoggedAct, event_of, NodeLeads, sent_to, packet_from}
-use Rattle.pg_joining.specs.Logs.{taken_from, entry_of, reports_of, AreLogs}
+use Rattle.pg_joining.specs.Logs.{taken_from, log_entry, reports_of, AreLogs}
 use Rattle.pg_joining.specs.Merge.{ComesFirst, IsNext, rest_of, MergesRest, Merges, clocks_of, entry_at, merged_logs}
 use Rattle.pg_joining.specs.Joined.{Joined, Passes}
 use Rattle.pg_joining.proofs.Acts.{pair_places, drop_next, map_nil, map_cons, From, later_than_first, stamped_later}
@@ -217,16 +217,16 @@ module _ {S P C O : Type 0} (limit : ℕ) (m : Machine (Timed S) (Stamped P) C O
   abbrev clock_of : LoggedAct (Timed S) (Stamped P) C O → ℕ
   clock_of a = a.turn.state.clock
 
-  clocks_seen : (i : ℕ) (acts : List (LoggedAct (Timed S) (Stamped P) C O)) → clocks_of (map (entry_of i) acts) ≡ map clock_of acts
+  clocks_seen : (i : ℕ) (acts : List (LoggedAct (Timed S) (Stamped P) C O)) → clocks_of (map (log_entry i) acts) ≡ map clock_of acts
   clocks_seen i [] = refl
   clocks_seen i (a ∷ acts) = ap (λ xs. clock_of a ∷ xs) (clocks_seen i acts)
 
-  events_seen : (i : ℕ) (acts : List (LoggedAct (Timed S) (Stamped P) C O)) → map (λ a. event_of i a.input) acts ≡ map (λ (x : ℕ × Event C). x.1) (map (entry_of i) acts)
+  events_seen : (i : ℕ) (acts : List (LoggedAct (Timed S) (Stamped P) C O)) → map (λ a. event_of i a.input) acts ≡ map (λ (x : ℕ × Event C). x.1) (map (log_entry i) acts)
   events_seen i [] = refl
   events_seen i (a ∷ acts) = ap (λ xs. event_of i a.input ∷ xs) (events_seen i acts)
 
   module _ (acts : ℕ → List (LoggedAct (Timed S) (Stamped P) C O)) (logs : ℕ → List (ℕ × Event C))
-      (entries : (i : ℕ) → i < m.size → logs i ≡ map (entry_of i) (acts i)) where
+      (entries : (i : ℕ) → i < m.size → logs i ≡ map (log_entry i) (acts i)) where
     -- what is still to be done where so much is done
     abbrev rest : (ℕ → ℕ) → ℕ → List (LoggedAct (Timed S) (Stamped P) C O)
     rest read i = drop (read i) (acts i)
@@ -241,7 +241,7 @@ module _ {S P C O : Type 0} (limit : ℕ) (m : Machine (Timed S) (Stamped P) C O
         → entry_at (logs i) n ≡ event_of i a.input ∷ []
     entry i n low a more is =
         ap (λ log. entry_at log n) (entries i low)
-        ∙ ap (λ (xs : List (ℕ × Event C)). map (λ (x : ℕ × Event C). x.1) (take 1 xs)) (drop-map (entry_of i) n (acts i) ∙ ap (map (entry_of i)) is)
+        ∙ ap (λ (xs : List (ℕ × Event C)). map (λ (x : ℕ × Event C). x.1) (take 1 xs)) (drop-map (log_entry i) n (acts i) ∙ ap (map (log_entry i)) is)
 
     module _ (read : ℕ → ℕ) (w : TimedWorld S P O) (old : Ahead w (rest read)) (i : ℕ) (next : IsNext m.size (rest_of clocks read) i) where
       earliest : (p : ℕ) → p < m.size → From limit m keeps next.clock (rest read p)

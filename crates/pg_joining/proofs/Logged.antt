@@ -9,13 +9,13 @@ use Rattle.pg_machine.specs.Places.{is_pair}
 use Rattle.pg_history.specs.Headline.{OneHistory}
 use Rattle.pg_history.specs.History.{all_reported, answers_by}
 use Rattle.pg_joining.specs.Joined.{Joined}
-use Rattle.pg_joining.specs.Logs.{AreLogs, NodeLeads, event_of as machine_event, entry_of as machine_entry}
+use Rattle.pg_joining.specs.Logs.{AreLogs, NodeLeads, event_of as machine_event, log_entry as machine_entry}
 use Rattle.pg_joining.specs.Merge.{Merges, clocks_of, merged_logs, seen_log}
 use Rattle.pg_node.specs.declared.node.Node.{Node}
 use Rattle.pg_node.specs.Nodes.{held_by, links_of}
 use Rattle.pg_node_state.specs.States.{answers_of, state_of}
 use Rattle.pg_run.specs.declared.log.NodeEvent.{NodeEvent}
-use Rattle.pg_run.specs.Acts.{Act, Given, Took, Saw, Did, SawNone, entry_of, event_of}
+use Rattle.pg_run.specs.Acts.{Act, Given, Took, Saw, Did, SawNone, log_entry, event_of}
 use Rattle.pg_run.specs.Follows.{log_of, node_of, standing_of}
 use Rattle.pg_step.specs.Config.{Config, name_at, nodes_at, ports_at}
 use Rattle.pg_step.specs.FrameMachine.{frame_machine}
@@ -42,7 +42,7 @@ one_event i (Did (Issue port command)) none = refl
 one_event i (Did (Retry op)) none = refl
 
 -- the entries of acts are those of the machine's turns
-entries_alike : (config : Config) (i : ℕ) (acts : List Act) → SawNone acts → seen_log (event_at i) (map entry_of acts) ≡ map (machine_entry i) (map (act_at config i) acts)
+entries_alike : (config : Config) (i : ℕ) (acts : List Act) → SawNone acts → seen_log (event_at i) (map log_entry acts) ≡ map (machine_entry i) (map (act_at config i) acts)
 entries_alike config i [] none = refl
 entries_alike config i (act ∷ acts) none = λ j. (act.turn.state.clock, one_event i act.input (first_none act acts none) j) ∷ entries_alike config i acts (others_none act acts none) j
 
@@ -63,7 +63,7 @@ module _ {T : Type 0} {g : Ghosts T} (config : Config) (nodes : List (Node T g))
 
   entries_on : (i : ℕ) → i < length config → logs_on i ≡ map (machine_entry i) (acts_on i)
   entries_on i within =
-      ap (seen_log (event_at i)) ((ran.follows i within).log ∙ ap (λ w. w ++ map entry_of (ran.acts i)) (ran.unlogged i within))
+      ap (seen_log (event_at i)) ((ran.follows i within).log ∙ ap (λ w. w ++ map log_entry (ran.acts i)) (ran.unlogged i within))
       ∙ entries_alike config i (ran.acts i) (unseen i within)
 
   runs_on : (i : ℕ) → i < length config → NodeLeads (frame_machine config) i ((frame_machine config).first i) (acts_on i) (ends_on i)

@@ -18,7 +18,7 @@ use Rattle.pg_machine.proofs.Steps.{pair_apart}
 use Rattle.pg_joining.specs.Logs.{LoggedAct, event_of, NodeLeads, sent_to, packet_from, taken_from, reports_of}
 use Rattle.pg_joining.specs.Merge.{ComesFirst, IsNext, rest_of, MergesRest, Merges, clocks_of, entry_at, merged_logs}
 use Rattle.pg_joining.specs.Losses.{Logged, Turned, Stopped, still_kept, events_told, turn_entry, losing_log, arriving}
-use Rattle.pg_joining.specs.Losses.{AreLosingLogs, IsMarked, LosingJoined, MarkedLeads, is_first_last, is_sight}
+use Rattle.pg_joining.specs.Losses.{AreLosingLogs, MarksNotices, LosingJoined, MarkedLeads, is_first_last, is_sight}
 use Rattle.pg_joining.proofs.Acts.{pair_places, drop_next, From, later_than_first, stamped_later}
 use Rattle.pg_joining.proofs.Moved.{Moved, own_moved, take_moved}
 
@@ -438,7 +438,7 @@ module _ {S P C O : Type 0} (limit : ℕ) (m : Machine (Timed S) (Stamped P) C O
 
       -- it takes a last notice where that was given
       marked : (input : Input (Stamped P) C) → is_there m.size (event_of i input) ≡ true → ((p : ℕ) → p ≢ i → w.world.wire p i ≡ packet_from p input ++ v.wire p i)
-          → IsMarked is_last w.world (Step (event_of i input)) (is_sight is_last input)
+          → MarksNotices is_last w.world (Step (event_of i input)) (is_sight is_last input)
       marked (Own c) pair way = refl
       marked (Taken p x) pair way =
           sym (ap (is_first_last is_last) (way p (λ same. pair_apart m.size i p pair (sym same)) ∙ ap (λ b. cond b (x ∷ []) [] ++ v.wire p i) (eq-eqb p p refl)))

@@ -29,7 +29,7 @@ use Rattle.pg_node.specs.Nodes.{held_by, links_of}
 use Rattle.pg_ring.specs.Ends.{Receives, Sends}
 use Rattle.pg_node_state.specs.States.{answers_of, state_of}
 use Rattle.pg_run.specs.declared.log.NodeEvent.{NodeEvent}
-use Rattle.pg_run.specs.Acts.{Act, Given, Took, Saw, Did, Standing, AllLead, entry_of, event_of, frames_sent, losses_of}
+use Rattle.pg_run.specs.Acts.{Act, Given, Took, Saw, Did, Standing, AllLead, log_entry, event_of, frames_sent, losses_of}
 use Rattle.pg_run.specs.Follows.{HasMoved, WasClosed, log_of, node_of, peers_of, standing_of}
 use Rattle.pg_step.specs.Config.{Config, name_at, nodes_at, ports_at}
 use Rattle.pg_step.specs.FrameMachine.{frame_machine, last_notice, losing_frame_machine, machine_of, sent_packet}
@@ -38,7 +38,7 @@ use Rattle.pg_step.specs.Nodes.{all_of}
 use Rattle.pg_step.specs.State.{Response, State}
 use Rattle.pg_step.specs.Step.{Action, CLOCK_LIMIT, Issue, Retry}
 use Rattle.pg_joining.specs.Apart.{HaveRun, Linked}
-use Rattle.pg_joining.specs.ApartWithLosses.{MarkedReaches, RanPastLosses, SeesLost, bare, clock_of}
+use Rattle.pg_joining.specs.ApartWithLosses.{MarkedReaches, RanPastLosses, SeesLost, without_marks, clock_of}
 use Rattle.pg_joining.specs.ApartWithLosses.{is_last_notice, losing_events, nodes_in, takes_in, takes_of}
 use Rattle.pg_joining.proofs.Answered.{answers_on, answers_reported, given_at}
 use Rattle.pg_joining.proofs.Begun.{apart, leads, shown}
@@ -110,7 +110,7 @@ one_entry i (Did (Issue port command)) = refl
 one_entry i (Did (Retry op)) = refl
 
 -- the entries of acts are those of the machine's turns
-entries_turned : (config : Config) (i : ℕ) (acts : List Act) → seen_log (turned_at i) (map entry_of acts) ≡ map (turn_entry is_last_notice i) (map (losing_act config i) acts)
+entries_turned : (config : Config) (i : ℕ) (acts : List Act) → seen_log (turned_at i) (map log_entry acts) ≡ map (turn_entry is_last_notice i) (map (losing_act config i) acts)
 entries_turned config i [] = refl
 entries_turned config i (act ∷ acts) = λ j. (act.turn.state.clock, one_entry i act.input j) ∷ entries_turned config i acts j
 
@@ -125,13 +125,13 @@ sends_alike config i q (act ∷ acts) =
     ∙ sym (map-append sent_packet ((act_at config i act).turn.sends q) (sent_to q (map (act_at config i) acts)))
 
 -- the clock at last
-last_clock : (names : List (List ℕ)) (ports : ℕ) (a : Standing) (acts : List Act) (b : Standing) → AllLead names ports a acts b → last_from a.state.clock (clocks_of (map entry_of acts)) ≡ b.state.clock
+last_clock : (names : List (List ℕ)) (ports : ℕ) (a : Standing) (acts : List Act) (b : Standing) → AllLead names ports a acts b → last_from a.state.clock (clocks_of (map log_entry acts)) ≡ b.state.clock
 last_clock names ports a [] b lead = ap (λ (s : Standing). s.state.clock) (sym lead)
 last_clock names ports a (act ∷ acts) b (m, lead, later) =
-    ap (λ (s : Timed State). last_from s.clock (clocks_of (map entry_of acts))) (sym lead.state) ∙ last_clock names ports m acts b later
+    ap (λ (s : Timed State). last_from s.clock (clocks_of (map log_entry acts))) (sym lead.state) ∙ last_clock names ports m acts b later
 
 clocks_rise : (config : Config) (i : ℕ) (keeps : KeepsTime CLOCK_LIMIT (losing_frame_machine config)) (s t : Timed State) (acts : List Act)
-    → NodeLeads (losing_frame_machine config) i s (map (losing_act config i) acts) t → AllByRecursion (λ clock. 0 < clock) (clocks_of (map entry_of acts))
+    → NodeLeads (losing_frame_machine config) i s (map (losing_act config i) acts) t → AllByRecursion (λ clock. 0 < clock) (clocks_of (map log_entry acts))
 clocks_rise config i keeps s t [] run = tt
 clocks_rise config i keeps s t (act ∷ acts) run =
     let up = keeps.raises i s (losing_act config i act).input (losing_act config i act).turn run.1 in
@@ -169,8 +169,8 @@ module _ {T : Type 0} {g : Ghosts T} (config : Config) (nodes : List (Node T g))
   abbrev left : ℕ → ℕ → List (Stamped (Noticed Message))
   left p q = left_after (lost p) (losses_of (peer_place q p) (ran.acts q)) (last p) (left_on config nodes begun ended ran p q)
 
-  log_is : (i : ℕ) → i < length config → logs i ≡ map entry_of (ran.acts i)
-  log_is i within = (ran.follows i within).log ∙ ap (λ w. w ++ map entry_of (ran.acts i)) (ran.unlogged i within)
+  log_is : (i : ℕ) → i < length config → logs i ≡ map log_entry (ran.acts i)
+  log_is i within = (ran.follows i within).log ∙ ap (λ w. w ++ map log_entry (ran.acts i)) (ran.unlogged i within)
 
   runs : (i : ℕ) → i < length config → NodeLeads (losing_frame_machine config) i ((losing_frame_machine config).first i) (acts i) (ends i)
   runs i within =
@@ -307,7 +307,7 @@ module _ {T : Type 0} {g : Ghosts T} (config : Config) (nodes : List (Node T g))
   marked : MarkedReaches config events joined.world
   marked = subst (λ es. MarkedReaches config es joined.world) (all_told (length config) lost last logs cease order merges) joined.leads
 
-  reached : LosingReaches config (bare events) joined.world
+  reached : LosingReaches config (without_marks events) joined.world
   reached = leads_bare (losing_frame_machine config) last_notice is_last_notice (nobody_gone (start_of (losing_frame_machine config))) events joined.world marked
 
   answers_shown : (i : ℕ) → i < length config → (port : ℕ) → AreAnswers (name_at config i) (answers_by i joined.world.world.reported port) (answers_of (held_by (node_of (ended i))) port)
@@ -325,7 +325,7 @@ module _ {T : Type 0} {g : Ghosts T} (config : Config) (nodes : List (Node T g))
     answers = answers_shown i within;
   }
 
-  pub ran_past_losses : ((u : LosingFrameWorld) → LosingReaches config (bare events) u → LossesSurvived config (bare events) u) → RanPastLosses config lost ended events
+  pub ran_past_losses : ((u : LosingFrameWorld) → LosingReaches config (without_marks events) u → LossesSurvived config (without_marks events) u) → RanPastLosses config lost ended events
   ran_past_losses survive = record {
     u = joined.world;
     reached = reached;

@@ -93,8 +93,8 @@ abbrev pub nodes_in : LosingFrameWorld → TimedFrameWorld
 nodes_in u = record { node = u.world.node; wire = λ x y. []; reported = u.world.reported }
 
 -- the events without their marks
-abbrev pub bare : List (MarkedEvent Action) → List (LosingEvent Action)
-bare events = map (λ x. x.0) events
+abbrev pub without_marks : List (MarkedEvent Action) → List (LosingEvent Action)
+without_marks events = map (λ x. x.0) events
 
 -- a packet on the way is a last notice
 abbrev pub is_last_notice : Stamped (Noticed Message) → Bool
@@ -124,8 +124,8 @@ module _ {T : Type 0} {g : Ghosts T} where
   -- ended, and of which all holds that survives losses. A last notice is taken where a loss was seen, and nowhere else.
   pub record RanPastLosses (config : Config) (lost : ℕ → Bool) (ended : ℕ → Linked T g) (events : List (MarkedEvent Action)) : Type 0 where
     pub u : LosingFrameWorld
-    pub reached : LosingReaches config (bare events) u
+    pub reached : LosingReaches config (without_marks events) u
     pub marked : MarkedReaches config events u
     pub gone : (i : ℕ) → i < length config → u.gone i ≡ lost i
     pub nodes : (i : ℕ) → i < length config → ShowsNode config (nodes_in u) i (seen_node (node_of (ended i)))
-    pub survived : LossesSurvived config (bare events) u
+    pub survived : LossesSurvived config (without_marks events) u

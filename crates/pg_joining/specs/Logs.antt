@@ -34,8 +34,8 @@ abbrev pub taken_from : {S P C O : Type 0} → ℕ → List (LoggedAct S P C O) 
 taken_from p acts = flat_map (λ a. packet_from p a.input) acts
 
 -- the entry of a log: the clock that an event of node i set, and the event
-abbrev pub entry_of : {S P C O : Type 0} → ℕ → LoggedAct (Timed S) (Stamped P) C O → ℕ × Event C
-entry_of i a = (a.turn.state.clock, event_of i a.input)
+abbrev pub log_entry : {S P C O : Type 0} → ℕ → LoggedAct (Timed S) (Stamped P) C O → ℕ × Event C
+log_entry i a = (a.turn.state.clock, event_of i a.input)
 
 -- what a node reported
 abbrev pub reports_of : {S P C O : Type 0} → List (LoggedAct S P C O) → List O
@@ -46,6 +46,6 @@ reports_of acts = map (λ a. a.turn.reported) acts
 pub record AreLogs {S P C O : Type 0} (m : Machine (Timed S) (Stamped P) C O) (logs : ℕ → List (ℕ × Event C))
     (acts : ℕ → List (LoggedAct (Timed S) (Stamped P) C O)) (ends : ℕ → Timed S) (left : ℕ → ℕ → List (Stamped P)) : Type 0 where
   pub runs : (i : ℕ) → i < m.size → NodeLeads m i (m.first i) (acts i) (ends i)
-  pub entries : (i : ℕ) → i < m.size → logs i ≡ map (entry_of i) (acts i)
+  pub entries : (i : ℕ) → i < m.size → logs i ≡ map (log_entry i) (acts i)
   pub ways : (p q : ℕ) → p < m.size → q < m.size → p ≢ q
       → m.opening p q ++ sent_to q (acts p) ≡ taken_from p (acts q) ++ left p q

@@ -63,16 +63,16 @@ is_first_last is_last [] = false
 is_first_last is_last (x ∷ xs) = is_last x
 
 -- In the world w an event takes a last notice just where it is marked so.
-abbrev pub IsMarked : {S P C O : Type 0} → (P → Bool) → World S P O → LosingEvent C → Bool → Type 0
-IsMarked is_last w (Step (Take i p)) sight = sight ≡ is_first_last is_last (w.wire p i)
-IsMarked is_last w (Step (Do i c)) sight = sight ≡ false
-IsMarked is_last w (Lose i keep) sight = sight ≡ false
+abbrev pub MarksNotices : {S P C O : Type 0} → (P → Bool) → World S P O → LosingEvent C → Bool → Type 0
+MarksNotices is_last w (Step (Take i p)) sight = sight ≡ is_first_last is_last (w.wire p i)
+MarksNotices is_last w (Step (Do i c)) sight = sight ≡ false
+MarksNotices is_last w (Lose i keep) sight = sight ≡ false
 
 -- From the world w each of these events happens as it is marked, one after another, and leaves the world v.
 abbrev pub MarkedLeads : {S P C O : Type 0} → Machine S P C O → (S → P) → (P → Bool) → LosingWorld S P O → List (MarkedEvent C) → LosingWorld S P O → Type 0
 MarkedLeads m last is_last w [] v = w ≡ v
 MarkedLeads {S} {P} {C} {O} m last is_last w (x ∷ xs) v =
-    (u : LosingWorld S P O) × (losing_happens m last w x.0 ≡ Some u) × IsMarked is_last w.world x.0 x.1 × MarkedLeads m last is_last u xs v
+    (u : LosingWorld S P O) × (losing_happens m last w x.0 ≡ Some u) × MarksNotices is_last w.world x.0 x.1 × MarkedLeads m last is_last u xs v
 
 -- As `Joined`: the events are those that the entries tell, each loss with as many packets as are taken later.
 pub record LosingJoined {S P C O : Type 0} (m : Machine (Timed S) (Stamped P) C O) (last : Timed S → Stamped P) (is_last : Stamped P → Bool) (lost : ℕ → Bool)

@@ -7,34 +7,34 @@ use Rattle.std.proofs.lemmas.Str.{encodes-chars, encodes-IsAscii}
 use Rattle.std.proofs.lemmas.Fmt.{IsAscii-decimal}
 use Rattle.std.specs.Str.{encode_utf8_all, chars, IsUtf8}
 use Rattle.std.specs.Char.{encode_utf8}
-use Rattle.pg_text.specs.Writing.{Adds}
+use Rattle.pg_text.specs.Writing.{GrowsBy}
 
 pub encoded_both : (a b : List ℕ) → encode_utf8_all (a ++ b) ≡ encode_utf8_all a ++ encode_utf8_all b
 encoded_both [] b = refl
 encoded_both (c ∷ cs) b = ap (λ t. encode_utf8 c ++ t) (encoded_both cs b) ∙ sym (append_assoc (encode_utf8 c) (encode_utf8_all cs) (encode_utf8_all b))
 
-pub adds_none : (x : List ℕ) → Adds [] x x
+pub adds_none : (x : List ℕ) → GrowsBy [] x x
 adds_none x = record { all = sym (append-nil x) }
 
 -- one text, and then another
-pub adds_both : (a b : List ℕ) {x y z : List ℕ} → Adds a x y → Adds b y z → Adds (a ++ b) x z
+pub adds_both : (a b : List ℕ) {x y z : List ℕ} → GrowsBy a x y → GrowsBy b y z → GrowsBy (a ++ b) x z
 adds_both a b {x} {y} {z} p q = record {
   all = q.all ∙ ap (λ t. t ++ encode_utf8_all b) p.all ∙ append_assoc x (encode_utf8_all a) (encode_utf8_all b) ∙ ap (λ t. x ++ t) (sym (encoded_both a b));
 }
 
 -- a text of which this is known where it was appended
-pub text_added : {E : Type 0} (r : Result (Unit {0}) E) (text old new : List ℕ) → IsUtf8 text → new ≡ (if is_ok r then old ++ text else old) → OnOk r (Adds (chars text) old new)
+pub text_added : {E : Type 0} (r : Result (Unit {0}) E) (text old new : List ℕ) → IsUtf8 text → new ≡ (if is_ok r then old ++ text else old) → OnOk r (GrowsBy (chars text) old new)
 text_added (Ok x) text old new u e = record { all = e ∙ ap (λ t. old ++ t) (sym (encodes-chars text u)) }
 text_added (Err x) text old new u e = tt
 
-pub number_added : {E : Type 0} (r : Result (Unit {0}) E) (n : ℕ) (old new : List ℕ) → n < 2 ^ 64 → OnOk r (new ≡ old ++ decimal n) → OnOk r (Adds (decimal n) old new)
+pub number_added : {E : Type 0} (r : Result (Unit {0}) E) (n : ℕ) (old new : List ℕ) → n < 2 ^ 64 → OnOk r (new ≡ old ++ decimal n) → OnOk r (GrowsBy (decimal n) old new)
 number_added (Ok x) n old new small e = record { all = e ∙ ap (λ t. old ++ t) (sym (encodes-IsAscii (decimal n) (IsAscii-decimal n small))) }
 number_added (Err x) n old new small e = tt
 
-pub adds_same : (a b : List ℕ) {x y : List ℕ} → a ≡ b → Adds a x y → Adds b x y
-adds_same a b {x} {y} e p = subst (λ (t : List ℕ). Adds t x y) e p
+pub adds_same : (a b : List ℕ) {x y : List ℕ} → a ≡ b → GrowsBy a x y → GrowsBy b x y
+adds_same a b {x} {y} e p = subst (λ (t : List ℕ). GrowsBy t x y) e p
 
-pub adds_as : (a b : List ℕ) {x y : List ℕ} → Adds a x y → a ≡ b → Adds b x y
+pub adds_as : (a b : List ℕ) {x y : List ℕ} → GrowsBy a x y → a ≡ b → GrowsBy b x y
 adds_as a b p e = adds_same a b e p
 
 -- one more of them

@@ -4,29 +4,29 @@ use Rattle.std.specs.Prelude.{Option, Some, None}
 use Rattle.std.specs.Str.{chars}
 use Rattle.pg_term.specs.declared.pid.Pid.{Pid}
 use Rattle.pg_text.specs.Reading.{pid_of}
-use Rattle.pg_lines.specs.Forms.{Said, said_as, then_said, with_rest, pids_in}
+use Rattle.pg_lines.specs.Forms.{Worded, said_as, then_said, with_rest, pids_in}
 
 -- these pids, and then those that are said
-abbrev pub with_front : List Pid → Said (List Pid) → Said (List Pid)
+abbrev pub with_front : List Pid → Worded (List Pid) → Worded (List Pid)
 with_front front said = said_as (λ pids. front ++ pids) said
 
 -- what all words say are these pids, and then what the rest of them say
 abbrev pub Goes : List (List ℕ) → List Pid → List (List ℕ) → Type 0
 Goes all front rest = pids_in all ≡ with_front front (pids_in rest)
 
-no_front : (said : Said (List Pid)) → said ≡ with_front [] said
+no_front : (said : Worded (List Pid)) → said ≡ with_front [] said
 no_front None = refl
 no_front (Some x) = refl
 
 pub goes_first : (all : List (List ℕ)) (front : List Pid) → front ≡ [] → Goes all front all
 goes_first all front e = no_front (pids_in all) ∙ ap (λ f. with_front f (pids_in all)) (sym e)
 
-joined : (front : List Pid) (pid : Pid) (said : Said (List Pid)) → with_front front (said_as (λ pids. pid ∷ pids) said) ≡ with_front (front ++ pid ∷ []) said
+joined : (front : List Pid) (pid : Pid) (said : Worded (List Pid)) → with_front front (said_as (λ pids. pid ∷ pids) said) ≡ with_front (front ++ pid ∷ []) said
 joined front pid None = refl
 joined front pid (Some x) = ap (λ (pids : List Pid). Some (pids, x.1)) (sym (append_assoc front (pid ∷ []) x.0))
 
 -- what the first word says
-abbrev led : Option Pid → List (List ℕ) → Said (List Pid)
+abbrev led : Option Pid → List (List ℕ) → Worded (List Pid)
 led read new = then_said (with_rest new read) (λ pid rest. said_as (λ pids. pid ∷ pids) (pids_in new))
 
 pub goes_on : (all old new : List (List ℕ)) (front grown : List Pid) (word : List ℕ) (pid : Pid) → Goes all front old → old ≡ word ∷ new → pid_of (chars word) ≡ Some pid → grown ≡ front ++ pid ∷ [] → Goes all grown new

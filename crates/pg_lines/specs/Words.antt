@@ -6,10 +6,10 @@ use Rattle.pg_lines.specs.declared.words.Stand.TheVariants.{Bare, Quoted, Escape
 use Rattle.pg_lines.specs.declared.words.Words.{Words}
 
 -- where a walk stands behind one more byte: a quote opens and closes, and within quotes a backslash takes the next byte
-abbrev pub after : Stand → ℕ → Stand
-after Bare b = if b == 39 then Quoted else Bare
-after Quoted b = if b == 39 then Bare else if b == 92 then Escaped else Quoted
-after Escaped b = Quoted
+abbrev pub stand_after : Stand → ℕ → Stand
+stand_after Bare b = if b == 39 then Quoted else Bare
+stand_after Quoted b = if b == 39 then Bare else if b == 92 then Escaped else Quoted
+stand_after Escaped b = Quoted
 
 -- a space outside of quotes ends a word
 abbrev pub ends_word : Stand → ℕ → Bool
@@ -20,7 +20,7 @@ ends_word Escaped b = false
 -- how many bytes there are before the end of the first word
 abbrev pub word_len : Stand → List ℕ → ℕ
 word_len stand [] = 0
-word_len stand (b ∷ bs) = if ends_word stand b then 0 else suc (word_len (after stand b) bs)
+word_len stand (b ∷ bs) = if ends_word stand b then 0 else suc (word_len (stand_after stand b) bs)
 
 -- a byte before the first of some words
 abbrev pub onto : ℕ → List (List ℕ) → List (List ℕ)
@@ -28,13 +28,13 @@ onto b [] = (b ∷ []) ∷ []
 onto b (word ∷ words) = (b ∷ word) ∷ words
 
 -- the words of a text
-abbrev pub words_in : Stand → List ℕ → List (List ℕ)
-words_in stand [] = [] ∷ []
-words_in stand (b ∷ bs) = if ends_word stand b then [] ∷ words_in Bare bs else onto b (words_in (after stand b) bs)
+abbrev pub quoted_words : Stand → List ℕ → List (List ℕ)
+quoted_words stand [] = [] ∷ []
+quoted_words stand (b ∷ bs) = if ends_word stand b then [] ∷ quoted_words Bare bs else onto b (quoted_words (stand_after stand b) bs)
 
 abbrev pub words_of_rest : Option (List ℕ) → List (List ℕ)
 words_of_rest None = []
-words_of_rest (Some rest) = words_in Bare rest
+words_of_rest (Some rest) = quoted_words Bare rest
 
 -- the first word was taken, if there is one
 abbrev pub TakesWord : List (List ℕ) → Option (List ℕ) → List (List ℕ) → Type 0

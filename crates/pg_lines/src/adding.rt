@@ -2,7 +2,7 @@
 
 ghost use Rattle.std.specs.Prelude.{◌≡◌, ◌∷◌, [], OnOk, string_bytes, decimal};
 ghost use Rattle.std.specs.Str.{chars};
-ghost use Rattle.pg_text.specs.Writing.{Adds};
+ghost use Rattle.pg_text.specs.Writing.{GrowsBy};
 
 use std::alloc::AllocError;
 
@@ -12,7 +12,7 @@ use std::alloc::AllocError;
 ///
 /// Cost: memory where `out` has no room for it.
 pub fn add_char(out: &mut String, character: char) -> Result<(), AllocError>
-    ensures { OnOk result (Adds (character ∷ []) (string_bytes out.old) (string_bytes out.new)) }
+    ensures { OnOk result (GrowsBy (character ∷ []) (string_bytes out.old) (string_bytes out.new)) }
 {
     out.push(character)
 }
@@ -23,7 +23,7 @@ pub fn add_char(out: &mut String, character: char) -> Result<(), AllocError>
 ///
 /// Cost: memory where `out` has no room for it.
 pub fn add_text(out: &mut String, text: &str) -> Result<(), AllocError>
-    ensures { OnOk result (Adds (chars text.now) (string_bytes out.old) (string_bytes out.new)) }
+    ensures { OnOk result (GrowsBy (chars text.now) (string_bytes out.old) (string_bytes out.new)) }
 {
     out.push_str(text)
 }
@@ -34,7 +34,7 @@ pub fn add_text(out: &mut String, text: &str) -> Result<(), AllocError>
 ///
 /// Cost: memory where `out` has no room for it.
 pub fn add_number(out: &mut String, number: u64) -> Result<(), AllocError>
-    ensures { OnOk result (Adds (decimal number) (string_bytes out.old) (string_bytes out.new)) }
+    ensures { OnOk result (GrowsBy (decimal number) (string_bytes out.old) (string_bytes out.new)) }
 {
     write!(out, "{number}")
 }

@@ -3,7 +3,7 @@
 ghost use Rattle.std.specs.Prelude.{◌≡◌, OnOk, map, string_bytes};
 ghost use Rattle.std.specs.List.{flat_map};
 ghost use Rattle.std.specs.Str.{chars};
-ghost use Rattle.pg_text.specs.Writing.{Adds, more_text, pid_text, term_text, terms_text};
+ghost use Rattle.pg_text.specs.Writing.{GrowsBy, more_text, pid_text, term_text, terms_text};
 ghost use Rattle.pg_lines.specs.Printing.{answer_line, reply_text, error_text, pids_text, names_text};
 ghost use Rattle.pg_lines.specs.Printing.{lock_line, outbox_line, refused_line, refused_text, listed_pids};
 ghost use Rattle.pg_lines.specs.Printing.{listed_names, more_pids, more_names, state_text as lock_state};
@@ -20,7 +20,7 @@ use std::alloc::AllocError;
 ///
 /// Cost: memory where `out` has no room for it.
 pub fn print_answer(out: &mut String, node: &Atom, answer: &Answer) -> Result<(), AllocError>
-    ensures { OnOk result (Adds (answer_line node.now answer.now) (string_bytes out.old) (string_bytes out.new)) }
+    ensures { OnOk result (GrowsBy (answer_line node.now answer.now) (string_bytes out.old) (string_bytes out.new)) }
 {
     write_atom(node, out)?;
     add_char(out, ' ')?;
@@ -37,7 +37,7 @@ pub fn print_answer(out: &mut String, node: &Atom, answer: &Answer) -> Result<()
 ///
 /// Cost: memory where `out` has no room for it.
 pub fn print_reply(out: &mut String, reply: &Reply) -> Result<(), AllocError>
-    ensures { OnOk result (Adds (reply_text reply.now) (string_bytes out.old) (string_bytes out.new)) }
+    ensures { OnOk result (GrowsBy (reply_text reply.now) (string_bytes out.old) (string_bytes out.new)) }
 {
     match reply {
         Reply::Ok => add_text(out, "ok"),
@@ -53,7 +53,7 @@ pub fn print_reply(out: &mut String, reply: &Reply) -> Result<(), AllocError>
 
 /// `refused N`
 fn print_number(out: &mut String, number: u8) -> Result<(), AllocError>
-    ensures { OnOk result (Adds (refused_text number) (string_bytes out.old) (string_bytes out.new)) }
+    ensures { OnOk result (GrowsBy (refused_text number) (string_bytes out.old) (string_bytes out.new)) }
 {
     add_text(out, "refused ")?;
     add_number(out, u64::from(number))?;
@@ -62,7 +62,7 @@ fn print_number(out: &mut String, number: u8) -> Result<(), AllocError>
 
 /// The tuple of an error about a group.
 fn print_error(out: &mut String, head: &str, name: &Term) -> Result<(), AllocError>
-    ensures { OnOk result (Adds (error_text (chars head.now) name.now) (string_bytes out.old) (string_bytes out.new)) }
+    ensures { OnOk result (GrowsBy (error_text (chars head.now) name.now) (string_bytes out.old) (string_bytes out.new)) }
 {
     add_text(out, head)?;
     write_term(name, out)?;
@@ -72,7 +72,7 @@ fn print_error(out: &mut String, head: &str, name: &Term) -> Result<(), AllocErr
 
 /// `[PID,..]`
 fn print_pids(out: &mut String, pids: &[Pid]) -> Result<(), AllocError>
-    ensures { OnOk result (Adds (pids_text pids.now) (string_bytes out.old) (string_bytes out.new)) }
+    ensures { OnOk result (GrowsBy (pids_text pids.now) (string_bytes out.old) (string_bytes out.new)) }
 {
     add_char(out, '[')?;
     print_listed_pids(out, pids)?;
@@ -82,7 +82,7 @@ fn print_pids(out: &mut String, pids: &[Pid]) -> Result<(), AllocError>
 
 /// With commas between them.
 fn print_listed_pids(out: &mut String, pids: &[Pid]) -> Result<(), AllocError>
-    ensures { OnOk result (Adds (listed_pids pids.now) (string_bytes out.old) (string_bytes out.new)) }
+    ensures { OnOk result (GrowsBy (listed_pids pids.now) (string_bytes out.old) (string_bytes out.new)) }
 {
     if let [first, rest @ ..] = pids {
         write_pid(first, out)?;
@@ -93,7 +93,7 @@ fn print_listed_pids(out: &mut String, pids: &[Pid]) -> Result<(), AllocError>
 
 /// Each of them after a comma.
 fn print_more_pids(out: &mut String, pids: &[Pid]) -> Result<(), AllocError>
-    ensures { OnOk result (Adds (more_pids pids.now) (string_bytes out.old) (string_bytes out.new)) }
+    ensures { OnOk result (GrowsBy (more_pids pids.now) (string_bytes out.old) (string_bytes out.new)) }
 {
     for pid in pids {
         add_char(out, ',')?;
@@ -104,7 +104,7 @@ fn print_more_pids(out: &mut String, pids: &[Pid]) -> Result<(), AllocError>
 
 /// `[TERM,..]`
 fn print_names(out: &mut String, names: &[Term]) -> Result<(), AllocError>
-    ensures { OnOk result (Adds (names_text names.now) (string_bytes out.old) (string_bytes out.new)) }
+    ensures { OnOk result (GrowsBy (names_text names.now) (string_bytes out.old) (string_bytes out.new)) }
 {
     add_char(out, '[')?;
     print_listed_names(out, names)?;
@@ -114,7 +114,7 @@ fn print_names(out: &mut String, names: &[Term]) -> Result<(), AllocError>
 
 /// With commas between them.
 fn print_listed_names(out: &mut String, names: &[Term]) -> Result<(), AllocError>
-    ensures { OnOk result (Adds (listed_names names.now) (string_bytes out.old) (string_bytes out.new)) }
+    ensures { OnOk result (GrowsBy (listed_names names.now) (string_bytes out.old) (string_bytes out.new)) }
 {
     if let [first, rest @ ..] = names {
         write_term(first, out)?;
@@ -125,7 +125,7 @@ fn print_listed_names(out: &mut String, names: &[Term]) -> Result<(), AllocError
 
 /// Each of them after a comma.
 fn print_more_names(out: &mut String, names: &[Term]) -> Result<(), AllocError>
-    ensures { OnOk result (Adds (more_names names.now) (string_bytes out.old) (string_bytes out.new)) }
+    ensures { OnOk result (GrowsBy (more_names names.now) (string_bytes out.old) (string_bytes out.new)) }
 {
     for name in names {
         add_char(out, ',')?;
@@ -145,7 +145,7 @@ pub fn print_lock(
     group: &Term,
     is_free: bool,
 ) -> Result<(), AllocError>
-    ensures { OnOk result (Adds (lock_line node.now group.now is_free) (string_bytes out.old) (string_bytes out.new)) }
+    ensures { OnOk result (GrowsBy (lock_line node.now group.now is_free) (string_bytes out.old) (string_bytes out.new)) }
 {
     add_text(out, "lock ")?;
     write_atom(node, out)?;
@@ -168,7 +168,7 @@ fn state_text(is_free: bool) -> &'static str
 ///
 /// Cost: memory where `out` has no room for it.
 pub fn print_outbox(out: &mut String, from: &Atom, to: &Atom, len: usize) -> Result<(), AllocError>
-    ensures { OnOk result (Adds (outbox_line from.now to.now len) (string_bytes out.old) (string_bytes out.new)) }
+    ensures { OnOk result (GrowsBy (outbox_line from.now to.now len) (string_bytes out.old) (string_bytes out.new)) }
 {
     add_text(out, "outbox ")?;
     write_atom(from, out)?;
@@ -186,7 +186,7 @@ pub fn print_outbox(out: &mut String, from: &Atom, to: &Atom, len: usize) -> Res
 ///
 /// Cost: memory where `out` has no room for it.
 pub fn print_refused(out: &mut String, line: usize, number: u8) -> Result<(), AllocError>
-    ensures { OnOk result (Adds (refused_line line number) (string_bytes out.old) (string_bytes out.new)) }
+    ensures { OnOk result (GrowsBy (refused_line line number) (string_bytes out.old) (string_bytes out.new)) }
 {
     add_text(out, "line ")?;
     add_number(out, line as u64)?;

@@ -2,7 +2,7 @@
 
 ghost use Rattle.std.specs.Prelude.{◌≡◌, OnOk, length, replicate, string_bytes};
 ghost use Rattle.std.specs.Str.{chars};
-ghost use Rattle.pg_text.specs.Writing.{Adds};
+ghost use Rattle.pg_text.specs.Writing.{GrowsBy};
 ghost use Rattle.pg_lines.specs.Rows.{left_cell, right_cell, row_line};
 
 use crate::adding::{add_char, add_text};
@@ -36,7 +36,7 @@ pub struct Row {
 ///
 /// Cost: memory where `out` has no room for it.
 pub fn print_row(out: &mut String, widths: Widths, row: &Row) -> Result<(), AllocError>
-    ensures { OnOk result (Adds (row_line widths row.now) (string_bytes out.old) (string_bytes out.new)) }
+    ensures { OnOk result (GrowsBy (row_line widths row.now) (string_bytes out.old) (string_bytes out.new)) }
 {
     add_text(out, "% ")?;
     add_right(out, row.line.as_str(), widths.line)?;
@@ -51,7 +51,7 @@ pub fn print_row(out: &mut String, widths: Widths, row: &Row) -> Result<(), Allo
 
 /// Appends a text, spaces up to so many characters, and two more.
 fn add_left(out: &mut String, text: &str, width: usize) -> Result<(), AllocError>
-    ensures { OnOk result (Adds (left_cell width (chars text.now)) (string_bytes out.old) (string_bytes out.new)) }
+    ensures { OnOk result (GrowsBy (left_cell width (chars text.now)) (string_bytes out.old) (string_bytes out.new)) }
 {
     add_text(out, text)?;
     add_spaces(out, width.saturating_sub(char_count(text)))?;
@@ -61,7 +61,7 @@ fn add_left(out: &mut String, text: &str, width: usize) -> Result<(), AllocError
 
 /// Appends spaces up to so many characters, a text, and two spaces more.
 fn add_right(out: &mut String, text: &str, width: usize) -> Result<(), AllocError>
-    ensures { OnOk result (Adds (right_cell width (chars text.now)) (string_bytes out.old) (string_bytes out.new)) }
+    ensures { OnOk result (GrowsBy (right_cell width (chars text.now)) (string_bytes out.old) (string_bytes out.new)) }
 {
     add_spaces(out, width.saturating_sub(char_count(text)))?;
     add_text(out, text)?;
@@ -78,7 +78,7 @@ fn char_count(text: &str) -> usize
 
 /// Appends so many spaces.
 fn add_spaces(out: &mut String, count: usize) -> Result<(), AllocError>
-    ensures { OnOk result (Adds (replicate count 32) (string_bytes out.old) (string_bytes out.new)) }
+    ensures { OnOk result (GrowsBy (replicate count 32) (string_bytes out.old) (string_bytes out.new)) }
 {
     for _ in 0..count {
         add_char(out, ' ')?;

@@ -2,7 +2,7 @@
 
 ghost use Rattle.std.specs.Prelude.{◌≡◌, ◌↔◌, ◌≤◌, ◌<◌, ◌∷◌, [], IsTrue, length, option_map, slice_index};
 ghost use Rattle.pg_lines.specs.declared.words.Stand.TheVariants.{Bare, Quoted};
-ghost use Rattle.pg_lines.specs.Words.{after, ends_word, word_len, words_in, words_left, words_of_rest, TakesWord};
+ghost use Rattle.pg_lines.specs.Words.{stand_after, ends_word, word_len, quoted_words, words_left, words_of_rest, TakesWord};
 
 /// Where a walk over a line is.
 #[derive(Clone, Copy)]
@@ -17,7 +17,7 @@ pub(crate) enum Stand {
 
 /// Where a walk is after one more byte.
 fn after(stand: Stand, byte: u8) -> Stand
-    ensures { result ≡ after stand byte }
+    ensures { result ≡ stand_after stand byte }
 {
     match stand {
         Stand::Bare => {
@@ -33,7 +33,7 @@ fn after(stand: Stand, byte: u8) -> Stand
 }
 
 fn after_quoted(byte: u8) -> Stand
-    ensures { result ≡ after Quoted byte }
+    ensures { result ≡ stand_after Quoted byte }
 {
     if byte == b'\'' {
         Stand::Bare
@@ -72,7 +72,7 @@ fn word_len(line: &[u8]) -> usize
 
 /// The first word of a text, and what follows the space after it, where there is one.
 fn first_word(text: &str) -> (&str, Option<&str>)
-    ensures { words_in Bare text.now ≡ result.0.now ∷ words_of_rest (option_map (λ rest. rest.now) result.1) }
+    ensures { quoted_words Bare text.now ≡ result.0.now ∷ words_of_rest (option_map (λ rest. rest.now) result.1) }
 {
     let len = word_len(text.as_bytes());
     if len == text.len() {
@@ -91,7 +91,7 @@ pub(crate) struct Words<'a> {
 impl<'a> Words<'a> {
     /// All words of a line.
     pub(crate) fn new(line: &'a str) -> Words<'a>
-        ensures { words_left result ≡ words_in Bare line.now }
+        ensures { words_left result ≡ quoted_words Bare line.now }
     {
         Words { rest: Some(line) }
     }

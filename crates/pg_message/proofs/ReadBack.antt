@@ -26,7 +26,7 @@ use Rattle.pg_message.specs.Name.{is_name}
 use Rattle.pg_message.specs.Parts.{elements_of, items_of, is_word, atom_of, reference_of, pid_of}
 use Rattle.pg_message.specs.Reading.{Groups, request_on, request_in, membership_of, request_of}
 use Rattle.pg_message.specs.Reading.{said_of, all_of, group_in, group_of, is_named_once, named_once}
-use Rattle.pg_message.specs.Reading.{groups_of, freed, exchanged, cast_in, cast_of, referred}
+use Rattle.pg_message.specs.Reading.{groups_of, freed, read_exchange, cast_in, cast_of, referred}
 use Rattle.pg_message.specs.Reading.{message_in, message_of, stamp_of, stamped, packet_in, packet_of}
 use Rattle.pg_message.specs.Writing.{pair, triple, request_term, said_term, group_term}
 use Rattle.pg_message.specs.Writing.{message_term, term_of_packet, is_sayable, sendable}
@@ -154,10 +154,10 @@ refers_not w said =
     ∙ (λ i. cond (word_is w (codes "cast") i) (cast_of said) (cond (word_is w (codes "down") i) (option_map Down (pid_of said)) None))
 
 casts : (w : List ℕ) (a b : Term) → cast_of (triple (Atom w) a b)
-    ≡ cond (text_is w (codes "del_lock")) (freed a b) (cond (text_is w (codes "exchange")) (exchanged a b) None)
+    ≡ cond (text_is w (codes "del_lock")) (freed a b) (cond (text_is w (codes "exchange")) (read_exchange a b) None)
 casts w a b =
     ap (option_and_then cast_in) (elements_is (Atom w ∷ a ∷ b ∷ []))
-    ∙ (λ i. cond (word_is w (codes "del_lock") i) (freed a b) (cond (word_is w (codes "exchange") i) (exchanged a b) None))
+    ∙ (λ i. cond (word_is w (codes "del_lock") i) (freed a b) (cond (word_is w (codes "exchange") i) (read_exchange a b) None))
 
 message_back : (m : Message) → message_of (message_term m) ≡ cond (is_sayable m) (Some m) None
 unfolding encode

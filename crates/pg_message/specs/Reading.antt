@@ -100,13 +100,13 @@ abbrev pub freed : Term → Term → Option Message
 freed name reference = if is_name name then option_map (DelLock name) (reference_of reference) else None
 
 -- {exchange, Node, Groups}
-abbrev pub exchanged : Term → Term → Option Message
-exchanged node groups = option_and_then (λ node. option_map (Exchange node) (groups_of groups)) (atom_of node)
+abbrev pub read_exchange : Term → Term → Option Message
+read_exchange node groups = option_and_then (λ node. option_map (Exchange node) (groups_of groups)) (atom_of node)
 
 abbrev pub cast_in : List Term → Option Message
 cast_in (word ∷ first ∷ second ∷ []) =
     if is_word word (codes "del_lock") then freed first second
-    else if is_word word (codes "exchange") then exchanged first second
+    else if is_word word (codes "exchange") then read_exchange first second
     else None
 cast_in _ = None
 

@@ -15,7 +15,7 @@ use Rattle.pg_writer.specs.declared.size.TheConstants.{MAX_SMALL_LEN}
 use Rattle.pg_step.specs.Nodes.{Node}
 use Rattle.pg_node.specs.declared.node.wire.Wire.{Wire}
 use Rattle.pg_node_state.specs.Frames.{frame_of, frames_to, IsSmallFrame, AreSmallFrames}
-use Rattle.pg_node_state.specs.Sendable.{FitLinks, IsSendable, Ascends, AreAlike}
+use Rattle.pg_node_state.specs.Sendable.{FitLinks, IsSendable, Ascends, AreOnePacket}
 use Rattle.pg_node.specs.Links.{Link, link_of, idle_link, part_in, links_in}
 use Rattle.pg_node.specs.Links.{at_link, room_in, with_more, HasFrameRoom, HaveFrameRoom, IsFrame, AreOneFrame}
 
@@ -185,10 +185,10 @@ frames_alike : (frame : List ℕ) (packet : Packet) (others : List (ℕ × Packe
 frames_alike frame packet [] is small all = tt
 frames_alike frame packet (x ∷ others) is small all = (record { is = is ∙ ap frame_of (sym all.0); small = subst IsSmallFrame (sym all.0) small }, frames_alike frame packet others is small all.1)
 
-pub one_frame : (frame : List ℕ) (first : ℕ × Packet) (sends others : List (ℕ × Packet)) → sends ≡ first ∷ others → frame ≡ frame_of first.1 → IsSmallFrame first.1 → AreAlike sends → AreOneFrame frame sends
+pub one_frame : (frame : List ℕ) (first : ℕ × Packet) (sends others : List (ℕ × Packet)) → sends ≡ first ∷ others → frame ≡ frame_of first.1 → IsSmallFrame first.1 → AreOnePacket sends → AreOneFrame frame sends
 one_frame frame first sends others e is small alike = subst (AreOneFrame frame) (sym e) (record {
   short = subst (λ (f : List ℕ). length f ≤ 4 + MAX_SMALL_LEN) (sym is) small.small;
-  each = (record { is = is; small = small }, frames_alike frame first.1 others is small (subst AreAlike e alike));
+  each = (record { is = is; small = small }, frames_alike frame first.1 others is small (subst AreOnePacket e alike));
 })
 
 pub first_of : (sends : List (ℕ × Packet)) (first : ℕ × Packet) → 0 < length sends → first ≡ get_or sends 0 first → sends ≡ first ∷ drop 1 sends

@@ -52,13 +52,13 @@ passed link = record link { unread = after_front link.unread }
 abbrev pub closed : Link → Link
 closed link = record link { outbox = [] }
 
-abbrev pub is_whole : Result (Option (List ℕ)) frame.TooLong → Bool
-is_whole (Ok (Some body)) = true
-is_whole front = false
+abbrev pub has_frame : Result (Option (List ℕ)) frame.TooLong → Bool
+has_frame (Ok (Some body)) = true
+has_frame front = false
 
 -- nothing is left to be taken
 abbrev pub is_drained : Link → Bool
-is_drained link = link.damaged || not (is_whole (front_of link.unread))
+is_drained link = link.damaged || not (has_frame (front_of link.unread))
 
 abbrev pub is_none : Result (Option (List ℕ)) frame.TooLong → Bool
 is_none (Ok None) = true

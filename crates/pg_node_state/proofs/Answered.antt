@@ -18,7 +18,7 @@ use Rattle.pg_step.specs.State.Stage.{Closed, Waiting, Asking, Changing}
 use Rattle.pg_opens.specs.Readings.{stage_seen, is_closed}
 use Rattle.pg_node_state.specs.declared.state.port.Port.{Port}
 use Rattle.pg_node_state.specs.Issued.{counted_at, HasRoomAt}
-use Rattle.pg_node_state.specs.Ports.{counts_in, answers_in, CameIn, AreGiven}
+use Rattle.pg_node_state.specs.Ports.{port_commands, answers_in, CameIn, AreGiven}
 use Rattle.pg_node_state.proofs.Given.{given_more}
 
 one_port : (p q : Port) → Some p ≡ Some q → p ≡ q
@@ -26,7 +26,7 @@ one_port p q e = cc
 
 -- ---- what is read at a place
 
-pub count_here : (ports : List Port) (k : ℕ) (p : Port) → slice_get ports k ≡ Some p → counts_in ports k ≡ p.count
+pub count_here : (ports : List Port) (k : ℕ) (p : Port) → slice_get ports k ≡ Some p → port_commands ports k ≡ p.count
 count_here [] k p here = absurd (cc)
 count_here (q ∷ ports) zero p here = ap (λ (r : Port). r.count) (one_port q p here)
 count_here (q ∷ ports) (suc k) p here = count_here ports k p here
@@ -38,16 +38,16 @@ answers_here (q ∷ ports) (suc k) p here = answers_here ports k p here
 
 -- ---- one port changes
 
-counts_each : (ports : List Port) (k : ℕ) (p : Port) → k < length ports → (port : ℕ) → counts_in (slice_set ports k p) port ≡ cond (nat_eq k port) p.count (counts_in ports port)
+counts_each : (ports : List Port) (k : ℕ) (p : Port) → k < length ports → (port : ℕ) → port_commands (slice_set ports k p) port ≡ cond (nat_eq k port) p.count (port_commands ports port)
 counts_each [] k p within port = absurd (omega arith)
 counts_each (q ∷ ports) zero p within zero = refl
-counts_each (q ∷ ports) zero p within (suc n) = ap (λ b. cond b p.count (counts_in ports n)) (sym (eqb-zero-suc n))
-counts_each (q ∷ ports) (suc k) p within zero = ap (λ b. cond b p.count (counts_in (q ∷ ports) zero)) (sym (eqb-suc-zero k))
-counts_each (q ∷ ports) (suc k) p within (suc n) = counts_each ports k p (omega arith) n ∙ ap (λ b. cond b p.count (counts_in ports n)) (sym (eqb-suc-suc k n))
+counts_each (q ∷ ports) zero p within (suc n) = ap (λ b. cond b p.count (port_commands ports n)) (sym (eqb-zero-suc n))
+counts_each (q ∷ ports) (suc k) p within zero = ap (λ b. cond b p.count (port_commands (q ∷ ports) zero)) (sym (eqb-suc-zero k))
+counts_each (q ∷ ports) (suc k) p within (suc n) = counts_each ports k p (omega arith) n ∙ ap (λ b. cond b p.count (port_commands ports n)) (sym (eqb-suc-suc k n))
 
-pub counts_set : (ports : List Port) (k : ℕ) (p : Port) (n : ℕ) → k < length ports → p.count ≡ n → counts_in (slice_set ports k p) ≡ upd nat_eq (counts_in ports) k n
+pub counts_set : (ports : List Port) (k : ℕ) (p : Port) (n : ℕ) → k < length ports → p.count ≡ n → port_commands (slice_set ports k p) ≡ upd nat_eq (port_commands ports) k n
 unfolding upd
-counts_set ports k p n within is = fun_ext (λ port. counts_each ports k p within port ∙ ap (λ c. cond (nat_eq k port) c (counts_in ports port)) is)
+counts_set ports k p n within is = fun_ext (λ port. counts_each ports k p within port ∙ ap (λ c. cond (nat_eq k port) c (port_commands ports port)) is)
 
 answers_each : (ports : List Port) (k : ℕ) (p : Port) → k < length ports → (port : ℕ) → answers_in (slice_set ports k p) port ≡ cond (nat_eq k port) p.answers.items (answers_in ports port)
 answers_each [] k p within port = absurd (omega arith)
@@ -75,22 +75,22 @@ module _ (ports : List Port) (port k : ℕ) (p q : Port) (same : k ≡ port) (wi
   pub there : slice_get ports port ≡ Some p
   there = at_place ports port p within (here ∙ ap (λ i. get_or ports i p) same)
 
-  pub count_there : counts_in ports port ≡ p.count
+  pub count_there : port_commands ports port ≡ p.count
   count_there = count_here ports port p there
 
   pub answers_there : answers_in ports port ≡ p.answers.items
   answers_there = answers_here ports port p there
 
-  pub one_counted : q.count ≡ p.count + 1 → counts_in (slice_set ports k q) ≡ counted_at port (counts_in ports)
-  one_counted more = ap (λ i. counts_in (slice_set ports i q)) same ∙ counts_set ports port q (counts_in ports port + 1) within (more ∙ ap (λ n. n + 1) (sym count_there))
+  pub one_counted : q.count ≡ p.count + 1 → port_commands (slice_set ports k q) ≡ counted_at port (port_commands ports)
+  one_counted more = ap (λ i. port_commands (slice_set ports i q)) same ∙ counts_set ports port q (port_commands ports port + 1) within (more ∙ ap (λ n. n + 1) (sym count_there))
 
-  pub none_counted : q.count ≡ p.count → counts_in (slice_set ports k q) ≡ counts_in ports
-  none_counted still = ap (λ i. counts_in (slice_set ports i q)) same ∙ (counts_set ports port q (counts_in ports port) within (still ∙ sym count_there)
-      ∙ upd_same nat_eq (counts_in ports) port (eqb-true port) (counts_in ports port) refl)
+  pub none_counted : q.count ≡ p.count → port_commands (slice_set ports k q) ≡ port_commands ports
+  none_counted still = ap (λ i. port_commands (slice_set ports i q)) same ∙ (counts_set ports port q (port_commands ports port) within (still ∙ sym count_there)
+      ∙ upd_same nat_eq (port_commands ports) port (eqb-true port) (port_commands ports port) refl)
 
   -- it counted one more before
-  pub one_less : (counts : ℕ → ℕ) → counts_in ports ≡ counted_at port counts → q.count ≡ p.count - 1 → counts_in (slice_set ports k q) ≡ counts
-  one_less counts counted less = ap (λ i. counts_in (slice_set ports i q)) same ∙ (counts_set ports port q (counts port) within (less ∙ was)
+  pub one_less : (counts : ℕ → ℕ) → port_commands ports ≡ counted_at port counts → q.count ≡ p.count - 1 → port_commands (slice_set ports k q) ≡ counts
+  one_less counts counted less = ap (λ i. port_commands (slice_set ports i q)) same ∙ (counts_set ports port q (counts port) within (less ∙ was)
       ∙ ((λ i. upd nat_eq (counted i) port (counts port)) ∙ (upd_twice nat_eq counts port (counts port + 1) (counts port) ∙ upd_same nat_eq counts port (eqb-true port) (counts port) refl)))
     where
       one_off : (n m : ℕ) → n ≡ m + 1 → n - 1 ≡ m
@@ -142,34 +142,34 @@ unfolding upd
 count_itself counts k = subst (λ b. counts k + 1 ≤ cond b (counts k + 1) (counts k)) (sym (eq-eqb k k refl)) (omega arith)
 
 -- the ports after an event, of which one counted a command more
-module _ (old new : List Port) (k : ℕ) (same : length new ≡ length old) (counted : counts_in new ≡ counted_at k (counts_in old)) where
-  pub counts_within : (n m : ℕ) → ((port : ℕ) → counts_in old port ≤ n) → n < m → (port : ℕ) → counts_in new port ≤ m
-  counts_within n m each later port = subst (λ (f : ℕ → ℕ). f port ≤ m) (sym counted) (count_within (counts_in old) k port n m each later)
+module _ (old new : List Port) (k : ℕ) (same : length new ≡ length old) (counted : port_commands new ≡ counted_at k (port_commands old)) where
+  pub counts_within : (n m : ℕ) → ((port : ℕ) → port_commands old port ≤ n) → n < m → (port : ℕ) → port_commands new port ≤ m
+  counts_within n m each later port = subst (λ (f : ℕ → ℕ). f port ≤ m) (sym counted) (count_within (port_commands old) k port n m each later)
 
-  came_later : (op : OpId) (update : Option Update) → CameIn (length old) (counts_in old) op update → CameIn (length new) (counts_in new) op update
+  came_later : (op : OpId) (update : Option Update) → CameIn (length old) (port_commands old) op update → CameIn (length new) (port_commands new) op update
   came_later op update came = record {
     port = subst (λ n. op.port < n) (sym same) came.port;
-    number = subst (λ (f : ℕ → ℕ). op.number ≤ f op.port) (sym counted) (omega (arith, came.number, count_more (counts_in old) k op.port));
+    number = subst (λ (f : ℕ → ℕ). op.number ≤ f op.port) (sym counted) (omega (arith, came.number, count_more (port_commands old) k op.port));
     named = came.named;
   }
 
-  pub given_later : {uses : ℕ → Use} {stages : OpId → Stage} → AreGiven (CameIn (length old) (counts_in old)) uses stages → AreGiven (CameIn (length new) (counts_in new)) uses stages
+  pub given_later : {uses : ℕ → Use} {stages : OpId → Stage} → AreGiven (CameIn (length old) (port_commands old)) uses stages → AreGiven (CameIn (length new) (port_commands new)) uses stages
   given_later given = given_more came_later given
 
   -- the command that was counted came in, with an update that has a name
-  pub next_came : (update : Update) → is_name (name_of update) ≡ true → k < length old → CameIn (length new) (counts_in new) (record { port = k; number = counts_in old k + 1 }) (Some update)
+  pub next_came : (update : Update) → is_name (name_of update) ≡ true → k < length old → CameIn (length new) (port_commands new) (record { port = k; number = port_commands old k + 1 }) (Some update)
   next_came update named within = record {
     port = subst (λ n. k < n) (sym same) within;
-    number = subst (λ (f : ℕ → ℕ). counts_in old k + 1 ≤ f k) (sym counted) (count_itself (counts_in old) k);
+    number = subst (λ (f : ℕ → ℕ). port_commands old k + 1 ≤ f k) (sym counted) (count_itself (port_commands old) k);
     named = named;
   }
 
 -- the ports after an event that counts no command
-module _ (old new : List Port) (same : length new ≡ length old) (counts : counts_in new ≡ counts_in old) where
-  pub given_still : {uses : ℕ → Use} {stages : OpId → Stage} → AreGiven (CameIn (length old) (counts_in old)) uses stages → AreGiven (CameIn (length new) (counts_in new)) uses stages
-  given_still {uses} {stages} given = subst (λ n. AreGiven (CameIn n (counts_in new)) uses stages) (sym same) (subst (λ (f : ℕ → ℕ). AreGiven (CameIn (length old) f) uses stages) (sym counts) given)
+module _ (old new : List Port) (same : length new ≡ length old) (counts : port_commands new ≡ port_commands old) where
+  pub given_still : {uses : ℕ → Use} {stages : OpId → Stage} → AreGiven (CameIn (length old) (port_commands old)) uses stages → AreGiven (CameIn (length new) (port_commands new)) uses stages
+  given_still {uses} {stages} given = subst (λ n. AreGiven (CameIn n (port_commands new)) uses stages) (sym same) (subst (λ (f : ℕ → ℕ). AreGiven (CameIn (length old) f) uses stages) (sym counts) given)
 
-  pub counts_still : (n : ℕ) → ((port : ℕ) → counts_in old port ≤ n) → (port : ℕ) → counts_in new port ≤ n
+  pub counts_still : (n : ℕ) → ((port : ℕ) → port_commands old port ≤ n) → (port : ℕ) → port_commands new port ≤ n
   counts_still n each port = subst (λ (f : ℕ → ℕ). f port ≤ n) (sym counts) (each port)
 
 -- the next command of a port is not open

@@ -16,17 +16,17 @@ use Rattle.pg_step.specs.Nodes.{Node}
 use Rattle.pg_step.specs.State.{Use, Stage}
 use Rattle.pg_node_state.specs.declared.state.NodeState.{NodeState}
 use Rattle.pg_node_state.specs.declared.state.port.Port.{Port}
-use Rattle.pg_node_state.specs.Ports.{AreGiven, CameIn, counts_in, merged_in}
+use Rattle.pg_node_state.specs.Ports.{AreGiven, CameIn, port_commands, merged_in}
 use Rattle.pg_node_state.specs.Same.{AreSamePorts}
 
 module _ {T : Type 0} {g : Ghosts T} (one : NodeState T g) (opens : Opens) (table : T) (formation : List Bool) (processes : Processes) (ports : List Port)
     (same : AreSame one.opens opens) (contents : g.contents table ≡ g.contents one.table) (marks : formation ≡ one.formation) (node : node_of processes ≡ node_of one.processes) (alike : AreSamePorts one.ports.items ports) where
-  given_too : AreGiven (CameIn (length ports) (counts_in ports)) (uses_of opens) (stages_of opens)
+  given_too : AreGiven (CameIn (length ports) (port_commands ports)) (uses_of opens) (stages_of opens)
   given_too =
-      subst (λ (st : OpId → Stage). AreGiven (CameIn (length ports) (counts_in ports)) (uses_of opens) st) same.stages
-      (subst (λ (us : ℕ → Use). AreGiven (CameIn (length ports) (counts_in ports)) us (stages_of one.opens)) same.uses
+      subst (λ (st : OpId → Stage). AreGiven (CameIn (length ports) (port_commands ports)) (uses_of opens) st) same.stages
+      (subst (λ (us : ℕ → Use). AreGiven (CameIn (length ports) (port_commands ports)) us (stages_of one.opens)) same.uses
       (subst (λ (cs : ℕ → ℕ). AreGiven (CameIn (length ports) cs) (uses_of one.opens) (stages_of one.opens)) alike.counts
-      (subst (λ n. AreGiven (CameIn n (counts_in one.ports.items)) (uses_of one.opens) (stages_of one.opens)) alike.count one.given)))
+      (subst (λ n. AreGiven (CameIn n (port_commands one.ports.items)) (uses_of one.opens) (stages_of one.opens)) alike.count one.given)))
 
   pub kept_too : record {
     peers : length formation + 1 ≡ length (names_of opens);
@@ -34,8 +34,8 @@ module _ {T : Type 0} {g : Ghosts T} (one : NodeState T g) (opens : Opens) (tabl
     forgotten : (q : Node) → lost_of opens q ≡ true → merged_in (names_of opens) formation q ≡ true;
     within : one.clock ≤ MAX_STAMP;
     made : references_of opens ≤ 2 * one.clock;
-    counted : (port : ℕ) → counts_in ports port ≤ one.clock;
-    given : AreGiven (CameIn (length ports) (counts_in ports)) (uses_of opens) (stages_of opens);
+    counted : (port : ℕ) → port_commands ports port ≤ one.clock;
+    given : AreGiven (CameIn (length ports) (port_commands ports)) (uses_of opens) (stages_of opens);
     few : (name : Term) (pid : Pid) → count_in (g.contents table name) pid ≤ 2 ^ 32 + one.clock;
   }
   kept_too = record {

@@ -1,10 +1,10 @@
 -- Ports at which no command came in.
 use Rattle.std.proofs.Common.{◌≡◌, ℕ, zero, suc, List, [], ◌∷◌, ◌++◌, ◌+◌, ◌∙◌, length, refl, ap, arith}
 use Rattle.pg_node_state.specs.declared.state.port.Port.{Port}
-use Rattle.pg_node_state.specs.Ports.{counts_in, answers_in}
+use Rattle.pg_node_state.specs.Ports.{port_commands, answers_in}
 
 pub record AreIdle (ports : List Port) : Type 0 where
-  pub counts : (port : ℕ) → counts_in ports port ≡ 0
+  pub counts : (port : ℕ) → port_commands ports port ≡ 0
   pub answers : (port : ℕ) → answers_in ports port ≡ []
 
 pub one_longer : (ports : List Port) (p : Port) → length (ports ++ p ∷ []) ≡ length ports + 1
@@ -18,7 +18,7 @@ one_longer (q ∷ ports) p = ap suc (one_longer ports p) ∙ later (length ports
 pub one_more : (ports : List Port) (p : Port) → p.count ≡ 0 → p.answers.items ≡ [] → AreIdle ports → AreIdle (ports ++ p ∷ [])
 one_more ports p none nothing idle = record { counts = counts ports idle.counts; answers = answers ports idle.answers }
   where
-    counts : (ports : List Port) → ((port : ℕ) → counts_in ports port ≡ 0) → (port : ℕ) → counts_in (ports ++ p ∷ []) port ≡ 0
+    counts : (ports : List Port) → ((port : ℕ) → port_commands ports port ≡ 0) → (port : ℕ) → port_commands (ports ++ p ∷ []) port ≡ 0
     counts [] each zero = none
     counts [] each (suc n) = refl
     counts (q ∷ ports) each zero = each zero

@@ -5,13 +5,13 @@ use Rattle.std.proofs.Math.Path.{fun_ext}
 use Rattle.std.specs.List.{AllZip}
 use Rattle.pg_step.specs.declared.answer.Answer.{Answer}
 use Rattle.pg_node_state.specs.declared.state.port.Port.{Port}
-use Rattle.pg_node_state.specs.Ports.{counts_in, answers_in}
+use Rattle.pg_node_state.specs.Ports.{port_commands, answers_in}
 use Rattle.pg_node_state.specs.Same.{AreSamePorts, IsSamePort}
 use Rattle.pg_node_state.proofs.Answered.{count_there, answers_there}
 
 -- the first ports of both are the same
 pub record AgreeBelow (ports others : List Port) (n : ℕ) : Type 0 where
-  pub counts : (k : ℕ) → k < n → counts_in ports k ≡ counts_in others k
+  pub counts : (k : ℕ) → k < n → port_commands ports k ≡ port_commands others k
   pub answers : (k : ℕ) → k < n → answers_in ports k ≡ answers_in others k
 
 pub none_below : (ports others : List Port) → AgreeBelow ports others 0
@@ -31,17 +31,17 @@ module _ (ports others : List Port) (k : ℕ) (p q : Port) (same : length ports 
 
   pub more_below : (p.count ≡ q.count) × (p.answers.items ≡ q.answers.items) → AgreeBelow ports others k → AgreeBelow ports others (k + 1)
   more_below h below = record {
-    counts = one_more (counts_in ports) (counts_in others) k below.counts (count_there ports k k p p refl within here ∙ (h.0 ∙ sym (count_there others k k q q refl within_others there)));
+    counts = one_more (port_commands ports) (port_commands others) k below.counts (count_there ports k k p p refl within here ∙ (h.0 ∙ sym (count_there others k k q q refl within_others there)));
     answers = one_more (answers_in ports) (answers_in others) k below.answers (answers_there ports k k p p refl within here ∙ (h.1 ∙ sym (answers_there others k k q q refl within_others there)));
   }
 
-  pub one_same : (counts_in ports ≡ counts_in others) × (answers_in ports ≡ answers_in others) → (p.count ≡ q.count) × (p.answers.items ≡ q.answers.items)
+  pub one_same : (port_commands ports ≡ port_commands others) × (answers_in ports ≡ answers_in others) → (p.count ≡ q.count) × (p.answers.items ≡ q.answers.items)
   one_same h = (
     sym (count_there ports k k p p refl within here) ∙ (ap (λ (f : ℕ → ℕ). f k) h.0 ∙ count_there others k k q q refl within_others there),
     sym (answers_there ports k k p p refl within here) ∙ (ap (λ (f : ℕ → List Answer). f k) h.1 ∙ answers_there others k k q q refl within_others there),
   )
 
-each_count : (ports others : List Port) (n : ℕ) → length ports ≡ length others → length ports ≤ n → ((k : ℕ) → k < n → counts_in ports k ≡ counts_in others k) → (k : ℕ) → counts_in ports k ≡ counts_in others k
+each_count : (ports others : List Port) (n : ℕ) → length ports ≡ length others → length ports ≤ n → ((k : ℕ) → k < n → port_commands ports k ≡ port_commands others k) → (k : ℕ) → port_commands ports k ≡ port_commands others k
 each_count [] [] n same l below k = refl
 each_count [] (q ∷ others) n same l below k = absurd (omega (arith, same))
 each_count (p ∷ ports) [] n same l below k = absurd (omega (arith, same))
@@ -56,7 +56,7 @@ each_answers (p ∷ ports) (q ∷ others) n same l below zero = below zero (omeg
 each_answers (p ∷ ports) (q ∷ others) n same l below (suc k) = each_answers ports others (length ports) (omega (arith, same)) (omega arith) (λ j lj. below (suc j) (omega (arith, l, lj))) k
 
 pub all_below : (ports others : List Port) (n : ℕ) → length ports ≡ length others → length ports ≤ n → AgreeBelow ports others n
-    → (counts_in ports ≡ counts_in others) × (answers_in ports ≡ answers_in others)
+    → (port_commands ports ≡ port_commands others) × (answers_in ports ≡ answers_in others)
 all_below ports others n same l below = (fun_ext (each_count ports others n same l below.counts), fun_ext (each_answers ports others n same l below.answers))
 
 -- the same ports by other names
@@ -71,7 +71,7 @@ same_lengths [] (q ∷ qs) z = absurd z
 same_lengths (p ∷ ps) [] z = absurd z
 same_lengths (p ∷ ps) (q ∷ qs) z = ap suc (same_lengths ps qs z.1)
 
-same_counts : (ps qs : List Port) → AllZip IsSamePort ps qs → (k : ℕ) → counts_in ps k ≡ counts_in qs k
+same_counts : (ps qs : List Port) → AllZip IsSamePort ps qs → (k : ℕ) → port_commands ps k ≡ port_commands qs k
 same_counts [] [] z k = refl
 same_counts [] (q ∷ qs) z k = absurd z
 same_counts (p ∷ ps) [] z k = absurd z

@@ -10,7 +10,7 @@ use Rattle.pg_step.specs.Nodes.{Node}
 use Rattle.pg_node_state.specs.declared.state.orders.Order.{Order}
 use Rattle.pg_node_state.specs.declared.state.orders.Order.TheVariants.{Lock, Free, Change, End}
 use Rattle.pg_node_state.specs.Orders.{message_of}
-use Rattle.pg_node_state.specs.Sendable.{IsSendable, Ascends, AreAlike, AreSendable}
+use Rattle.pg_node_state.specs.Sendable.{IsSendable, Ascends, AreOnePacket, AreSendable}
 use Rattle.pg_node_state.proofs.Sent.{sent_below, and_nothing}
 
 -- no order is an exchange
@@ -62,7 +62,7 @@ like_first : (first packet : Packet) (others : List (ℕ × Packet)) → first �
 like_first first packet [] e all = tt
 like_first first packet (x ∷ others) e all = (all.0 ∙ sym e, like_first first packet others e all.1)
 
-all_alike : (packet : Packet) (sends : List (ℕ × Packet)) → AllAre packet sends → AreAlike sends
+all_alike : (packet : Packet) (sends : List (ℕ × Packet)) → AllAre packet sends → AreOnePacket sends
 all_alike packet [] all = tt
 all_alike packet (x ∷ others) all = like_first x.1 packet others all.0 all.1
 

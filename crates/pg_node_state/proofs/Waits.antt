@@ -15,7 +15,7 @@ use Rattle.pg_opens.specs.declared.opens.Opens.{Opens}
 use Rattle.pg_opens.specs.Opens.{AreListed, stages_of}
 use Rattle.pg_opens.specs.Readings.{stage_seen, is_closed}
 use Rattle.pg_node_state.proofs.Given.{same_is}
-use Rattle.pg_node_state.specs.Waiting.{AreWaiting, waiting_of}
+use Rattle.pg_node_state.specs.Waiting.{AreWaiting, waiting_among}
 
 within : (ops : List OpId) (k : ℕ) (op : OpId) → slice_get ops k ≡ Some op → k < length ops
 within [] k op e = absurd (cc)
@@ -58,17 +58,17 @@ module _ (m : Nodes) (s : State) where
 
   -- one more place, of a command that waits, and of one that doesn't
   module _ (ops : List OpId) (place : ℕ) (op : OpId) (here : slice_get ops place ≡ Some op) where
-    next : waiting_of m s (take (place + 1) ops) ≡ waiting_of m s (take place ops) ++ cond (waits m (s.stages op) s) (op ∷ []) []
+    next : waiting_among m s (take (place + 1) ops) ≡ waiting_among m s (take place ops) ++ cond (waits m (s.stages op) s) (op ∷ []) []
     next = filter_more (λ op. waits m (s.stages op) s) ops place op (within ops place op here)
-        ∙ ap (λ (o : OpId). waiting_of m s (take place ops) ++ cond (waits m (s.stages o) s) (o ∷ []) []) (read_at ops place op op here)
+        ∙ ap (λ (o : OpId). waiting_among m s (take place ops) ++ cond (waits m (s.stages o) s) (o ∷ []) []) (read_at ops place op op here)
 
-    pub one_waits : waits m (s.stages op) s ≡ true → waiting_of m s (take (place + 1) ops) ≡ waiting_of m s (take place ops) ++ op ∷ []
-    one_waits e = next ∙ ap (λ b. waiting_of m s (take place ops) ++ cond b (op ∷ []) []) e
+    pub one_waits : waits m (s.stages op) s ≡ true → waiting_among m s (take (place + 1) ops) ≡ waiting_among m s (take place ops) ++ op ∷ []
+    one_waits e = next ∙ ap (λ b. waiting_among m s (take place ops) ++ cond b (op ∷ []) []) e
 
-    pub none_waits : waits m (s.stages op) s ≡ false → waiting_of m s (take (place + 1) ops) ≡ waiting_of m s (take place ops)
-    none_waits e = next ∙ ap (λ b. waiting_of m s (take place ops) ++ cond b (op ∷ []) []) e ∙ append-nil (waiting_of m s (take place ops))
+    pub none_waits : waits m (s.stages op) s ≡ false → waiting_among m s (take (place + 1) ops) ≡ waiting_among m s (take place ops)
+    none_waits e = next ∙ ap (λ b. waiting_among m s (take place ops) ++ cond b (op ∷ []) []) e ∙ append-nil (waiting_among m s (take place ops))
 
-  pub all_waiting : (opens : Opens) (ops : List OpId) → s.stages ≡ stages_of opens → AreListed opens ops → AreWaiting m s (waiting_of m s ops)
+  pub all_waiting : (opens : Opens) (ops : List OpId) → s.stages ≡ stages_of opens → AreListed opens ops → AreWaiting m s (waiting_among m s ops)
   all_waiting opens ops same listed = record {
     each = λ op. any-filter_same (λ other. same_op other op) (λ other. waits m (s.stages other) s) (waits m (s.stages op) s) (λ other t. ap (λ (o : OpId). waits m (s.stages o) s) (same_is other op t)) ops
         ∙ ap (λ b. waits m (s.stages op) s && b) (listed.open_ones op ∙ ap (λ (stages : OpId → Stage). not (is_closed (stage_seen (stages op)))) (sym same))

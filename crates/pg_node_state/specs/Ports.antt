@@ -24,10 +24,10 @@ marks_of places zero = []
 marks_of places (suc n) = marks_of places n ++ has_of places n ∷ []
 
 -- for each port how many commands came in there
-abbrev pub counts_in : List Port → ℕ → ℕ
-counts_in [] port = 0
-counts_in (p ∷ ports) zero = p.count
-counts_in (p ∷ ports) (suc n) = counts_in ports n
+abbrev pub port_commands : List Port → ℕ → ℕ
+port_commands [] port = 0
+port_commands (p ∷ ports) zero = p.count
+port_commands (p ∷ ports) (suc n) = port_commands ports n
 
 -- the answers that were given at each port
 abbrev pub answers_in : List Port → ℕ → List Answer

@@ -8,7 +8,7 @@ use Rattle.pg_opens.specs.Opens.{AreSame}
 use Rattle.pg_node_state.specs.declared.state.NodeState.{NodeState}
 use Rattle.pg_node_state.specs.declared.state.port.Port.{Port}
 use Rattle.pg_node_state.specs.Issued.{ports_of}
-use Rattle.pg_node_state.specs.Ports.{counts_in, answers_in}
+use Rattle.pg_node_state.specs.Ports.{port_commands, answers_in}
 use Rattle.pg_node_state.specs.States.{names_of, kept_by, state_of, answers_of}
 
 -- as many commands came in, and the same answers were given
@@ -19,7 +19,7 @@ pub record IsSamePort (port other : Port) : Type 0 where
 -- as many ports, where as many commands came in and the same answers were given
 pub record AreSamePorts (ports others : List Port) : Type 0 where
   pub count : length ports ≡ length others
-  pub counts : counts_in ports ≡ counts_in others
+  pub counts : port_commands ports ≡ port_commands others
   pub answers : answers_in ports ≡ answers_in others
 
 -- the same nodes by their names, the same state, and as many ports with the same answers

@@ -19,15 +19,15 @@ Ascends place [] = Unit {0}
 Ascends place (sent ∷ others) = (place ≤ sent.0) × Ascends (sent.0 + 1) others
 
 -- all are one packet
-abbrev pub AreAlike : List (ℕ × Packet) → Type 0
-AreAlike [] = Unit {0}
-AreAlike (sent ∷ others) = AllByRecursion (λ other. other.1 ≡ sent.1) others
+abbrev pub AreOnePacket : List (ℕ × Packet) → Type 0
+AreOnePacket [] = Unit {0}
+AreOnePacket (sent ∷ others) = AllByRecursion (λ other. other.1 ≡ sent.1) others
 
 -- each can be sent, they go to different peers, in the order of the peers, and are one packet
 pub record AreSendable (names : List Node) (sends : List (ℕ × Packet)) : Type 0 where
   pub each : AllByRecursion (IsSendable names) sends
   pub apart : Ascends 0 sends
-  pub alike : AreAlike sends
+  pub alike : AreOnePacket sends
 
 -- what is sent can be written in the outboxes of so many peers
 abbrev pub FitLinks : ℕ → List (ℕ × Packet) → Type 0

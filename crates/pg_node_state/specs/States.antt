@@ -33,7 +33,7 @@ use Rattle.pg_node_state.specs.declared.state.NodeState.{NodeState}
 use Rattle.pg_node_state.specs.declared.state.done.Done.{Done}
 use Rattle.pg_node_state.specs.declared.state.fault.NodeFault.{NodeFault}
 use Rattle.pg_node_state.specs.declared.state.fault.NodeFault.TheVariants.{Refused, OutOfMemory}
-use Rattle.pg_node_state.specs.Ports.{merged_in, counts_in, answers_in}
+use Rattle.pg_node_state.specs.Ports.{merged_in, port_commands, answers_in}
 
 -- ---- the state
 
@@ -61,7 +61,7 @@ kept_by {T} {g} node = record {
   processes = made_of node.processes;
   opened = opens.opened_of node.opens;
   stages = opens.stages_of node.opens;
-  counts = counts_in node.ports.items;
+  counts = port_commands node.ports.items;
 }
 
 abbrev pub state_of : {T : Type 0} {g : Ghosts T} → NodeState T g → Timed State

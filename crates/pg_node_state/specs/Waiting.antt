@@ -15,8 +15,8 @@ abbrev pub ops_of : {T : Type 0} {g : Ghosts T} → NodeState T g → List OpId
 ops_of node = opens.ops_of node.opens
 
 -- those of them that wait
-abbrev pub waiting_of : Nodes → State → List OpId → List OpId
-waiting_of m s ops = filter (λ op. waits m (s.stages op) s) ops
+abbrev pub waiting_among : Nodes → State → List OpId → List OpId
+waiting_among m s ops = filter (λ op. waits m (s.stages op) s) ops
 
 -- all has come that the command gathers, so that a retry goes on from there
 abbrev pub is_ready : Nodes → Stage → State → Bool

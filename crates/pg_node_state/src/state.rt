@@ -9,7 +9,7 @@ ghost use Rattle.pg_message.specs.declared.packet.TheConstants.{MAX_STAMP};
 ghost use Rattle.pg_step.specs.Nodes.{Node};
 ghost use Rattle.pg_opens.specs.Opens.{names_of as open_names, lost_of, references_of, uses_of, stages_of};
 ghost use Rattle.pg_opens.specs.Places.{name_at};
-ghost use Rattle.pg_node_state.specs.Ports.{merged_in, counts_in, CameIn, AreGiven};
+ghost use Rattle.pg_node_state.specs.Ports.{merged_in, port_commands, CameIn, AreGiven};
 
 mod answers;
 mod attempts;
@@ -70,9 +70,9 @@ pub struct NodeState<T: GroupTable> {
     ghost within: { clock ≤ MAX_STAMP },
     // An event makes two references at most.
     ghost made: { references_of opens ≤ 2 * clock },
-    ghost counted: { (port : ℕ) → counts_in ports.items port ≤ clock },
+    ghost counted: { (port : ℕ) → port_commands ports.items port ≤ clock },
     // Each open command came in at a port, with the update that is gathered for or that waits.
-    ghost given: { AreGiven (CameIn (length ports.items) (counts_in ports.items)) (uses_of opens) (stages_of opens) },
+    ghost given: { AreGiven (CameIn (length ports.items) (port_commands ports.items)) (uses_of opens) (stages_of opens) },
     // A count is at most what it was at first or in an exchange, and grows by one with an update.
     ghost few: { (name : Term) (pid : Pid) → count_in (T.contents table name) pid ≤ 2 ^ 32 + clock },
 }

@@ -18,7 +18,7 @@ use Rattle.pg_program.specs.CommandLine.{IsScriptWord, IsServe, IsServeWord, IsT
 use Rattle.pg_program.specs.Explorations.{WasAsked}
 use Rattle.pg_program.specs.Scripts.{ScriptEnd}
 use Rattle.pg_program.specs.Status.{BytesEnd, Ends, end_of_bytes, end_status}
-use Rattle.pg_program.specs.Services.{EndsService, IsServed, service_end}
+use Rattle.pg_program.specs.Services.{EndsService, ServiceEnds, service_end}
 use Rattle.pg_program.specs.Talks.{EndsTalk, OrNoMemory}
 use Rattle.pg_program.specs.declared.words.Offer.{Offer}
 use Rattle.pg_program.specs.declared.words.Quest.{Quest}
@@ -137,7 +137,7 @@ asked_so unchanged IsAsked E T status quest asked h = record { end = h.end; is =
 
 -- a service was asked for
 pub it_was_served : {D : Type 0} (served : D → Service → Result Served ServiceFault → D → Type 0) (service : Service) (told : Result Served ServiceFault) (before after : D)
-    (end : Result Served Fault) → served before service told after → end ≡ service_end told → IsServed served end
+    (end : Result Served Fault) → served before service told after → end ≡ service_end told → ServiceEnds served end
 it_was_served served service told before after end is e = inl (service, told, record { before = before; after = after; is = is }, e)
 
 -- no service began

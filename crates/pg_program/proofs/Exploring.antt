@@ -7,7 +7,7 @@ use Rattle.std.proofs.lemmas.Bool.Decides.{nat_tests}
 use Rattle.pg_config.specs.declared.fault.WorldFault.{WorldFault}
 use Rattle.pg_explore.specs.declared.fault.ExploreFault.{ExploreFault}
 use Rattle.pg_explore.specs.declared.fault.ExploreFault.TheVariants as explore
-use Rattle.pg_explore.specs.Explorations.{AreApart, AreFollowed, AreReached}
+use Rattle.pg_explore.specs.Explorations.{AreUnlike, AreFollowed, AreReached}
 use Rattle.pg_explore.specs.Faults.{CantExplore}
 use Rattle.pg_script.specs.Faults.{line_number_of}
 use Rattle.pg_script.specs.Scripts.{Contents}
@@ -25,7 +25,7 @@ use Rattle.pg_program.specs.declared.input.TheConstants.{MAX_SCRIPT_LEN}
 use Rattle.pg_program.specs.declared.words.Quest.{Quest}
 use Rattle.pg_program.specs.Explorations.{AreFound, ExploreEnd, IsAnswer, NotPictured, PlannedEnd}
 use Rattle.pg_program.specs.Explorations.{Shown, WasExplored, WhyNot, bytes_planned, input_planned}
-use Rattle.pg_program.specs.Inputs.{NoInput, Said, told_of}
+use Rattle.pg_program.specs.Inputs.{NoInput, Said, told_fault}
 use Rattle.pg_program.specs.Scripts.{script_fault_of}
 use Rattle.pg_program.specs.Talks.{Printed}
 
@@ -60,7 +60,7 @@ not_drawn quest found unchanged here there flushed before after (Line line numbe
 -- ---- what is explored
 
 pub found_of : (contents : Contents) (scenario : Scenario) (quest : Quest) (found : Findings) → IsScenarioOf contents scenario
-    → AreReached scenario.config.starts.items scenario.plans.items quest.retries (met_in found) → AreApart (met_in found)
+    → AreReached scenario.config.starts.items scenario.plans.items quest.retries (met_in found) → AreUnlike (met_in found)
     → AreFollowed scenario.plans.items quest.retries (met_in found) found.explored.lent → (found.explored.lent < length (met_in found) → quest.limit ≤ length (met_in found))
     → AreFound contents quest found
 found_of contents scenario quest found is reached apart followed cut = record {
@@ -90,13 +90,13 @@ was_refused contents scenario quest unchanged unwritten flushed before after exp
 
 -- ---- what bytes say
 
-text_planned : (bytes : List ℕ) → is_utf8 bytes ≡ true → bytes_planned bytes ≡ told_of (scenario_of bytes)
-text_planned bytes e = ap (λ (b : Bool). if b then told_of (scenario_of bytes) else Err (Given 40)) e
+text_planned : (bytes : List ℕ) → is_utf8 bytes ≡ true → bytes_planned bytes ≡ told_fault (scenario_of bytes)
+text_planned bytes e = ap (λ (b : Bool). if b then told_fault (scenario_of bytes) else Err (Given 40)) e
 
 pub no_text : (bytes : List ℕ) (quest : Quest) (unchanged unwritten flushed : Type 0) (before after : Option (List ℕ)) (fault : Fault) → (fault ≡ Given 40) × (is_utf8 bytes ≡ false) → unchanged
     → PlannedEnd (bytes_planned bytes) quest unchanged unwritten flushed before after (Err fault)
 no_text bytes quest unchanged unwritten flushed before after fault e u =
-    subst (λ (s : Said). PlannedEnd s quest unchanged unwritten flushed before after (Err fault)) (sym (ap (λ (b : Bool). if b then told_of (scenario_of bytes) else Err (Given 40)) e.1)) (inr (ap Err e.0, u))
+    subst (λ (s : Said). PlannedEnd s quest unchanged unwritten flushed before after (Err fault)) (sym (ap (λ (b : Bool). if b then told_fault (scenario_of bytes) else Err (Given 40)) e.1)) (inr (ap Err e.0, u))
 
 -- the contents of a scenario
 contents_in : (said : Result Contents ScriptFault) (scenario : Scenario) → IsScenario said scenario → (contents : Contents) × (said ≡ Ok contents) × IsScenarioOf contents scenario
@@ -108,7 +108,7 @@ pub text_explored : (bytes text : List ℕ) (scenario : Scenario) (quest : Quest
     → PlannedEnd (bytes_planned bytes) quest unchanged unwritten flushed before after end
 text_explored bytes text scenario quest unchanged unwritten flushed before after end is said explored =
     let found = contents_in (scenario_of text) scenario said in
-    let e : bytes_planned bytes ≡ Ok found.0 = text_planned bytes is.1 ∙ ap (λ (t : List ℕ). told_of (scenario_of t)) (sym is.0) ∙ ap told_of found.1 in
+    let e : bytes_planned bytes ≡ Ok found.0 = text_planned bytes is.1 ∙ ap (λ (t : List ℕ). told_fault (scenario_of t)) (sym is.0) ∙ ap told_fault found.1 in
     subst (λ (s : Said). PlannedEnd s quest unchanged unwritten flushed before after end) (sym e) (explored found.0 found.2)
 
 -- how the fault of a line is told
@@ -125,7 +125,7 @@ pub text_refused : (bytes text : List ℕ) (fault : ScriptFault) (quest : Quest)
 text_refused bytes text fault quest unchanged unwritten flushed before after is said u = elim (told_line fault.line fault.fault) as (λ _. PlannedEnd (bytes_planned bytes) quest unchanged unwritten flushed before after (Err (script_fault_of fault))) [
   | inl e ↦ inl (ap Err e)
   | inr e ↦
-      let s : bytes_planned bytes ≡ Err (Line fault.line (line_number_of fault.fault)) = text_planned bytes is.1 ∙ ap (λ (t : List ℕ). told_of (scenario_of t)) (sym is.0) ∙ ap told_of (said e.0) in
+      let s : bytes_planned bytes ≡ Err (Line fault.line (line_number_of fault.fault)) = text_planned bytes is.1 ∙ ap (λ (t : List ℕ). told_fault (scenario_of t)) (sym is.0) ∙ ap told_fault (said e.0) in
       subst (λ (x : Said). PlannedEnd x quest unchanged unwritten flushed before after (Err (script_fault_of fault))) (sym s) (inr (ap Err e.1, u))
 ]
 

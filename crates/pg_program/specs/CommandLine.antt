@@ -174,9 +174,9 @@ IsScriptWord (Some p) = p.0 ≡ codes "script"
 IsScriptWord None = ⊥
 
 -- what a command and its matches ask for
-abbrev pub IsAsked : Option (Text × List Row) → Task → Type 0
-IsAsked matches (Bytes own peer) = AsksBytes matches own.now peer.now
-IsAsked matches (Script aids) = IsOther matches × IsScript matches aids
-IsAsked matches (Threads talk) = IsOther matches × IsThreads matches talk
-IsAsked matches (Serve offer) = IsOther matches × IsServe matches offer
-IsAsked matches (Explore quest) = IsOther matches × IsExplore matches quest
+abbrev pub AsksFor : Option (Text × List Row) → Task → Type 0
+AsksFor matches (Bytes own peer) = AsksBytes matches own.now peer.now
+AsksFor matches (Script aids) = IsOther matches × IsScript matches aids
+AsksFor matches (Threads talk) = IsOther matches × IsThreads matches talk
+AsksFor matches (Serve offer) = IsOther matches × IsServe matches offer
+AsksFor matches (Explore quest) = IsOther matches × IsExplore matches quest

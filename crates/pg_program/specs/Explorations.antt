@@ -8,23 +8,23 @@ use Rattle.pg_config.specs.declared.fault.WorldFault.TheVariants.{OutOfMemory}
 use Rattle.pg_explore.specs.declared.fault.ExploreFault.{ExploreFault}
 use Rattle.pg_explore.specs.declared.fault.ExploreFault.TheVariants as explore
 use Rattle.pg_explore.specs.declared.plan.Plan.{Plan}
-use Rattle.pg_explore.specs.Explorations.{AreApart, AreFollowed, AreReached}
+use Rattle.pg_explore.specs.Explorations.{AreUnlike, AreFollowed, AreReached}
 use Rattle.pg_script.specs.Scripts.{Contents}
 use Rattle.pg_survey.specs.declared.findings.Findings.{Findings}
-use Rattle.pg_survey.specs.Findings.{IsPage, IsWhereMarked, end_at, ends_in, marks_in, met_in}
+use Rattle.pg_survey.specs.Findings.{IsPage, IsWhereMarked, end_numbered, end_places, differing_marks, met_in}
 use Rattle.pg_survey.specs.Scenarios.{ArePlans, scenario_of}
 use Rattle.pg_program.specs.declared.fault.Fault.{Fault}
 use Rattle.pg_program.specs.declared.fault.Fault.TheVariants.{Run, Given, Line}
 use Rattle.pg_program.specs.declared.input.TheConstants.{MAX_SCRIPT_LEN}
 use Rattle.pg_program.specs.declared.words.Quest.{Quest}
-use Rattle.pg_program.specs.Inputs.{NotRead, Said, told_of}
+use Rattle.pg_program.specs.Inputs.{NotRead, Said, told_fault}
 use Rattle.pg_program.specs.Scripts.{IsRefused, NotWritten}
 
 -- ---- what is explored
 
 -- what bytes say: they are no text, or a text that is a scenario or none
 abbrev pub bytes_planned : List ℕ → Said
-bytes_planned bytes = if is_utf8 bytes then told_of (scenario_of bytes) else Err (Given 40)
+bytes_planned bytes = if is_utf8 bytes then told_fault (scenario_of bytes) else Err (Given 40)
 
 -- what an input says: it is too long, or its bytes say it
 abbrev pub input_planned : List ℕ → Said
@@ -42,28 +42,28 @@ pub record AreFound (contents : Contents) (quest : Quest) (found : Findings) : T
   pub planned : ArePlans contents.lines plans
   pub size : length plans ≡ length contents.starts
   pub reached : AreReached contents.starts plans quest.retries (met_in found)
-  pub distinct : AreApart (met_in found)
+  pub distinct : AreUnlike (met_in found)
   pub followed : AreFollowed plans quest.retries (met_in found) found.explored.lent
   pub cut : found.explored.lent < length (met_in found) → quest.limit ≤ length (met_in found)
 
 -- ---- what is asked
 
 -- what is asked for is there: what was counted is; a run to an end where there are so many ends; a run in which nodes differ where some do
-abbrev pub IsThere : ℕ → Bool → Findings → Bool → Type 0
-IsThere zero false found there = there ≡ true
-IsThere zero true found there = IsWhereMarked (marks_in found) there
-IsThere (suc number) differing found there = there ≡ is_some (end_at (ends_in found) (suc number))
+abbrev pub HasWhatIsAsked : ℕ → Bool → Findings → Bool → Type 0
+HasWhatIsAsked zero false found there = there ≡ true
+HasWhatIsAsked zero true found there = IsWhereMarked (differing_marks found) there
+HasWhatIsAsked (suc number) differing found there = there ≡ is_some (end_numbered (end_places found) (suc number))
 
 -- a text of what was counted is its page
-abbrev pub IsText : ℕ → Bool → Findings → List ℕ → Type 0
-IsText zero false found text = IsPage found text
-IsText zero true found text = Unit {0}
-IsText (suc number) differing found text = Unit {0}
+abbrev pub IsAskedText : ℕ → Bool → Findings → List ℕ → Type 0
+IsAskedText zero false found text = IsPage found text
+IsAskedText zero true found text = Unit {0}
+IsAskedText (suc number) differing found text = Unit {0}
 
 -- the text that is asked for; None: it is not there
 abbrev pub IsAnswer : ℕ → Bool → Findings → Option (List ℕ) → Type 0
-IsAnswer show differing found None = IsThere show differing found false
-IsAnswer show differing found (Some text) = IsThere show differing found true × IsText show differing found text
+IsAnswer show differing found None = HasWhatIsAsked show differing found false
+IsAnswer show differing found (Some text) = HasWhatIsAsked show differing found true × IsAskedText show differing found text
 
 -- it was printed and flushed, and it is told whether all worlds were explored
 pub record WasShown (quest : Quest) (found : Findings) (flushed : Type 0) (before after : Option (List ℕ)) (whole : Bool) : Type 0 where

@@ -5,10 +5,10 @@ use Rattle.pg_program.specs.declared.fault.Fault.{Fault}
 use Rattle.pg_program.specs.declared.fault.Fault.TheVariants.{Run, Given, Line}
 
 -- 1: the run was refused; 2: what was given was refused
-abbrev pub status_of : Fault → ℕ
-status_of (Run number) = 1
-status_of (Given number) = 2
-status_of (Line line number) = 2
+abbrev pub status_number : Fault → ℕ
+status_number (Run number) = 1
+status_number (Given number) = 2
+status_number (Line line number) = 2
 
 -- `refused N` or `line L refused N`
 abbrev pub fault_line : Fault → List ℕ

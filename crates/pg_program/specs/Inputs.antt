@@ -54,24 +54,24 @@ abbrev pub Said : Type 0
 Said = Result Contents Fault
 
 -- the first faulty line is told
-abbrev pub told_of : Result Contents ScriptFault → Said
-told_of (Ok contents) = Ok contents
-told_of (Err fault) = Err (Line fault.line (line_number_of fault.fault))
+abbrev pub told_fault : Result Contents ScriptFault → Said
+told_fault (Ok contents) = Ok contents
+told_fault (Err fault) = Err (Line fault.line (line_number_of fault.fault))
 
 -- what bytes say: they are no text, or a text that is a script or none
 abbrev pub bytes_said : List ℕ → Said
-bytes_said bytes = if is_utf8 bytes then told_of (script_of bytes) else Err (Given 40)
+bytes_said bytes = if is_utf8 bytes then told_fault (script_of bytes) else Err (Given 40)
 
 -- what an input says: it is too long, or its bytes say it
 abbrev pub input_said : List ℕ → Said
 input_said input = if nat_lt MAX_SCRIPT_LEN (length input) then Err (Given 11) else bytes_said input
 
 -- this is said of some input
-abbrev pub Says : (List ℕ → Type 0) → Said → Type 0
-Says is_input said = (input : List ℕ) × is_input input × (input_said input ≡ said)
+abbrev pub IsReadAs : (List ℕ → Type 0) → Said → Type 0
+IsReadAs is_input said = (input : List ℕ) × is_input input × (input_said input ≡ said)
 
 -- the script that an input is, or why it is none
 abbrev pub ScriptRead : (List ℕ → Type 0) → Type 0 → Result Script Fault → Type 0
-ScriptRead is_input unread (Ok script) = Says is_input (Ok (contents_of script))
+ScriptRead is_input unread (Ok script) = IsReadAs is_input (Ok (contents_of script))
 ScriptRead is_input unread (Err (Run number)) = NotRead unread number
-ScriptRead is_input unread (Err fault) = Says is_input (Err fault)
+ScriptRead is_input unread (Err fault) = IsReadAs is_input (Err fault)

@@ -14,7 +14,7 @@ use Rattle.pg_config.specs.declared.fault.WorldFault.{WorldFault}
 use Rattle.pg_config.specs.declared.fault.WorldFault.TheVariants.{OutOfMemory}
 use Rattle.pg_program.specs.declared.fault.Fault.{Fault}
 use Rattle.pg_program.specs.declared.fault.Fault.TheVariants.{Run, Given, Line}
-use Rattle.pg_program.specs.Inputs.{NotRead, Says}
+use Rattle.pg_program.specs.Inputs.{NotRead, IsReadAs}
 
 -- the configuration of a script is refused, by this number
 pub record IsRefused (contents : Contents) (number : ℕ) : Type 0 where
@@ -29,11 +29,11 @@ NotWritten unwritten number = (number ≡ 10) ⊎ ((number ≡ 32) × unwritten)
 
 -- How a script that was read ends: its configuration is one, it was run, and what it printed was flushed; or its configuration is
 -- refused, and nothing was written; or there was no memory, or a write failed.
-abbrev pub Ran : Contents → Type 0 → Type 0 → Type 0 → Result (Unit {0}) Fault → Type 0
-Ran contents unchanged unwritten flushed (Ok done) = CanRun contents.ring contents.starts × flushed
-Ran contents unchanged unwritten flushed (Err (Run number)) = NotWritten unwritten number
-Ran contents unchanged unwritten flushed (Err (Given number)) = IsRefused contents number × unchanged
-Ran contents unchanged unwritten flushed (Err (Line line number)) = ⊥
+abbrev pub ScriptEnds : Contents → Type 0 → Type 0 → Type 0 → Result (Unit {0}) Fault → Type 0
+ScriptEnds contents unchanged unwritten flushed (Ok done) = CanRun contents.ring contents.starts × flushed
+ScriptEnds contents unchanged unwritten flushed (Err (Run number)) = NotWritten unwritten number
+ScriptEnds contents unchanged unwritten flushed (Err (Given number)) = IsRefused contents number × unchanged
+ScriptEnds contents unchanged unwritten flushed (Err (Line line number)) = ⊥
 
 -- what is told of a run that ended early
 abbrev pub run_fault_of : RunFault → Fault
@@ -64,10 +64,10 @@ EndsUnread unread other = ⊥
 -- the input is no script, and this is why
 abbrev pub IsNoScript : (List ℕ → Type 0) → Result (Unit {0}) Fault → Type 0
 IsNoScript is_input (Ok done) = ⊥
-IsNoScript is_input (Err fault) = Says is_input (Err fault)
+IsNoScript is_input (Err fault) = IsReadAs is_input (Err fault)
 
 -- How `script` ends: the input was not read, or it is no script, and nothing was written; or it says a script, which ends so.
 abbrev pub ScriptEnd : (List ℕ → Type 0) → Type 0 → Type 0 → Type 0 → Type 0 → Result (Unit {0}) Fault → Type 0
 ScriptEnd is_input unread unchanged unwritten flushed end =
     (EndsUnread unread end × unchanged) ⊎ (IsNoScript is_input end × unchanged)
-    ⊎ ((contents : Contents) × Says is_input (Ok contents) × Ran contents unchanged unwritten flushed end)
+    ⊎ ((contents : Contents) × IsReadAs is_input (Ok contents) × ScriptEnds contents unchanged unwritten flushed end)

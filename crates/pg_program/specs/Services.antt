@@ -11,7 +11,7 @@ use Rattle.pg_talk.specs.declared.service.fault.ServiceFault.TheVariants as faul
 use Rattle.pg_talk.specs.declared.service.run.Served.{Served}
 use Rattle.pg_talk.specs.declared.service.Service.{Service}
 use Rattle.pg_talk.specs.declared.verdict.Verdict.{Verdict}
-use Rattle.pg_program.specs.Faults.{status_of}
+use Rattle.pg_program.specs.Faults.{status_number}
 use Rattle.pg_program.specs.declared.fault.Fault.{Fault}
 use Rattle.pg_program.specs.declared.fault.Fault.TheVariants.{Run, Given, Line}
 use Rattle.pg_program.specs.Status.{ToldEnd}
@@ -42,8 +42,8 @@ IsEarly (Given number) = (number ≡ 40) ⊎ (number ≡ 6) ⊎ (number ≡ 15)
 IsEarly (Line line number) = ⊥
 
 -- it went so, or was refused before
-abbrev pub IsServed : {D : Type 0} → (D → Service → Result Served ServiceFault → D → Type 0) → Result Served Fault → Type 0
-IsServed served end =
+abbrev pub ServiceEnds : {D : Type 0} → (D → Service → Result Served ServiceFault → D → Type 0) → Result Served Fault → Type 0
+ServiceEnds served end =
     ((service : Service) × (told : Result Served ServiceFault) × WasServed served service told × (end ≡ service_end told))
     ⊎ ((fault : Fault) × IsEarly fault × (end ≡ Err fault))
 
@@ -65,7 +65,7 @@ input_status (Some number) good = 1
 -- 1: not so, or the run was refused; 2: what was given was refused
 abbrev pub service_status : Result Served Fault → ℕ
 service_status (Ok served) = input_status served.fault (served.verdict.agree && served.verdict.replay)
-service_status (Err fault) = status_of fault
+service_status (Err fault) = status_number fault
 
 module _ {F : Type 0} (fails : F → F → Type 0) (contents : F → Option (List ℕ)) where
   -- the lines of a verdict were written, and then that of the fault by which the input ended, if it did; or a write failed
@@ -78,6 +78,6 @@ module _ {F : Type 0} (fails : F → F → Type 0) (contents : F → Option (Lis
 -- A service was asked for, and ended so, or it was refused before; T is said of what was written on standard error, and this is the status.
 pub record EndsService {D : Type 0} (served : D → Service → Result Served ServiceFault → D → Type 0) (T : Result Served Fault → Type 0) (status : ℕ) : Type 0 where
   pub end : Result Served Fault
-  pub is : IsServed served end
+  pub is : ServiceEnds served end
   pub told : T end
   pub status_is : status ≡ service_status end

@@ -8,7 +8,7 @@ use Rattle.pg_program.specs.declared.bytes.BytesFault.TheVariants.{Names, Serve}
 use Rattle.pg_program.specs.declared.fault.Fault.{Fault}
 use Rattle.pg_program.specs.declared.fault.Fault.TheVariants.{Run, Given}
 use Rattle.pg_program.specs.Bytes.{ServesAs}
-use Rattle.pg_program.specs.Faults.{status_of, fault_line}
+use Rattle.pg_program.specs.Faults.{status_number, fault_line}
 use Rattle.pg_program.specs.Told.{WritesOut}
 
 -- how serving ends, for the program
@@ -20,7 +20,7 @@ end_of_bytes (Err (Serve fault)) = Err (Run (number_of fault))
 -- 0: done
 abbrev pub end_status : Result (Unit {0}) Fault → ℕ
 end_status (Ok done) = 0
-end_status (Err fault) = status_of fault
+end_status (Err fault) = status_number fault
 
 -- the line of a fault was written: whole, or a prefix of it where a write failed
 abbrev pub ToldEnd : {F : Type 0} → (F → F → Type 0) → (F → Option (List ℕ)) → F → F → Result (Unit {0}) Fault → Type 0

@@ -7,7 +7,7 @@ use Rattle.pg_talk.specs.Outcomes.{is_good, outcome_lines}
 use Rattle.pg_talk.specs.declared.conversation.Conversation.{Conversation}
 use Rattle.pg_talk.specs.declared.conversation.Outcome.{Outcome}
 use Rattle.pg_cluster.specs.declared.fault.StartFault.{StartFault}
-use Rattle.pg_program.specs.Faults.{status_of}
+use Rattle.pg_program.specs.Faults.{status_number}
 use Rattle.pg_program.specs.Told.{WritesSome}
 use Rattle.pg_program.specs.declared.fault.Fault.{Fault}
 use Rattle.pg_program.specs.declared.fault.Fault.TheVariants.{Run}
@@ -66,7 +66,7 @@ OrNoMemory unchanged E end = ((end ≡ Err (Run 10)) × unchanged) ⊎ E end
 abbrev pub talk_status : Result Bool Fault → ℕ
 talk_status (Ok true) = 0
 talk_status (Ok false) = 1
-talk_status (Err fault) = status_of fault
+talk_status (Err fault) = status_number fault
 
 -- whether all is well is no fault
 abbrev pub talk_end : Result Bool Fault → Result (Unit {0}) Fault

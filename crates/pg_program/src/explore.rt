@@ -1,7 +1,7 @@
 //! `pg2sim explore`.
 
 ghost use Rattle.std.specs.Prelude.{◌≡◌, ◌⊎◌, ◌<◌, ◌≤◌, IfErr, IfOk, Ok, length, option_map, string_bytes};
-ghost use Rattle.pg_explore.specs.Explorations.{AreApart, AreFollowed, AreReached};
+ghost use Rattle.pg_explore.specs.Explorations.{AreUnlike, AreFollowed, AreReached};
 ghost use Rattle.pg_explore.specs.Faults.{CantExplore};
 ghost use Rattle.pg_replica.specs.Causes.{FailedAt};
 ghost use Rattle.pg_script.specs.Scripts.{Contents};
@@ -115,7 +115,7 @@ fn found_in<'a, 'b, D: System>(
     system: &mut D,
 ) -> Result<Findings<'a, 'b>, ExploreFault>
     ensures reached { IfOk result (λ found. AreReached scenario.now.config.starts.items scenario.now.plans.items quest.entry.retries (met_in found)) }
-    ensures distinct { IfOk result (λ found. AreApart (met_in found)) }
+    ensures distinct { IfOk result (λ found. AreUnlike (met_in found)) }
     ensures followed { IfOk result (λ found. AreFollowed scenario.now.plans.items quest.entry.retries (met_in found) found.explored.lent) }
     ensures cut { IfOk result (λ found. found.explored.lent < length (met_in found) → quest.entry.limit ≤ length (met_in found)) }
     ensures fault { IfErr result (CantExplore scenario.now.config) }

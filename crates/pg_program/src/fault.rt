@@ -20,11 +20,11 @@ pub(crate) enum Fault {
 
 impl Fault {
     ghost use Rattle.std.specs.Prelude.{◌≡◌};
-    ghost use Rattle.pg_program.specs.Faults.{status_of, fault_line};
+    ghost use Rattle.pg_program.specs.Faults.{status_number, fault_line};
 
     /// The status that the program ends with.
     pub(crate) fn status(self) -> u8
-        ensures { result ≡ status_of self }
+        ensures { result ≡ status_number self }
     {
         match self {
             Fault::Run(_) => 1,

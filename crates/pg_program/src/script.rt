@@ -5,7 +5,7 @@ ghost use Rattle.pg_replica.specs.Causes.{FailedAt};
 ghost use Rattle.pg_script.specs.Runs.{CausedBy};
 ghost use Rattle.pg_script.specs.Scripts.{contents_of};
 ghost use Rattle.pg_program.specs.Inputs.{IsInput, IsUnread, ScriptRead, bytes_said};
-ghost use Rattle.pg_program.specs.Scripts.{NotDrawn, Ran, ScriptEnd, run_fault_of, script_fault_of};
+ghost use Rattle.pg_program.specs.Scripts.{NotDrawn, ScriptEnds, ScriptEnd, run_fault_of, script_fault_of};
 ghost use Rattle.pg_program.specs.declared.fault.Fault.TheVariants.{Run};
 ghost use Rattle.pg_program.specs.declared.input.TheConstants.{MAX_SCRIPT_LEN};
 
@@ -56,7 +56,7 @@ fn run<W: Sink, D: System>(
     writer: &mut W,
     system: &mut D,
 ) -> Result<(), Fault>
-    ensures { Ran (contents_of script.now) (writer.new ≡ writer.old) (FailedAt W.fails writer.new ⊎ FailedAt D.fails system.new)
+    ensures { ScriptEnds (contents_of script.now) (writer.new ≡ writer.old) (FailedAt W.fails writer.new ⊎ FailedAt D.fails system.new)
         (W.flushed writer.new) result }
 {
     if aids.is_traced || aids.diagram.is_some() {
@@ -77,7 +77,7 @@ fn run_watched<W: Sink, D: System>(
     writer: &mut W,
     system: &mut D,
 ) -> Result<(), Fault>
-    ensures { Ran (contents_of script.now) (writer.new ≡ writer.old) (FailedAt W.fails writer.new ⊎ FailedAt D.fails system.new)
+    ensures { ScriptEnds (contents_of script.now) (writer.new ≡ writer.old) (FailedAt W.fails writer.new ⊎ FailedAt D.fails system.new)
         (W.flushed writer.new) result }
 {
     match watch_script(alloc, script, aids.is_traced, writer) {

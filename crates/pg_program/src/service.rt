@@ -1,7 +1,7 @@
 //! `pg2sim serve`.
 
 ghost use Rattle.std.specs.Prelude.{◌≡◌, IfErr};
-ghost use Rattle.pg_program.specs.Services.{IsEarly, IsServed, service_fault_of, verdict_lines};
+ghost use Rattle.pg_program.specs.Services.{IsEarly, ServiceEnds, service_fault_of, verdict_lines};
 ghost use Rattle.pg_program.specs.Told.{WritesOut};
 
 use crate::fault::Fault;
@@ -28,7 +28,7 @@ pub(crate) fn serve<W: Sink, D: System>(
     writer: &mut W,
     system: &mut D,
 ) -> Result<Served, Fault>
-    ensures { IsServed D.served result }
+    ensures { ServiceEnds D.served result }
 {
     let Offer {
         nodes,

@@ -7,7 +7,7 @@ ghost use Rattle.clap.specs.declared.builder.Command.TheViews.{out-Command};
 ghost use Rattle.pg_program.specs.CommandLine.{name_rule, bytes_line, script_line, flag_rule, file_rule, number_rule};
 ghost use Rattle.pg_program.specs.CommandLine.{cluster_line, threads_line, names_rule, served_line, serve_line};
 ghost use Rattle.pg_program.specs.CommandLine.{explored_line, explore_line, top_line, command_line, given_name};
-ghost use Rattle.pg_program.specs.CommandLine.{is_flag, AsksAids, AsksOffer, AsksQuest, AsksTalk, GivesNumber, IsAsked};
+ghost use Rattle.pg_program.specs.CommandLine.{is_flag, AsksAids, AsksOffer, AsksQuest, AsksTalk, GivesNumber, AsksFor};
 
 use crate::help::{
     ABOUT, BYTES_ABOUT, CLIENTS_HELP, COMMANDS_HELP, DIAGRAM_HELP, DIFFERING_HELP, EXPLORE_ABOUT,
@@ -86,7 +86,7 @@ pub(crate) struct Aids<'a> {
 ///
 /// Error: that of `clap`, with its text: refused words, and a request for help; of the kind `OutOfMemory` where there is no memory.
 pub(crate) fn read_words<'a>(alloc: Global, words: &'a [String]) -> Result<Task<'a>, Error>
-    ensures asked { IfOk result (IsAsked (subcommand_of command_line (map string_bytes words.entry.now))) }
+    ensures asked { IfOk result (AsksFor (subcommand_of command_line (map string_bytes words.entry.now))) }
     ensures refused { FailsBy (fault_of command_line (map string_bytes words.entry.now)) result }
 {
     let command = command(alloc)?;
@@ -98,7 +98,7 @@ pub(crate) fn read_words<'a>(alloc: Global, words: &'a [String]) -> Result<Task<
 
 /// What the matches ask for.
 fn task_of<'a>(alloc: Global, matches: &ArgMatches<'a>) -> Result<Task<'a>, AllocError>
-    ensures { IfOk result (IsAsked (subcommand_rows_of matches.now)) }
+    ensures { IfOk result (AsksFor (subcommand_rows_of matches.now)) }
 {
     match matches.subcommand() {
         Some(("bytes", names)) => Ok(Task::Bytes {

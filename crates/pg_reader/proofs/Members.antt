@@ -18,7 +18,7 @@ use Rattle.pg_message.specs.Members.{HasFewMembers, IsShort}
 use Rattle.pg_message.specs.Name.{is_name}
 use Rattle.pg_message.specs.Parts.{tuple_in, elements_of, list_in, items_of, is_word, atom_of, reference_of, pid_of}
 use Rattle.pg_message.specs.Reading.{Groups, request_of, said_of, all_of, group_in, group_of, is_named_once}
-use Rattle.pg_message.specs.Reading.{named_once, groups_of, freed, exchanged, cast_in, cast_of, referred}
+use Rattle.pg_message.specs.Reading.{named_once, groups_of, freed, read_exchange, cast_in, cast_of, referred}
 use Rattle.pg_message.specs.Reading.{unreferred, message_in, message_of, stamp_of, stamped, packet_in, SpellsPacket}
 
 -- ---- what an answer comes from
@@ -106,7 +106,7 @@ module _ (limit : ℕ) (m : Message) where
   other : {A : Type 0} (f : A → Message) (o : Option A) → ((x : A) → IsShort limit (f x)) → option_map f o ≡ Some m → IsShort limit m
   other f o short e = mapped f o m e (λ x is same. subst (IsShort limit) same (short x))
 
-  exchange_short : (node groups : Term) → weight groups ≤ limit → exchanged node groups ≡ Some m → IsShort limit m
+  exchange_short : (node groups : Term) → weight groups ≤ limit → read_exchange node groups ≡ Some m → IsShort limit m
   exchange_short node groups h e =
       option_and_then_some (λ node. option_map (Exchange node) (groups_of groups)) (atom_of node) m e (λ a is e.
       mapped (Exchange a) (groups_of groups) m e (λ gs found same.
@@ -121,8 +121,8 @@ module _ (limit : ℕ) (m : Message) where
   cast_in_short (w ∷ t ∷ []) h e = absurd cc
   cast_in_short (w ∷ t ∷ u ∷ v ∷ ts) h e = absurd cc
   cast_in_short (w ∷ t ∷ u ∷ []) h e =
-      either (is_word w (codes "del_lock")) (freed t u) (cond (is_word w (codes "exchange")) (exchanged t u) None) (Some m) e (freed_short t u) (λ e.
-      only (is_word w (codes "exchange")) (exchanged t u) m e (exchange_short t u (omega arith)))
+      either (is_word w (codes "del_lock")) (freed t u) (cond (is_word w (codes "exchange")) (read_exchange t u) None) (Some m) e (freed_short t u) (λ e.
+      only (is_word w (codes "exchange")) (read_exchange t u) m e (exchange_short t u (omega arith)))
 
   cast_short : (t : Term) → weight t ≤ limit → cast_of t ≡ Some m → IsShort limit m
   cast_short t h e = option_and_then_some cast_in (elements_of t) m e (λ ts is. cast_in_short ts (omega (arith, elements_light t ts is)))

@@ -9,7 +9,7 @@ use Rattle.pg_term_io.specs.Reading.{Read, ◌>>=◌, readers, item_behind, elem
 use Rattle.pg_term_io.specs.Reading.{list_at, items_at, item_at, tail_at, with_front}
 use Rattle.pg_term_io.proofs.Again.{word_again}
 use Rattle.pg_term_io.proofs.Loop.{goes_on, is_done}
-use Rattle.pg_reader.specs.Standing.{Stands, Counts}
+use Rattle.pg_reader.specs.Standing.{Stands, IsListHead}
 use Rattle.pg_reader.proofs.Standing.{more_items, no_items}
 
 module _ {A : Type 0} (make : A → Term) (read : List ℕ → Read Term) (count : ℕ) where
@@ -34,7 +34,7 @@ module _ (room : ℕ) where
   unfolding readers item_behind elements_behind
   nil_stands bytes rest e = ap (item_at (suc room)) e
 
-  pub list_stands : (ts : List Term) (count : ℕ) (bytes mid end rest : List ℕ) → Counts count bytes mid → items_at (item_at (suc room)) count mid ≡ Ok (ts, end) → end ≡ 106 ∷ rest → Stands (suc room) (Listed ts) bytes rest
+  pub list_stands : (ts : List Term) (count : ℕ) (bytes mid end rest : List ℕ) → IsListHead count bytes mid → items_at (item_at (suc room)) count mid ≡ Ok (ts, end) → end ≡ 106 ∷ rest → Stands (suc room) (Listed ts) bytes rest
   unfolding readers item_behind elements_behind list_at
   list_stands ts count bytes mid end rest head h e =
       let tail : List Term × List ℕ → Read (List Term) = λ items. tail_at (suc room) items.1 >>= λ tail. Ok (items.0 ++ tail.0, tail.1) in
@@ -49,5 +49,5 @@ module _ (room : ℕ) where
   pub pair_listed : (a b : Term) (bytes mid then end rest : List ℕ) → bytes ≡ 108 ∷ 0 ∷ 0 ∷ 0 ∷ 2 ∷ mid → Stands room a mid then → Stands room b then end → end ≡ 106 ∷ rest → Stands (suc room) (Listed (a ∷ b ∷ [])) bytes rest
   pair_listed a b bytes mid then end rest e h k l =
       let read = item_at (suc room) in
-      let two : Counts 2 bytes mid = record { behind = 0 ∷ 0 ∷ 0 ∷ 2 ∷ mid; head = e; count_first = word_again 2 mid (omega arith) } in
+      let two : IsListHead 2 bytes mid = record { behind = 0 ∷ 0 ∷ 0 ∷ 2 ∷ mid; head = e; count_first = word_again 2 mid (omega arith) } in
       list_stands (a ∷ b ∷ []) 2 bytes mid end rest two (more_items read 1 a (b ∷ []) mid then end h (more_items read 0 b [] then end end k (no_items read end))) l

@@ -21,7 +21,7 @@ use Rattle.pg_message.specs.declared.packet.Packet.{Packet}
 use Rattle.pg_message.specs.declared.packet.TheConstants.{MAX_STAMP}
 use Rattle.pg_message.specs.declared.fault.MessageFault.TheVariants as faults
 use Rattle.pg_message.specs.Reading.{spelled, packet_spelled}
-use Rattle.pg_reader.specs.Standing.{Stands, Opens}
+use Rattle.pg_reader.specs.Standing.{Stands, IsTupleHead}
 use Rattle.pg_message.specs.Writing.{pair, triple, message_term, term_of_packet, is_plain, is_sayable}
 use Rattle.pg_message.proofs.ReadBack.{read_back}
 use Rattle.pg_message.proofs.Words.{plain_text}
@@ -56,11 +56,11 @@ module _ (room : ℕ) where
 
   module _ (w bytes mid : List ℕ) where
     -- {Word, A}
-    pub pair_stands : (a : Term) (rest : List ℕ) → Opens 2 w bytes mid → Stands room a mid rest → Stands (suc room) (pair (Atom w) a) bytes rest
+    pub pair_stands : (a : Term) (rest : List ℕ) → IsTupleHead 2 w bytes mid → Stands room a mid rest → Stands (suc room) (pair (Atom w) a) bytes rest
     pair_stands a rest o h = ap (item_at (suc (suc room))) o.head ∙ two_stand (Atom w) a o.behind mid rest (o.word_first room) h
 
     -- {Word, A, B}
-    pub triple_stands : (a b : Term) (then rest : List ℕ) → Opens 3 w bytes mid → Stands room a mid then → Stands room b then rest → Stands (suc room) (triple (Atom w) a b) bytes rest
+    pub triple_stands : (a b : Term) (then rest : List ℕ) → IsTupleHead 3 w bytes mid → Stands room a mid then → Stands room b then rest → Stands (suc room) (triple (Atom w) a b) bytes rest
     triple_stands a b then rest o h k = ap (item_at (suc (suc room))) o.head ∙ three_stand (Atom w) a b o.behind mid then rest (o.word_first room) h k
 
   module _ (bytes mid : List ℕ) where

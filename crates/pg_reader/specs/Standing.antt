@@ -13,13 +13,13 @@ abbrev pub Stands : ℕ → Term → List ℕ → List ℕ → Type 0
 Stands room t bytes rest = item_at (suc room) bytes ≡ Ok (t, rest)
 
 -- the head of a tuple of so many elements, less than 256, this word, and then the rest
-pub record Opens (arity : ℕ) (word bytes rest : List ℕ) : Type 0 where
+pub record IsTupleHead (arity : ℕ) (word bytes rest : List ℕ) : Type 0 where
   pub behind : List ℕ
   pub head : bytes ≡ 104 ∷ arity ∷ behind
   pub word_first : (room : ℕ) → Stands room (Atom word) behind rest
 
 -- the head of a list of so many elements, and then the rest
-pub record Counts (count : ℕ) (bytes rest : List ℕ) : Type 0 where
+pub record IsListHead (count : ℕ) (bytes rest : List ℕ) : Type 0 where
   pub behind : List ℕ
   pub head : bytes ≡ 108 ∷ behind
   pub count_first : number_at w32 behind ≡ Ok (count, rest)

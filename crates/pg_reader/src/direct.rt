@@ -7,7 +7,7 @@ ghost use Rattle.pg_term.specs.declared.term.Term.TheVariants as terms;
 ghost use Rattle.pg_term_io.specs.Reading.{item_at};
 ghost use Rattle.pg_message.specs.Name.{is_name};
 ghost use Rattle.pg_message.specs.Reading.{packet_spelled};
-ghost use Rattle.pg_reader.specs.Standing.{Stands, Opens, word_bytes, said_bytes};
+ghost use Rattle.pg_reader.specs.Standing.{Stands, IsTupleHead, word_bytes, said_bytes};
 ghost use Rattle.pg_message.specs.Writing.{message_term, request_term, said_term, is_plain, is_sayable};
 ghost use Rattle.pg_message.specs.declared.message.Message.TheVariants as messages;
 
@@ -102,7 +102,7 @@ fn word_at<'a>(bytes: &'a [u8], word: &str) -> Result<&'a [u8], Detour>
 pub(crate) fn opened<'a>(bytes: &'a [u8], arity: u8, word: &str) -> Result<&'a [u8], Detour>
     requires plain { is_plain word.now ≡ true }
     requires few { length word.now ≤ 255 }
-    ensures opens { IfOk result (λ rest. Opens arity word.now bytes.now rest.now) }
+    ensures opens { IfOk result (λ rest. IsTupleHead arity word.now bytes.now rest.now) }
     ensures found { IfOk result (λ rest. bytes.now ≡ 104 ∷ arity ∷ word_bytes word.now ++ rest.now) }
     ensures all { (rest : List ℕ) → bytes.now ≡ 104 ∷ arity ∷ word_bytes word.now ++ rest → IsOk result }
 {
@@ -228,7 +228,7 @@ fn message_at(alloc: Global, bytes: &[u8]) -> Result<(Message, &[u8]), Detour>
 // Ref, Request}
 #[inline]
 fn call_at(alloc: Global, bytes: &[u8]) -> Result<(Message, &[u8]), Detour>
-    ensures term { (front : List ℕ) → Opens 3 (codes "call") front bytes.now → IfOk result (λ x.
+    ensures term { (front : List ℕ) → IsTupleHead 3 (codes "call") front bytes.now → IfOk result (λ x.
         Stands 62 (message_term x.0) front x.1.now) }
     ensures sayable { IfOk result (λ x. is_sayable x.0 ≡ true) }
 {
@@ -240,7 +240,7 @@ fn call_at(alloc: Global, bytes: &[u8]) -> Result<(Message, &[u8]), Detour>
 // Ref, Said}
 #[inline]
 fn reply_at(alloc: Global, bytes: &[u8]) -> Result<(Message, &[u8]), Detour>
-    ensures term { (front : List ℕ) → Opens 3 (codes "reply") front bytes.now → IfOk result (λ x.
+    ensures term { (front : List ℕ) → IsTupleHead 3 (codes "reply") front bytes.now → IfOk result (λ x.
         Stands 62 (message_term x.0) front x.1.now) }
     ensures sayable { IfOk result (λ x. is_sayable x.0 ≡ true) }
 {
@@ -251,7 +251,7 @@ fn reply_at(alloc: Global, bytes: &[u8]) -> Result<(Message, &[u8]), Detour>
 
 // {del_lock, Name, Ref}} or {exchange, Node, Groups}}
 fn cast_at(alloc: Global, bytes: &[u8]) -> Result<(Message, &[u8]), Detour>
-    ensures term { (front : List ℕ) → Opens 2 (codes "cast") front bytes.now → IfOk result (λ x.
+    ensures term { (front : List ℕ) → IsTupleHead 2 (codes "cast") front bytes.now → IfOk result (λ x.
         Stands 62 (message_term x.0) front x.1.now) }
     ensures sayable { IfOk result (λ x. is_sayable x.0 ≡ true) }
 {
@@ -264,8 +264,8 @@ fn cast_at(alloc: Global, bytes: &[u8]) -> Result<(Message, &[u8]), Detour>
 
 // Name, Ref}}
 fn del_lock_at(alloc: Global, bytes: &[u8]) -> Result<(Message, &[u8]), Detour>
-    ensures term { (front inner : List ℕ) → Opens 2 (codes "cast") front inner
-        → Opens 3 (codes "del_lock") inner bytes.now → IfOk result (λ x.
+    ensures term { (front inner : List ℕ) → IsTupleHead 2 (codes "cast") front inner
+        → IsTupleHead 3 (codes "del_lock") inner bytes.now → IfOk result (λ x.
         Stands 62 (message_term x.0) front x.1.now) }
     ensures sayable { IfOk result (λ x. is_sayable x.0 ≡ true) }
 {
@@ -281,8 +281,8 @@ fn del_lock_at(alloc: Global, bytes: &[u8]) -> Result<(Message, &[u8]), Detour>
 
 // Node, Groups}}
 fn exchange_at(alloc: Global, bytes: &[u8]) -> Result<(Message, &[u8]), Detour>
-    ensures term { (front inner : List ℕ) → Opens 2 (codes "cast") front inner
-        → Opens 3 (codes "exchange") inner bytes.now → IfOk result (λ x.
+    ensures term { (front inner : List ℕ) → IsTupleHead 2 (codes "cast") front inner
+        → IsTupleHead 3 (codes "exchange") inner bytes.now → IfOk result (λ x.
         Stands 62 (message_term x.0) front x.1.now) }
     ensures sayable { IfOk result (λ x. is_sayable x.0 ≡ true) }
 {
@@ -295,7 +295,7 @@ fn exchange_at(alloc: Global, bytes: &[u8]) -> Result<(Message, &[u8]), Detour>
 // Pid}
 #[inline]
 fn down_at(alloc: Global, bytes: &[u8]) -> Result<(Message, &[u8]), Detour>
-    ensures term { (front : List ℕ) → Opens 2 (codes "down") front bytes.now → IfOk result (λ x.
+    ensures term { (front : List ℕ) → IsTupleHead 2 (codes "down") front bytes.now → IfOk result (λ x.
         Stands 62 (message_term x.0) front x.1.now) }
     ensures sayable { IfOk result (λ x. is_sayable x.0 ≡ true) }
 {
@@ -339,7 +339,7 @@ fn named_pid_at(alloc: Global, bytes: &[u8]) -> Result<(Term, Pid, &[u8]), Detou
 // Name, Pid}
 #[inline]
 fn join_at(alloc: Global, bytes: &[u8]) -> Result<(Request, &[u8]), Detour>
-    ensures term { (front : List ℕ) → Opens 3 (codes "join") front bytes.now → IfOk result (λ x.
+    ensures term { (front : List ℕ) → IsTupleHead 3 (codes "join") front bytes.now → IfOk result (λ x.
         Stands 61 (request_term x.0) front x.1.now) }
     ensures sayable { (reference : RefParts) → IfOk result (λ x.
         is_sayable (messages.Call reference x.0) ≡ true) }
@@ -351,7 +351,7 @@ fn join_at(alloc: Global, bytes: &[u8]) -> Result<(Request, &[u8]), Detour>
 // Name, Pid}
 #[inline]
 fn leave_at(alloc: Global, bytes: &[u8]) -> Result<(Request, &[u8]), Detour>
-    ensures term { (front : List ℕ) → Opens 3 (codes "leave") front bytes.now → IfOk result (λ x.
+    ensures term { (front : List ℕ) → IsTupleHead 3 (codes "leave") front bytes.now → IfOk result (λ x.
         Stands 61 (request_term x.0) front x.1.now) }
     ensures sayable { (reference : RefParts) → IfOk result (λ x.
         is_sayable (messages.Call reference x.0) ≡ true) }
@@ -363,7 +363,7 @@ fn leave_at(alloc: Global, bytes: &[u8]) -> Result<(Request, &[u8]), Detour>
 // Name}
 #[inline]
 fn create_at(alloc: Global, bytes: &[u8]) -> Result<(Request, &[u8]), Detour>
-    ensures term { (front : List ℕ) → Opens 2 (codes "create") front bytes.now → IfOk result (λ x.
+    ensures term { (front : List ℕ) → IsTupleHead 2 (codes "create") front bytes.now → IfOk result (λ x.
         Stands 61 (request_term x.0) front x.1.now) }
     ensures sayable { (reference : RefParts) → IfOk result (λ x.
         is_sayable (messages.Call reference x.0) ≡ true) }
@@ -375,7 +375,7 @@ fn create_at(alloc: Global, bytes: &[u8]) -> Result<(Request, &[u8]), Detour>
 // Name}
 #[inline]
 fn delete_at(alloc: Global, bytes: &[u8]) -> Result<(Request, &[u8]), Detour>
-    ensures term { (front : List ℕ) → Opens 2 (codes "delete") front bytes.now → IfOk result (λ x.
+    ensures term { (front : List ℕ) → IsTupleHead 2 (codes "delete") front bytes.now → IfOk result (λ x.
         Stands 61 (request_term x.0) front x.1.now) }
     ensures sayable { (reference : RefParts) → IfOk result (λ x.
         is_sayable (messages.Call reference x.0) ≡ true) }
@@ -387,7 +387,7 @@ fn delete_at(alloc: Global, bytes: &[u8]) -> Result<(Request, &[u8]), Detour>
 // Name}
 #[inline]
 fn set_lock_at(alloc: Global, bytes: &[u8]) -> Result<(Request, &[u8]), Detour>
-    ensures term { (front : List ℕ) → Opens 2 (codes "set_lock") front bytes.now → IfOk result (λ x.
+    ensures term { (front : List ℕ) → IsTupleHead 2 (codes "set_lock") front bytes.now → IfOk result (λ x.
         Stands 61 (request_term x.0) front x.1.now) }
     ensures sayable { (reference : RefParts) → IfOk result (λ x.
         is_sayable (messages.Call reference x.0) ≡ true) }

@@ -9,7 +9,7 @@ ghost use Rattle.pg_message.specs.Members.{IsShort};
 ghost use Rattle.pg_message.specs.Name.{is_name};
 ghost use Rattle.pg_message.specs.Parts.{pid_of};
 ghost use Rattle.pg_message.specs.Reading.{stamp_of, message_in, message_of, unreferred, referred, cast_in, cast_of};
-ghost use Rattle.pg_message.specs.Reading.{freed, exchanged, request_in, request_of, request_on, membership_of};
+ghost use Rattle.pg_message.specs.Reading.{freed, read_exchange, request_in, request_of, request_on, membership_of};
 ghost use Rattle.pg_message.specs.Reading.{said_of, stamped, packet_in, packet_of, packet_spelled, SpellsPacket};
 ghost use Rattle.pg_message.specs.declared.packet.Packet.{Packet};
 
@@ -274,7 +274,7 @@ fn freed(name: Term, second: Term) -> Option<Message>
 
 // {exchange, Node, Groups}
 fn exchanged(alloc: Global, first: Term, second: Term) -> Result<Option<Message>, AllocError>
-    ensures { IfOk result (λ message. message ≡ exchanged first second) }
+    ensures { IfOk result (λ message. message ≡ read_exchange first second) }
 {
     let Some(node) = atom(first) else {
         drop(second);

@@ -13,13 +13,13 @@ use Rattle.pg_replica.specs.declared.fault.ServeFault.{ServeFault}
 use Rattle.pg_message.specs.declared.fault.MessageFault.TheVariants.{Term, NotAMessage, StampTooLarge, NameTooLarge}
 use Rattle.pg_replica.specs.declared.fault.ServeFault.TheVariants.{Message, FrameTooLong, ClockFull}
 use Rattle.pg_replica.specs.declared.fault.ServeFault.TheVariants.{ReadFault, WriteFault}
-use Rattle.pg_replica.specs.Progress.{Progress, Refused, StopsAt}
+use Rattle.pg_replica.specs.Progress.{HasServed, Refused, StopsAt}
 use Rattle.pg_replica.specs.Replica.{Pair, State, Answer, Run, answered, start, replica_run, goes_on}
 use Rattle.pg_replica.specs.Replica.{frames_of, served, rest_fault, first_fault, WroteFor}
 use Rattle.pg_replica.proofs.Streams.{run_append, frames_append, appends_then, appends_kept}
 
 -- the whole input is what came in so far, and a rest
-module _ (pair : Pair) (all rest unread : List ℕ) (s : State) (v w : Option (List ℕ)) (p : Progress pair all unread start s v w) where
+module _ (pair : Pair) (all rest unread : List ℕ) (s : State) (v w : Option (List ℕ)) (p : HasServed pair all unread start s v w) where
   abbrev more : Run
   more = replica_run pair s (bodies_of (unread ++ rest))
 
@@ -136,7 +136,7 @@ module _ (pair : Pair) (all rest unread : List ℕ) (s : State) (v w : Option (L
   ended WriteFault x (inr h) = record { output = frames_of p.replies; wrote = written x h; is = (frames_of more.replies, with_more) }
 
 -- the input is over
-module _ (pair : Pair) (all unread : List ℕ) (s : State) (v w : Option (List ℕ)) (p : Progress pair all unread start s v w) (front : front_of unread ≡ Ok None) where
+module _ (pair : Pair) (all unread : List ℕ) (s : State) (v w : Option (List ℕ)) (p : HasServed pair all unread start s v w) (front : front_of unread ≡ Ok None) where
   waits : (p.bodies ≡ bodies_of all) × (unread ≡ rest_of all)
   waits = let h = loop_keeps.waits all unread p.bodies p.leaves front in (h.0, h.1)
 

@@ -22,7 +22,7 @@ use Rattle.pg_step.specs.declared.refusal.Refusal.{Refusal}
 use Rattle.pg_step.specs.declared.refusal.Refusal.TheVariants as refusals
 use Rattle.pg_replica.specs.Fault.{out_of_memory, Refuses}
 use Rattle.pg_node_state.specs.States.{stamped_of}
-use Rattle.pg_replica.specs.Progress.{CutShort, Progress, ReadsSome, Serving, Stops, StopsAt}
+use Rattle.pg_replica.specs.Progress.{CutShort, HasServed, ReadsSome, Serving, Stops, StopsAt}
 use Rattle.pg_replica.specs.Replica.{Pair, State, Run, nodes_of, answered, taken_in}
 use Rattle.pg_replica.specs.Replica.{turned, start, Serves, served, frames_of, WroteFor}
 use Rattle.pg_replica.proofs.Streams.{appends_then, appends_kept, stay, onward, fed, kept, known_kept}
@@ -52,7 +52,7 @@ at_start pair P r w unread s gave none first = record {
   pieces = [];
   gave = gave;
   consumed = consumes_none r;
-  progress = subst (λ (u : List ℕ). Progress pair [] u start s w w) (sym none) (subst (λ (t : State). Progress pair [] [] start t w w) (sym first) (stay pair [] start w));
+  progress = subst (λ (u : List ℕ). HasServed pair [] u start s w w) (sym none) (subst (λ (t : State). HasServed pair [] [] start t w w) (sym first) (stay pair [] start w));
   front = subst (λ (u : List ℕ). front_of u ≡ Ok None) (sym none) written_is_read.nothing.0;
 }
 
@@ -73,10 +73,10 @@ module _ (pair : Pair) (P : List (List ℕ) → Type 0) (r0 r1 : Option (List �
     consumed : Consumes r0 r2 all
     consumed = consumes_then r0 r1 r2 input got.piece v.consumed got.consumed
 
-    came : Progress pair all unread1 start s out0 out1
-    came = subst (λ (u : List ℕ). Progress pair all u start s out0 out1) (sym got.fed) (fed pair input unread got.piece start s out0 out1 v.progress)
+    came : HasServed pair all unread1 start s out0 out1
+    came = subst (λ (u : List ℕ). HasServed pair all u start s out0 out1) (sym got.fed) (fed pair input unread got.piece start s out0 out1 v.progress)
 
-    pub goes_on : (N : List (List ℕ) → Type 0) → N (got.piece ∷ v.pieces) → (unread2 : List ℕ) (t : State) (out2 out3 : Option (List ℕ)) → Progress pair unread1 unread2 s t out1 out2 → front_of unread2 ≡ Ok None → Keeps out2 out3 → Serving pair N r0 r2 unread2 t out0 out3
+    pub goes_on : (N : List (List ℕ) → Type 0) → N (got.piece ∷ v.pieces) → (unread2 : List ℕ) (t : State) (out2 out3 : Option (List ℕ)) → HasServed pair unread1 unread2 s t out1 out2 → front_of unread2 ≡ Ok None → Keeps out2 out3 → Serving pair N r0 r2 unread2 t out0 out3
     goes_on N gave unread2 t out2 out3 p front k = record {
       pieces = got.piece ∷ v.pieces;
       gave = gave;

@@ -9,7 +9,7 @@ use Rattle.pg_message.specs.declared.fault.MessageFault.TheVariants.{Term, NotAM
 use Rattle.pg_replica.specs.declared.fault.ServeFault.TheVariants.{Message, FrameTooLong, ClockFull}
 use Rattle.pg_replica.specs.declared.fault.ServeFault.TheVariants.{ReadFault, WriteFault}
 use Rattle.pg_replica.specs.Fault.{Refuses}
-use Rattle.pg_replica.specs.Progress.{Progress, StopsAt}
+use Rattle.pg_replica.specs.Progress.{HasServed, StopsAt}
 use Rattle.pg_term.specs.declared.fault.TermFault.TheVariants.{Truncated, BadVersion, UnknownTag, TooDeep}
 use Rattle.pg_term.specs.declared.fault.TermFault.TheVariants.{IntegerTooLarge, BadAtom, ImproperList}
 use Rattle.pg_term.specs.declared.fault.TermFault.TheVariants.{BadReference, TrailingBytes, OutOfMemory, TooLong}
@@ -67,10 +67,10 @@ frames_append (x ∷ xs) ys = ap (λ (b : List ℕ). frame x ++ b) (frames_appen
 
 -- ---- progress
 
-pub stay : (pair : Pair) (unread : List ℕ) (s : State) (w : Option (List ℕ)) → Progress pair unread unread s s w w
+pub stay : (pair : Pair) (unread : List ℕ) (s : State) (w : Option (List ℕ)) → HasServed pair unread unread s s w w
 stay pair unread s w = record { bodies = []; replies = []; leaves = loop_keeps.start unread; ran = refl; wrote = appends_none w }
 
-pub onward : (pair : Pair) (a b c : List ℕ) (s t u : State) (v w x : Option (List ℕ)) → Progress pair a b s t v w → Progress pair b c t u w x → Progress pair a c s u v x
+pub onward : (pair : Pair) (a b c : List ℕ) (s t u : State) (v w x : Option (List ℕ)) → HasServed pair a b s t v w → HasServed pair b c t u w x → HasServed pair a c s u v x
 onward pair a b c s t u v w x p q = record {
   bodies = p.bodies ++ q.bodies;
   replies = p.replies ++ q.replies;
@@ -83,7 +83,7 @@ onward pair a b c s t u v w x p q = record {
 }
 
 -- one body is answered
-pub one : (pair : Pair) (unread body : List ℕ) (s t : State) (v w : Option (List ℕ)) (output : List ℕ) → front_of unread ≡ Ok (Some body) → AnswersServed (answered pair s body) t [] output → Appends v w output → Progress pair unread (after_front unread) s t v w
+pub one : (pair : Pair) (unread body : List ℕ) (s t : State) (v w : Option (List ℕ)) (output : List ℕ) → front_of unread ≡ Ok (Some body) → AnswersServed (answered pair s body) t [] output → Appends v w output → HasServed pair unread (after_front unread) s t v w
 one pair unread body s t v w output front a wrote = record {
   bodies = body ∷ [];
   replies = a.sent ++ [];
@@ -93,11 +93,11 @@ one pair unread body s t v w output front a wrote = record {
 }
 
 -- more bytes come in
-pub fed : (pair : Pair) (all unread piece : List ℕ) (s t : State) (v w : Option (List ℕ)) → Progress pair all unread s t v w → Progress pair (all ++ piece) (unread ++ piece) s t v w
+pub fed : (pair : Pair) (all unread piece : List ℕ) (s t : State) (v w : Option (List ℕ)) → HasServed pair all unread s t v w → HasServed pair (all ++ piece) (unread ++ piece) s t v w
 fed pair all unread piece s t v w p = record { bodies = p.bodies; replies = p.replies; leaves = loop_keeps.feeds all unread piece p.bodies p.leaves; ran = p.ran; wrote = p.wrote }
 
 -- the output stays as it is
-pub kept : (pair : Pair) (all unread : List ℕ) (s t : State) (v w x : Option (List ℕ)) → Progress pair all unread s t v w → Keeps w x → Progress pair all unread s t v x
+pub kept : (pair : Pair) (all unread : List ℕ) (s t : State) (v w x : Option (List ℕ)) → HasServed pair all unread s t v w → Keeps w x → HasServed pair all unread s t v x
 kept pair all unread s t v w x p q = record { bodies = p.bodies; replies = p.replies; leaves = p.leaves; ran = p.ran; wrote = appends_kept v w x (frames_of p.replies) p.wrote q }
 
 -- ---- faults

@@ -10,7 +10,7 @@ use Rattle.pg_replica.specs.Causes.{joined}
 use Rattle.pg_replica.specs.Replica.{Pair, State, Answer, answered, replica_run, start, frames_of}
 
 -- some bodies were taken and answered, and their replies written
-pub record Progress (pair : Pair) (unread0 unread1 : List ℕ) (s0 s1 : State) (out0 out1 : Option (List ℕ)) : Type 0 where
+pub record HasServed (pair : Pair) (unread0 unread1 : List ℕ) (s0 s1 : State) (out0 out1 : Option (List ℕ)) : Type 0 where
   pub bodies : List (List ℕ)
   pub replies : List (List ℕ)
   pub leaves : Leaves unread0 bodies unread1
@@ -48,7 +48,7 @@ pub record Stops (pair : Pair) (fault : ServeFault) (unread0 : List ℕ) (s0 : S
   pub unread : List ℕ
   pub state : State
   pub written : Option (List ℕ)
-  pub progress : Progress pair unread0 unread s0 state out0 written
+  pub progress : HasServed pair unread0 unread s0 state out0 written
   pub stops : StopsAt pair fault unread state written out1
 
 -- the next piece, of which P says how it was read, came in, or the input was over
@@ -66,5 +66,5 @@ pub record Serving (pair : Pair) (P : List (List ℕ) → Type 0) (r0 r1 : Optio
   pub pieces : List (List ℕ)
   pub gave : P pieces
   pub consumed : Consumes r0 r1 (joined pieces)
-  pub progress : Progress pair (joined pieces) unread start s out0 out1
+  pub progress : HasServed pair (joined pieces) unread start s out0 out1
   pub front : front_of unread ≡ Ok None

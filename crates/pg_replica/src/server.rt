@@ -7,7 +7,7 @@ ghost use Rattle.pg_replica.specs.Fault.{out_of_memory};
 ghost use Rattle.pg_replica.specs.Replica.{start, pair_of, Serves};
 ghost use Rattle.pg_node_state.specs.States.{names_of, state_of};
 ghost use Rattle.pg_term.specs.Same.{same_atom};
-ghost use Rattle.pg_replica.specs.Progress.{Progress, ReadsSome, StopsAt, Stops};
+ghost use Rattle.pg_replica.specs.Progress.{HasServed, ReadsSome, StopsAt, Stops};
 ghost use Rattle.pg_replica.specs.declared.fault.ServeFault.TheVariants.{Message, ReadFault, WriteFault};
 ghost use Rattle.pg_message.specs.declared.fault.MessageFault.TheVariants.{Term};
 ghost use Rattle.pg_term.specs.declared.fault.TermFault.TheVariants.{Truncated};
@@ -64,7 +64,7 @@ struct Server<T: GroupTable> {
 impl<T: GroupTable + Drop> Server<T> {
     /// Answers the next packet, if it is there: its reply is written whole before the packet is taken away.
     fn answer_next<W: Sink>(&mut self, writer: &mut W) -> Result<bool, ServeFault>
-        ensures progress { OnOk result (Progress (pair_of self.old.node) self.old.deframer.unread
+        ensures progress { OnOk result (HasServed (pair_of self.old.node) self.old.deframer.unread
             self.new.deframer.unread
             (state_of self.old.node) (state_of self.new.node)
             (W.contents writer.old) (W.contents writer.new)) }
@@ -91,7 +91,7 @@ impl<T: GroupTable + Drop> Server<T> {
 
     /// Answers all packets that are there.
     fn answer_all<W: Sink>(&mut self, writer: &mut W) -> Result<(), ServeFault>
-        ensures progress { OnOk result (Progress (pair_of self.old.node) self.old.deframer.unread
+        ensures progress { OnOk result (HasServed (pair_of self.old.node) self.old.deframer.unread
             self.new.deframer.unread
             (state_of self.old.node) (state_of self.new.node)
             (W.contents writer.old) (W.contents writer.new)) }

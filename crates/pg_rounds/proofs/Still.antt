@@ -21,7 +21,7 @@ use Rattle.pg_node_state.specs.declared.state.fault.NodeFault.TheVariants.{Damag
 use Rattle.pg_ring.specs.MemRing.{RingBytes, Grows, Loses, HasRoomFor, HasUnread, free_room}
 use Rattle.pg_run.specs.declared.linked.LinkedNode.{LinkedNode}
 use Rattle.pg_run.specs.declared.run.NodeRun.{NodeRun}
-use Rattle.pg_run.specs.Acts.{Act, entry_of}
+use Rattle.pg_run.specs.Acts.{Act, log_entry}
 use Rattle.pg_run.specs.Events.{told_of_peer, TookNext, IsFault}
 use Rattle.pg_run.specs.Follows.{Follows, HasMoved, log_of, node_of, peers_of}
 use Rattle.pg_run.specs.Runs.{linked_of}
@@ -101,15 +101,15 @@ module _ {T : Type 0} {g : Ghosts T} where
 
   parts : (a m n b : LinkedNode T RingBytes RingBytes g) (acts : List Act) → ComesTo Grows Loses a m → Goes acts m n → ComesTo Grows Loses n b → log_of b ≡ log_of a → Parts a m n b acts
   parts a m n b acts (before, f) between (after, h) same =
-      let whole : log_of a ≡ log_of a ++ (map entry_of before ++ (map entry_of acts ++ map entry_of after)) =
-      sym same ∙ (h.log ∙ (ap (λ xs. xs ++ map entry_of after) (between.log ∙ ap (λ xs. xs ++ map entry_of acts) f.log)
-      ∙ (append_assoc (log_of a ++ map entry_of before) (map entry_of acts) (map entry_of after) ∙ append_assoc (log_of a) (map entry_of before) (map entry_of acts ++ map entry_of after)))) in
-      let none = both_none (map entry_of before) (map entry_of acts ++ map entry_of after) (no_more (log_of a) _ whole) in
-      let later = both_none (map entry_of acts) (map entry_of after) none.1 in
+      let whole : log_of a ≡ log_of a ++ (map log_entry before ++ (map log_entry acts ++ map log_entry after)) =
+      sym same ∙ (h.log ∙ (ap (λ xs. xs ++ map log_entry after) (between.log ∙ ap (λ xs. xs ++ map log_entry acts) f.log)
+      ∙ (append_assoc (log_of a ++ map log_entry before) (map log_entry acts) (map log_entry after) ∙ append_assoc (log_of a) (map log_entry before) (map log_entry acts ++ map log_entry after)))) in
+      let none = both_none (map log_entry before) (map log_entry acts ++ map log_entry after) (no_more (log_of a) _ whole) in
+      let later = both_none (map log_entry acts) (map log_entry after) none.1 in
       record {
-        first = subst (λ xs. Goes xs a m) (none_mapped entry_of before none.0) f;
-        none = none_mapped entry_of acts later.0;
-        rest = subst (λ xs. Goes xs n b) (none_mapped entry_of after later.1) h;
+        first = subst (λ xs. Goes xs a m) (none_mapped log_entry before none.0) f;
+        none = none_mapped log_entry acts later.0;
+        rest = subst (λ xs. Goes xs n b) (none_mapped log_entry after later.1) h;
       }
 
   -- a node that nothing happened to
@@ -148,7 +148,7 @@ module _ {T K : Type 0} {g : Ghosts T} (x y : NodeRun T RingBytes RingBytes K g)
   b = linked_of y
 
   all : Goes [] (linked_of x) (linked_of y)
-  all = subst (λ xs. Goes xs (linked_of x) (linked_of y)) (none_mapped entry_of still.came.0 (no_more (log_of (linked_of x)) (map entry_of still.came.0) (sym still.log ∙ still.came.1.log))) still.came.1
+  all = subst (λ xs. Goes xs (linked_of x) (linked_of y)) (none_mapped log_entry still.came.0 (no_more (log_of (linked_of x)) (map log_entry still.came.0) (sym still.log ∙ still.came.1.log))) still.came.1
 
   below : peer < length (peers_of (linked_of x))
   below = subst (λ n. peer < n) all.moved.len counts.there

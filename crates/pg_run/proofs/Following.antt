@@ -8,7 +8,7 @@ use Rattle.pg_node_state.specs.Issued.{ports_of}
 use Rattle.pg_node.specs.Nodes.{held_by, links_of}
 use Rattle.pg_node_state.specs.States.{names_of, state_of, answers_of}
 use Rattle.pg_run.specs.declared.linked.LinkedNode.{LinkedNode}
-use Rattle.pg_run.specs.Acts.{Act, Standing, AllLead, entry_of, frames_taken}
+use Rattle.pg_run.specs.Acts.{Act, Standing, AllLead, log_entry, frames_taken}
 use Rattle.pg_run.specs.Follows.{HaveMoved, Follows, WasMarked, node_of, peers_of, log_of, standing_of}
 use Rattle.pg_run.proofs.Moving.{have_moved_on, peers_kept, taken_join, unmoved}
 use Rattle.pg_step.specs.Nodes.{Node as Name}
@@ -135,7 +135,7 @@ module _ {T L I : Type 0} {g : Ghosts T} (accepts : L → List ℕ → L → Typ
         names = k.names ∙ h.names;
         ports = k.ports ∙ h.ports;
         lead = all_lead_on (names_of (held_by (node_of a))) (ports_of (held_by (node_of a))) (standing_of (node_of a)) first (standing_of (node_of b)) second (standing_of (node_of c)) h.lead lead;
-        log = k.log ∙ (ap (λ w. w ++ map entry_of second) h.log ∙ (append_assoc (log_of a) (map entry_of first) (map entry_of second) ∙ ap (λ w. log_of a ++ w) (sym (map-append entry_of first second))));
+        log = k.log ∙ (ap (λ w. w ++ map log_entry second) h.log ∙ (append_assoc (log_of a) (map log_entry first) (map log_entry second) ∙ ap (λ w. log_of a ++ w) (sym (map-append log_entry first second))));
         moved = have_moved_on accepts gives link_composes inlet_composes first second (links_of (node_of a)) (links_of (node_of b)) (links_of (node_of c)) (peers_of a) (peers_of b) (peers_of c) h.moved k.moved;
         marked = marked_on first second a b c h k lead;
       }

@@ -8,7 +8,7 @@ use Rattle.pg_run.specs.declared.log.NodeEvent.{NodeEvent}
 use Rattle.pg_run.specs.declared.log.NodeEvent.TheVariants as events
 use Rattle.pg_run.specs.declared.notices.Notice.{Notice}
 use Rattle.pg_run.specs.declared.pauses.Pauses.{Pauses}
-use Rattle.pg_run.specs.Acts.{Act, Given, Took, Saw, Did, entry_of, event_of}
+use Rattle.pg_run.specs.Acts.{Act, Given, Took, Saw, Did, log_entry, event_of}
 use Rattle.pg_run.specs.Events.{ActsOnce, Acted, IsOfPeer, TookNext}
 use Rattle.pg_run.specs.Follows.{Follows, log_of}
 use Rattle.pg_run.specs.Logs.{AreOf, LogsOnly, IsTake, IsCommand, LogsLoss, LogsRetry, MayLogRetry}
@@ -60,7 +60,7 @@ module _ {T L I : Type 0} {g : Ghosts T} (accepts : L → List ℕ → L → Typ
   logs_none a b follows = follows.log ∙ append-nil (log_of a)
 
   logs_one : (Wanted : NodeEvent → Type 0) (act : Act) (a b : LinkedNode T L I g) → Follows accepts gives (act ∷ []) a b → Wanted (event_of act.input) → LogsOnly Wanted (log_of a) (log_of b)
-  logs_one Wanted act a b follows wanted = record { more = entry_of act ∷ []; grew = follows.log; each = (wanted, tt) }
+  logs_one Wanted act a b follows wanted = record { more = log_entry act ∷ []; grew = follows.log; each = (wanted, tt) }
 
   pub logs_take : (peer : ℕ) (r : Result Bool NodeFault) (a b : LinkedNode T L I g) → TookNext accepts gives peer r a b → LogsOnly IsTake (log_of a) (log_of b)
   logs_take peer (Ok true) a b took = logs_one IsTake took.act a b took.follows (is_take peer took.act.input took.wanted)

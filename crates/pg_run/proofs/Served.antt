@@ -14,7 +14,7 @@ use Rattle.pg_node.specs.Nodes.{held_by}
 use Rattle.pg_run.specs.declared.port.Asked.{Asked}
 use Rattle.pg_run.specs.declared.port.Port.{Port}
 use Rattle.pg_run.specs.Events.{IsRefusedAs, told_of_action}
-use Rattle.pg_run.specs.Ports.{HandsAll, HandsNoMore, HasLookedIn, IsServed, KeepsSame, asked, asked_kept, handed_count}
+use Rattle.pg_run.specs.Ports.{HandsAll, HandsNoMore, HasLookedIn, IsPortServed, KeepsSame, asked, asked_kept, handed_count}
 use Rattle.pg_run.specs.Served.{AreHanded, AreServed, HandNone, IsHandedAt}
 use Rattle.pg_run.specs.Served.{IsServedAt, LeavesAnswerAt, StayBut, KeepTheSame}
 use Rattle.pg_run.specs.Tries.{IsNoWant}
@@ -28,14 +28,14 @@ use Rattle.pg_step.specs.Turns.{NodeTurn}
 -- ---- one port
 
 -- it keeps nothing, and it was looked for a command
-pub serves_all : (a b : Port) → asked_kept b ≡ [] → (asked_kept a ≡ [] → HasLookedIn a b) → IsServed a b
+pub serves_all : (a b : Port) → asked_kept b ≡ [] → (asked_kept a ≡ [] → HasLookedIn a b) → IsPortServed a b
 serves_all a b none looked = record {
   early = λ next kept. absurd (let e = ap length (sym none ∙ kept) in omega (arith, e));
   looked = looked;
 }
 
 -- it keeps this command
-pub serves_early : (a b : Port) (next : Asked) → asked_kept b ≡ next ∷ [] → handed_count a < next.polled → (asked_kept a ≡ [] → HasLookedIn a b) → IsServed a b
+pub serves_early : (a b : Port) (next : Asked) → asked_kept b ≡ next ∷ [] → handed_count a < next.polled → (asked_kept a ≡ [] → HasLookedIn a b) → IsPortServed a b
 serves_early a b next kept early looked = record {
   early = λ other kept2. subst (λ (o : Asked). handed_count a < o.polled) (first next other (sym kept ∙ kept2)) early;
   looked = looked;
@@ -74,11 +74,11 @@ no_command_refused node place command fault there refused no_want =
 
 -- ---- one of all ports
 
-pub served_at : (ports : List Port) (k place : ℕ) (port port2 : Port) → k ≡ place → k < length ports → port ≡ get_or ports k port → IsServed port port2 → IsServedAt place ports (slice_set ports k port2)
+pub served_at : (ports : List Port) (k place : ℕ) (port port2 : Port) → k ≡ place → k < length ports → port ≡ get_or ports k port → IsPortServed port port2 → IsServedAt place ports (slice_set ports k port2)
 served_at ports k place port port2 same within is served =
     subst (λ j. IsServedAt j ports (slice_set ports k port2)) same (λ none.
-    subst (λ x. IsServed x (get_or (slice_set ports k port2) k none)) (is ∙ get_or_default ports k port none within)
-    (subst (IsServed port) (sym (get_or-set_same ports k port2 none within)) served))
+    subst (λ x. IsPortServed x (get_or (slice_set ports k port2) k none)) (is ∙ get_or_default ports k port none within)
+    (subst (IsPortServed port) (sym (get_or-set_same ports k port2 none within)) served))
 
 pub stay_but : (ports : List Port) (k : ℕ) (port2 : Port) → StayBut k ports (slice_set ports k port2)
 stay_but ports k port2 other none apart = get_or-set_other ports k other port2 none apart
@@ -126,7 +126,7 @@ pub hold_all : (P : ℕ → Port → Port → Type 0) (whole : Bool) (a b : List
 hold_all P whole a b place high below is k low small = below.holds is k (omega (arith, low, high)) small
 
 -- what is kept stays kept
-served_still : (a b c : Port) → IsServed a b → KeepsSame b c → IsServed a c
+served_still : (a b c : Port) → IsPortServed a b → KeepsSame b c → IsPortServed a c
 served_still a b c served same = record {
   early = λ next kept. served.early next (sym same.kept ∙ kept);
   looked = λ none. still (served.looked none);

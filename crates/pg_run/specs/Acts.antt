@@ -93,8 +93,8 @@ event_of (Did (Issue port command)) = events.Command port command
 event_of (Did (Retry op)) = events.Retry op
 
 -- the clock that it set, and the event
-abbrev pub entry_of : Act → ℕ × NodeEvent
-entry_of act = (act.turn.state.clock, event_of act.input)
+abbrev pub log_entry : Act → ℕ × NodeEvent
+log_entry act = (act.turn.state.clock, event_of act.input)
 
 -- ---- their bytes
 

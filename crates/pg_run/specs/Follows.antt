@@ -12,7 +12,7 @@ use Rattle.pg_opens.specs.Places.{name_at, whole_in}
 use Rattle.pg_run.specs.declared.log.NodeEvent.{NodeEvent}
 use Rattle.pg_run.specs.declared.linked.LinkedNode.{LinkedNode}
 use Rattle.pg_run.specs.declared.linked.Peer.{Peer}
-use Rattle.pg_run.specs.Acts.{Act, Saw, Standing, AllLead, entry_of, frames_sent, frames_taken, losses_of}
+use Rattle.pg_run.specs.Acts.{Act, Saw, Standing, AllLead, log_entry, frames_sent, frames_taken, losses_of}
 use Rattle.pg_step.specs.Nodes.{Node as Name}
 
 -- ---- a node as it is seen
@@ -104,7 +104,7 @@ module _ {L I : Type 0} (accepts : L → List ℕ → L → Type 0) (gives : I �
     pub names : names_of (held_by (node_of b)) ≡ names_of (held_by (node_of a))
     pub ports : ports_of (held_by (node_of b)) ≡ ports_of (held_by (node_of a))
     pub lead : AllLead (names_of (held_by (node_of a))) (ports_of (held_by (node_of a))) (standing_of (node_of a)) acts (standing_of (node_of b))
-    pub log : log_of b ≡ log_of a ++ map entry_of acts
+    pub log : log_of b ≡ log_of a ++ map log_entry acts
     pub moved : HaveMoved acts (links_of (node_of a)) (links_of (node_of b)) (peers_of a) (peers_of b)
     pub marked : (place : ℕ) → place < length (peers_of a) → (links_of (node_of b) place).damaged ≡ true
         → ((links_of (node_of a) place).damaged ≡ true)

@@ -38,9 +38,9 @@ IsDueRetry ready pauses pauses2 (events.Retry op) = (is_due (ready op) (wait_of 
 IsDueRetry ready pauses pauses2 (events.SeeLoss peer) = ⊥
 
 -- a loss was seen
-abbrev pub has_seen : Result Bool NodeFault → Bool
-has_seen (Ok seen) = seen
-has_seen (Err fault) = false
+abbrev pub saw_loss : Result Bool NodeFault → Bool
+saw_loss (Ok seen) = seen
+saw_loss (Err fault) = false
 
 -- the loss of a peer is logged
 pub record LogsOneLoss (log log2 : List (ℕ × NodeEvent)) : Type 0 where

@@ -119,7 +119,7 @@ HasLookedIn a b = (commands_left b ≡ []) ⊎ (length (asked a) < length (asked
 
 -- It was served: what it keeps, if anything, is a command whose client had polled more answers than were handed over before; where it
 -- kept none before, one came, or none was found.
-pub record IsServed (a b : Port) : Type 0 where
+pub record IsPortServed (a b : Port) : Type 0 where
   pub early : (next : Asked) → asked_kept b ≡ next ∷ [] → handed_count a < next.polled
   pub looked : asked_kept a ≡ [] → HasLookedIn a b
 

@@ -3,13 +3,13 @@ use Rattle.std.specs.Prelude.{◌≡◌, ◌≢◌, ◌<◌, ◌^◌, ℕ, false
 use Rattle.pg_run.specs.declared.pauses.Pauses.{Pauses}
 use Rattle.pg_run.specs.declared.port.Port.{Port}
 use Rattle.pg_run.specs.Pauses.{wait_of}
-use Rattle.pg_run.specs.Ports.{HandsAll, IsServed, KeepsSame, handed_count, was_handed}
+use Rattle.pg_run.specs.Ports.{HandsAll, IsPortServed, KeepsSame, handed_count, was_handed}
 use Rattle.pg_step.specs.declared.answer.Answer.{Answer}
 use Rattle.pg_step.specs.declared.command.OpId.{OpId}
 
 -- the port at a place was served
 abbrev pub IsServedAt : ℕ → List Port → List Port → Type 0
-IsServedAt place ports ports2 = (none : Port) → IsServed (get_or ports place none) (get_or ports2 place none)
+IsServedAt place ports ports2 = (none : Port) → IsPortServed (get_or ports place none) (get_or ports2 place none)
 
 -- each port was, whose place is the number of a port
 abbrev pub AreServed : List Port → List Port → Type 0

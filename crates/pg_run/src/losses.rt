@@ -65,7 +65,7 @@ impl<T: GroupTable + Drop, L: Link + Drop, I: Inlet + Drop> LinkedNode<T, L, I> 
     ghost use Rattle.pg_run.specs.Acts.{Saw};
     ghost use Rattle.pg_run.specs.Events.{ActsOnce};
     ghost use Rattle.pg_run.specs.Follows.{log_of, node_of, peers_of};
-    ghost use Rattle.pg_run.specs.Logs.{LogsLoss, has_seen};
+    ghost use Rattle.pg_run.specs.Logs.{LogsLoss, saw_loss};
     ghost use Rattle.pg_run.specs.Tries.{CameMore, IsNoWant, IsWant, RefusedLoss};
     ghost use Rattle.pg_run.specs.Tries.{SawDrained as SeesDrained, WasWanting as Wants};
     ghost use Rattle.pg_run.specs.Turns.{SeesOnce};
@@ -77,7 +77,7 @@ impl<T: GroupTable + Drop, L: Link + Drop, I: Inlet + Drop> LinkedNode<T, L, I> 
     fn see_when_taken(&mut self, notice: Notice) -> Result<bool, NodeFault>
         requires place { notice.peer < length (peers_of self.old) }
         ensures sees { SeesOnce L.accepts I.gives notice result self.old self.new }
-        ensures logs { LogsLoss (has_seen result) (log_of self.old) (log_of self.new) }
+        ensures logs { LogsLoss (saw_loss result) (log_of self.old) (log_of self.new) }
         ensures drained { result ≡ Ok true → SeesDrained L.accepts I.gives I.moves self.old self.new }
         ensures more { result ≡ Ok false → CameMore L.accepts I.gives notice.peer self.old self.new }
         ensures refused { IfErr result (λ fault. IsNoWant fault → RefusedLoss L.accepts I.gives notice self.old self.new) }
@@ -104,7 +104,7 @@ impl<T: GroupTable + Drop, L: Link + Drop, I: Inlet + Drop> LinkedNode<T, L, I> 
     fn see(&mut self, notice: Notice) -> Result<bool, NodeFault>
         requires place { notice.peer < length (peers_of self.old) }
         ensures sees { SeesOnce L.accepts I.gives notice result self.old self.new }
-        ensures logs { LogsLoss (has_seen result) (log_of self.old) (log_of self.new) }
+        ensures logs { LogsLoss (saw_loss result) (log_of self.old) (log_of self.new) }
         ensures drained { IfOk result (λ seen. is_drained (links_of (node_of self.old) notice.peer) ≡ true) }
         ensures saw { IfOk result (λ seen. ActsOnce L.accepts I.gives (λ input. input ≡ Saw notice.peer notice.last) self.old self.new) }
         ensures seen { IfOk result (λ seen. seen ≡ true) }

@@ -93,7 +93,7 @@ impl Client {
 
 impl Port {
     ghost use Rattle.pg_run.specs.Ports.{SamePort, ForgetsHanded, Hands, HandsNext, GivesNext, KeepsAll};
-    ghost use Rattle.pg_run.specs.Ports.{KeepsSame, IsServed, asked, handed, asked_kept, handed_count};
+    ghost use Rattle.pg_run.specs.Ports.{KeepsSame, IsPortServed, asked, handed, asked_kept, handed_count};
     ghost use Rattle.pg_run.specs.Ports.{HandsNoMore, HandsAll, HasLookedIn, answers_free, commands_left};
 
     /// The next command, if one is there whose client had polled no more answers than were handed over; else it is
@@ -105,7 +105,7 @@ impl Port {
         ensures some { IfSome result (GivesNext self.old self.new) }
         ensures waited { IfSome result (λ next. next.polled ≤ handed_count self.new) }
         ensures none { IfNone result (KeepsAll self.old self.new) }
-        ensures served { IfNone result (IsServed self.old self.new) }
+        ensures served { IfNone result (IsPortServed self.old self.new) }
         ensures looked { asked_kept self.old ≡ [] → HasLookedIn self.old self.new }
         ensures handed { handed self.new ≡ handed self.old }
         ensures count { handed_count self.new ≡ handed_count self.old }

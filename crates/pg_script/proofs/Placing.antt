@@ -9,7 +9,7 @@ use Rattle.std.specs.Ordering.{is_eq}
 use Rattle.std.proofs.lemmas.Slice.Eq.{bytes_eq-Decides}
 use Rattle.pg_term.specs.Same.{same_atom, atom_cmp}
 use Rattle.pg_step.specs.declared.start.Start.{Start}
-use Rattle.pg_script.specs.Scripts.{place_of, change_at, ArePlaces}
+use Rattle.pg_script.specs.Scripts.{place_of, change_at, HavePlaces}
 
 -- ---- one node more
 
@@ -51,8 +51,8 @@ none_from : {A : Type 0} (o : Option A) → is_some o ≡ false → o ≡ None
 none_from None e = refl
 none_from (Some x) e = absurd (cc)
 
-pub placed_push : (before after : BTreeMap (List ℕ) ℕ) (starts : List Start) (n : ℕ) (key : List ℕ) (start : Start) → ArePlaces before starts → n ≡ length starts → UpdatesBy atom_cmp (atom_cmp key) before after (Some n)
-    → key ≡ start.name → is_some (get atom_cmp before start.name) ≡ false → ArePlaces after (starts ++ start ∷ [])
+pub placed_push : (before after : BTreeMap (List ℕ) ℕ) (starts : List Start) (n : ℕ) (key : List ℕ) (start : Start) → HavePlaces before starts → n ≡ length starts → UpdatesBy atom_cmp (atom_cmp key) before after (Some n)
+    → key ≡ start.name → is_some (get atom_cmp before start.name) ≡ false → HavePlaces after (starts ++ start ∷ [])
 placed_push before after starts n key start placed len updates is none other =
     let absent : place_of start.name starts ≡ None = sym (placed start.name) ∙ none_from (get atom_cmp before start.name) none in
     let same : same_atom other start.name ≡ same_atom key other = nat_list_eq_equiv.symm other start.name ∙ ap (λ (n : List ℕ). same_atom n other) (sym is) in

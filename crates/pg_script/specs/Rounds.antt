@@ -33,7 +33,7 @@ abbrev pub view_of : {T : Type 0} {g : Ghosts T} → World T g → View
 view_of world = record { given = given_of world; crossing = crossing_of world; account = account_of world; lost = lost_of world; room = room_of world }
 
 -- a step was made, and this came of it
-pub record Makes (step : Step) (made : Result Stepped NodeFault) (old new : View) : Type 0 where
+pub record CameOfStep (step : Step) (made : Result Stepped NodeFault) (old new : View) : Type 0 where
   pub goes_on : ∥ BytesGoOn old.given old.crossing old.account old.lost step made new.crossing new.account new.lost ∥₁
   pub changes : StepChanges old.room old.crossing new.crossing step made
   pub lost : new.lost ≡ bytes_lost_after step made old.lost
@@ -50,7 +50,7 @@ moved_by (Err fault) = None
 
 pub record MovesBy (step : Step) (moved : Bool) (old new : View) : Type 0 where
   pub made : Result Stepped NodeFault
-  pub makes : Makes step made old new
+  pub makes : CameOfStep step made old new
   pub is : moved_by made ≡ Some moved
 
 -- ---- a round
@@ -82,14 +82,14 @@ PassesIf true from to = Still
 PassesIf false from to = RoundPasses from to
 
 -- from a node to each of the first so many
-abbrev pub Row : (from count : ℕ) → RoundPart
-Row from zero = Still
-Row from (suc to) = Then (Row from to) (PassesIf (nat_eq from to) from to)
+abbrev pub RowFrom : (from count : ℕ) → RoundPart
+RowFrom from zero = Still
+RowFrom from (suc to) = Then (RowFrom from to) (PassesIf (nat_eq from to) from to)
 
 -- from each of the first so many nodes to each of all
 abbrev pub Rows : (nodes count : ℕ) → RoundPart
 Rows nodes zero = Still
-Rows nodes (suc from) = Then (Rows nodes from) (Row from nodes)
+Rows nodes (suc from) = Then (Rows nodes from) (RowFrom from nodes)
 
 abbrev pub Round : (nodes : ℕ) → RoundPart
 Round nodes = Rows nodes nodes

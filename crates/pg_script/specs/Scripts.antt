@@ -64,13 +64,13 @@ apart None second = None
 apart (Some first) None = None
 apart (Some first) (Some second) = if first == second then None else Some (first, second)
 
-abbrev pub pair_of : List ℕ → List ℕ → List Start → Option (ℕ × ℕ)
-pair_of first second starts = apart (place_of first starts) (place_of second starts)
+abbrev pub places_of_pair : List ℕ → List ℕ → List Start → Option (ℕ × ℕ)
+places_of_pair first second starts = apart (place_of first starts) (place_of second starts)
 
 -- nodes that were declared
-abbrev pub known : {A : Type 0} → Option A → (A → Said) → Said
-known None next = Err UnknownNode
-known (Some x) next = next x
+abbrev pub if_known : {A : Type 0} → Option A → (A → Said) → Said
+if_known None next = Err UnknownNode
+if_known (Some x) next = next x
 
 -- a declaration stands above all other lines
 abbrev pub declared : Draft → Said → Said
@@ -108,7 +108,7 @@ with_group_at draft group members place = record { ring = draft.ring; starts = c
 
 -- `has`
 abbrev pub has_said : Draft → List ℕ → Term → List Pid → Said
-has_said draft name group members = declared draft (known (place_of name draft.starts) (λ place. Ok (with_group_at draft group members place)))
+has_said draft name group members = declared draft (if_known (place_of name draft.starts) (λ place. Ok (with_group_at draft group members place)))
 
 -- ---- lines
 
@@ -120,8 +120,8 @@ abbrev pub line_said : Draft → ℕ → Line → Said
 line_said draft number (Ring capacity) = ring_said draft capacity
 line_said draft number (Node name made) = node_said draft name made
 line_said draft number (Has name group members) = has_said draft name group members
-line_said draft number (Pair first second form) = known (pair_of first second draft.starts) (λ places. act_said draft number (pair_act places.0 places.1 form))
-line_said draft number (At name form) = known (place_of name draft.starts) (λ place. act_said draft number (node_act place form))
+line_said draft number (Pair first second form) = if_known (places_of_pair first second draft.starts) (λ places. act_said draft number (pair_act places.0 places.1 form))
+line_said draft number (At name form) = if_known (place_of name draft.starts) (λ place. act_said draft number (node_act place form))
 line_said draft number (Settle rounds) = act_said draft number (act.Settle rounds)
 line_said draft number (History group) = act_said draft number (act.History group)
 
@@ -178,11 +178,11 @@ abbrev pub draft_of : Reading → Draft
 draft_of reading = record { ring = reading.ring; starts = reading.starts.items; lines = reading.lines.items }
 
 -- the place of each node by its name
-abbrev pub ArePlaces : BTreeMap (List ℕ) ℕ → List Start → Type 0
-ArePlaces places starts = (name : List ℕ) → get atom_cmp places name ≡ place_of name starts
+abbrev pub HavePlaces : BTreeMap (List ℕ) ℕ → List Start → Type 0
+HavePlaces places starts = (name : List ℕ) → get atom_cmp places name ≡ place_of name starts
 
 abbrev pub IsPlaced : Reading → Type 0
-IsPlaced reading = ArePlaces reading.places reading.starts.items
+IsPlaced reading = HavePlaces reading.places reading.starts.items
 
 abbrev pub lines_of_rest : Option (List ℕ) → List (List ℕ)
 lines_of_rest None = []

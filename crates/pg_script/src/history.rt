@@ -2,7 +2,7 @@
 
 ghost use Rattle.std.specs.Prelude.{◌≡◌, OnOk, map, string_bytes};
 ghost use Rattle.std.specs.Option.{option_copied};
-ghost use Rattle.pg_text.specs.Writing.{Adds};
+ghost use Rattle.pg_text.specs.Writing.{GrowsBy};
 ghost use Rattle.pg_script.specs.Histories.{history_line, listed_entries, more_entries, last_entry};
 
 use pg_lines::{add_char, add_text};
@@ -17,7 +17,7 @@ pub(crate) fn print_history(
     entries: &[Entry],
     last: Option<&Entry>,
 ) -> Result<(), AllocError>
-    ensures { OnOk result (Adds (history_line entries.now (option_copied last.entry)) (string_bytes out.old) (string_bytes out.new)) }
+    ensures { OnOk result (GrowsBy (history_line entries.now (option_copied last.entry)) (string_bytes out.old) (string_bytes out.new)) }
 {
     add_text(out, "history [")?;
     print_listed(out, entries)?;
@@ -28,7 +28,7 @@ pub(crate) fn print_history(
 
 /// With commas between them.
 fn print_listed(out: &mut String, entries: &[Entry]) -> Result<(), AllocError>
-    ensures { OnOk result (Adds (listed_entries entries.now) (string_bytes out.old) (string_bytes out.new)) }
+    ensures { OnOk result (GrowsBy (listed_entries entries.now) (string_bytes out.old) (string_bytes out.new)) }
 {
     if let [first, rest @ ..] = entries {
         write_update(&first.update, out)?;
@@ -39,7 +39,7 @@ fn print_listed(out: &mut String, entries: &[Entry]) -> Result<(), AllocError>
 
 /// Each of them after a comma.
 fn print_more(out: &mut String, entries: &[Entry]) -> Result<(), AllocError>
-    ensures { OnOk result (Adds (more_entries entries.now) (string_bytes out.old) (string_bytes out.new)) }
+    ensures { OnOk result (GrowsBy (more_entries entries.now) (string_bytes out.old) (string_bytes out.new)) }
 {
     for entry in entries {
         add_char(out, ',')?;
@@ -50,7 +50,7 @@ fn print_more(out: &mut String, entries: &[Entry]) -> Result<(), AllocError>
 
 /// The last of them, if there is one, after a comma where it is not the first.
 fn print_last(out: &mut String, is_first: bool, last: Option<&Entry>) -> Result<(), AllocError>
-    ensures { OnOk result (Adds (last_entry is_first (option_copied last.entry)) (string_bytes out.old) (string_bytes out.new)) }
+    ensures { OnOk result (GrowsBy (last_entry is_first (option_copied last.entry)) (string_bytes out.old) (string_bytes out.new)) }
 {
     let Some(entry) = last else {
         return Ok(());

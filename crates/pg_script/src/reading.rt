@@ -7,7 +7,7 @@ ghost use Rattle.pg_script.specs.declared.fault.LineFault.TheVariants.{BadLine, 
 ghost use Rattle.pg_script.specs.declared.fault.LineFault.TheVariants.{LateDeclaration, OutOfMemory};
 ghost use Rattle.pg_script.specs.declared.reading.TheConstants.{DEFAULT_RING};
 ghost use Rattle.pg_script.specs.Scripts.{act_said, change_at, contents_of, draft_of, has_said, is_skipped};
-ghost use Rattle.pg_script.specs.Scripts.{line_said, lines_in, lines_of_rest, node_said, pair_of, place_of};
+ghost use Rattle.pg_script.specs.Scripts.{line_said, lines_in, lines_of_rest, node_said, places_of_pair, place_of};
 ghost use Rattle.pg_script.specs.Scripts.{ring_said, script_of, text_said, with_group, IsPlaced};
 
 use crate::act::{Act, node_act, pair_act};
@@ -228,8 +228,8 @@ impl Reading {
     /// The places of two nodes that were declared, apart from each other.
     fn pair(&self, first: &Atom, second: &Atom) -> Result<(usize, usize), LineFault>
         requires { IsPlaced self.now }
-        ensures ok { IfOk result (λ places. pair_of first.now second.now self.now.starts.items ≡ Some places) }
-        ensures err { IfErr result (λ fault. (fault ≡ UnknownNode) × (pair_of first.now second.now self.now.starts.items ≡ None)) }
+        ensures ok { IfOk result (λ places. places_of_pair first.now second.now self.now.starts.items ≡ Some places) }
+        ensures err { IfErr result (λ fault. (fault ≡ UnknownNode) × (places_of_pair first.now second.now self.now.starts.items ≡ None)) }
     {
         let first = self.place(first)?;
         let second = self.place(second)?;

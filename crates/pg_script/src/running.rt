@@ -3,7 +3,7 @@
 ghost use Rattle.std.specs.Prelude.{◌≡◌, ◌<◌, List, ℕ, length, string_bytes, OnOk, IfErr, IfOk, ⊤};
 ghost use Rattle.std.specs.Io.KnownBytes.{Appends};
 ghost use Rattle.pg_replica.specs.Causes.{FailedAt};
-ghost use Rattle.pg_text.specs.Writing.{Adds};
+ghost use Rattle.pg_text.specs.Writing.{GrowsBy};
 ghost use Rattle.pg_script.specs.Runs.{CanRun, CantRun, CausedBy, Refused, answer_lines};
 
 use crate::act::Act;
@@ -164,7 +164,7 @@ fn print_seen(
 
 /// Prints answers of a node, one after another.
 fn print_all(out: &mut String, node: &Atom, answers: &[Answer]) -> Result<(), AllocError>
-    ensures { OnOk result (Adds (answer_lines node.now answers.now) (string_bytes out.old) (string_bytes out.new)) }
+    ensures { OnOk result (GrowsBy (answer_lines node.now answers.now) (string_bytes out.old) (string_bytes out.new)) }
 {
     for answer in answers {
         print_answer(out, node, answer)?;

@@ -1,7 +1,7 @@
 //! Rounds of steps until nothing moves.
 
 ghost use Rattle.std.specs.Prelude.{◌≡◌, ◌||◌, nat_eq, Some, IfOk, OnOk};
-ghost use Rattle.pg_script.specs.Rounds.{MovesBy, RoundPasses, PassesIf, Round, Row, Settles, moved_by, view_of};
+ghost use Rattle.pg_script.specs.Rounds.{MovesBy, RoundPasses, PassesIf, Round, RowFrom, Settles, moved_by, view_of};
 
 use crate::stage::Stage;
 use pg_node::NodeFault;
@@ -60,7 +60,7 @@ fn round(stage: &mut Stage, count: usize) -> Result<bool, Halt>
 
 /// The steps of a node with each other in a round.
 fn row(stage: &mut Stage, from: usize, count: usize) -> Result<bool, Halt>
-    ensures { IfOk result (λ moved. Row from count moved (view_of stage.old.world) (view_of stage.new.world)) }
+    ensures { IfOk result (λ moved. RowFrom from count moved (view_of stage.old.world) (view_of stage.new.world)) }
 {
     let mut moved = false;
     for to in 0..count {

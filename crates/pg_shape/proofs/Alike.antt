@@ -15,7 +15,7 @@ use Rattle.pg_term_io.specs.Reading.{Read, ◌>>=◌, number_at, named_at, utf8_
 use Rattle.pg_term_io.specs.Reading.{pid_at, as_term, readers, item_behind, leaf_behind, item_at}
 use Rattle.pg_message.specs.Parts.{pid_of}
 use Rattle.pg_shape.specs.Alike.{Heads}
-use Rattle.pg_shape.specs.Lists.{Leaves}
+use Rattle.pg_shape.specs.Lists.{EndsAlike}
 use Rattle.pg_term_io.proofs.Lists.{goes_on}
 use Rattle.pg_shape.proofs.ListShapes.{behind_first}
 
@@ -116,7 +116,7 @@ module _ (text : List ℕ) where
         (ap (λ (p : Term × List ℕ). is_some (pid_of p.0)) same ∙ ap (λ (o : Option Pid). is_some o) (pid_is (numbered node numbers)), ap (λ (p : Term × List ℕ). p.1) same)
 
     -- one more of a list is passed
-    pub one_alike : (levels count : ℕ) (left : List ℕ) (whole : Option (List Pid)) (rest : List ℕ) → left ≡ 88 ∷ 119 ∷ length text ∷ (text ++ numbers) → Leaves pid_of levels (suc count) left whole rest → Leaves pid_of levels count (drop 12 numbers) whole rest
+    pub one_alike : (levels count : ℕ) (left : List ℕ) (whole : Option (List Pid)) (rest : List ℕ) → left ≡ 88 ∷ 119 ∷ length text ∷ (text ++ numbers) → EndsAlike pid_of levels (suc count) left whole rest → EndsAlike pid_of levels count (drop 12 numbers) whole rest
     one_alike levels count left whole rest begins before =
         let goes = goes_on levels count left before.elements rest before.read in
         let first = alike_is levels goes.first goes.behind (sym (ap (item_at levels) begins) ∙ goes.here) in

@@ -20,7 +20,7 @@ use Rattle.pg_message.specs.Name.{is_name}
 use Rattle.pg_message.specs.Parts.{items_of, pid_in, pid_of}
 use Rattle.pg_message.specs.Reading.{all_of, group_in, group_of}
 use Rattle.pg_message.proofs.ReadBack.{items_is}
-use Rattle.pg_shape.specs.Lists.{Leaves}
+use Rattle.pg_shape.specs.Lists.{EndsAlike}
 use Rattle.pg_shape.proofs.Shapes.{no_items, none_if}
 
 -- ---- what is no list
@@ -81,17 +81,17 @@ module _ {A : Type 0} (each : Term → Option A) where
   behind_some (Some x) None e = refl
   behind_some None others e = absurd cc
 
-  pub at_first : (room : ℕ) (bytes : List ℕ) (t : Term) (rest : List ℕ) → item_at room bytes ≡ Ok (t, rest) → kind_of t ≡ 5 → Leaves each room 0 bytes (option_and_then (all_of each) (items_of t)) rest
+  pub at_first : (room : ℕ) (bytes : List ℕ) (t : Term) (rest : List ℕ) → item_at room bytes ≡ Ok (t, rest) → kind_of t ≡ 5 → EndsAlike each room 0 bytes (option_and_then (all_of each) (items_of t)) rest
   at_first room bytes t rest e five =
       let list = is_list room bytes t rest e five in
       record { elements = list.elements; read = list.read; same = ap (λ (t : Term). is_some (option_and_then (all_of each) (items_of t))) list.is ∙ ap (λ (o : Option (List Term)). is_some (option_and_then (all_of each) o)) (items_is list.elements) }
 
-  module _ (whole : Option (List A)) (rest : List ℕ) (room count : ℕ) (left : List ℕ) (before : Leaves each room count left whole rest) where
+  module _ (whole : Option (List A)) (rest : List ℕ) (room count : ℕ) (left : List ℕ) (before : EndsAlike each room count left whole rest) where
     module _ (below more : ℕ) (bytes : List ℕ) (goes : ListGoesOn below more bytes before.elements rest) where
       pub no_first : each goes.first ≡ None → whole ≡ None
       no_first none = is_nothing whole (before.same ∙ ap (λ (ts : List Term). is_some (all_of each ts)) goes.are ∙ ap (λ (o : Option (List A)). is_some o) (first_none goes.first goes.others none))
 
-      pub behind_first : is_some (each goes.first) ≡ true → (behind : List ℕ) → goes.behind ≡ behind → Leaves each below more behind whole rest
+      pub behind_first : is_some (each goes.first) ≡ true → (behind : List ℕ) → goes.behind ≡ behind → EndsAlike each below more behind whole rest
       behind_first some behind ends = record {
         elements = goes.others;
         read = subst (λ (b : List ℕ). list_from below more b ≡ Ok (goes.others, rest)) ends goes.after;

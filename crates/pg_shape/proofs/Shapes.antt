@@ -15,7 +15,7 @@ use Rattle.pg_message.specs.Name.{is_name}
 use Rattle.pg_message.specs.Parts.{tuple_in, elements_of, list_in, items_of, text_in, is_word}
 use Rattle.pg_message.specs.Parts.{atom_in, atom_of, reference_in, reference_of, pid_in, pid_of}
 use Rattle.pg_message.specs.Reading.{request_on, membership_of, request_in, request_of, said_of}
-use Rattle.pg_message.specs.Reading.{groups_of, freed, exchanged, cast_in, cast_of, referred}
+use Rattle.pg_message.specs.Reading.{groups_of, freed, read_exchange, cast_in, cast_of, referred}
 use Rattle.pg_message.specs.Reading.{message_in, message_of, stamp_in, stamp_of, stamped, packet_in}
 use Rattle.pg_group.specs.declared.update.Update.TheVariants.{Create, Delete, Join, Leave}
 use Rattle.pg_message.specs.declared.message.Message.{Message}
@@ -255,19 +255,19 @@ module _ (w n : Term) where
 
 module _ (w first second : Term) where
   pub cast_no_word : 4 ≤ kind_of w → cast_in (w ∷ first ∷ second ∷ []) ≡ None
-  cast_no_word many = (λ i. cond (no_word w many (codes "del_lock") i) (freed first second) (cond (no_word w many (codes "exchange") i) (exchanged first second) None))
+  cast_no_word many = (λ i. cond (no_word w many (codes "del_lock") i) (freed first second) (cond (no_word w many (codes "exchange") i) (read_exchange first second) None))
 
   pub cast_no_first : 4 ≤ kind_of first → is_name first ≡ false → cast_in (w ∷ first ∷ second ∷ []) ≡ None
   cast_no_first many why =
-      none_if (is_word w (codes "del_lock")) (freed first second) (cond (is_word w (codes "exchange")) (exchanged first second) None)
+      none_if (is_word w (codes "del_lock")) (freed first second) (cond (is_word w (codes "exchange")) (read_exchange first second) None)
       (ap (λ (b : Bool). cond b (option_map (DelLock first) (reference_of second)) None) why)
-      (none_if (is_word w (codes "exchange")) (exchanged first second) None (ap (option_and_then (λ node. option_map (Exchange node) (groups_of second))) (no_atom first many)) refl)
+      (none_if (is_word w (codes "exchange")) (read_exchange first second) None (ap (option_and_then (λ node. option_map (Exchange node) (groups_of second))) (no_atom first many)) refl)
 
   pub cast_no_second : 4 ≤ kind_of second → groups_of second ≡ None → cast_in (w ∷ first ∷ second ∷ []) ≡ None
   cast_no_second many why =
-      none_if (is_word w (codes "del_lock")) (freed first second) (cond (is_word w (codes "exchange")) (exchanged first second) None)
+      none_if (is_word w (codes "del_lock")) (freed first second) (cond (is_word w (codes "exchange")) (read_exchange first second) None)
       (none_if (is_name first) (option_map (DelLock first) (reference_of second)) None (ap (option_map (DelLock first)) (no_reference second many)) refl)
-      (none_if (is_word w (codes "exchange")) (exchanged first second) None
+      (none_if (is_word w (codes "exchange")) (read_exchange first second) None
       (none_after (λ node. option_map (Exchange node) (groups_of second)) (atom_of first) (λ node. ap (option_map (Exchange node)) why))
       refl)
 

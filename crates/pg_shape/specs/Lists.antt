@@ -5,7 +5,7 @@ use Rattle.pg_term_io.specs.Lists.{list_from}
 use Rattle.pg_message.specs.Reading.{all_of}
 
 -- the whole list is something exactly where what is left of it is
-pub record Leaves {A : Type 0} (each : Term → Option A) (room count : ℕ) (left : List ℕ) (whole : Option (List A)) (rest : List ℕ) : Type 0 where
+pub record EndsAlike {A : Type 0} (each : Term → Option A) (room count : ℕ) (left : List ℕ) (whole : Option (List A)) (rest : List ℕ) : Type 0 where
   pub elements : List Term
   pub read : list_from room count left ≡ Ok (elements, rest)
   pub same : is_some whole ≡ is_some (all_of each elements)

@@ -9,7 +9,7 @@ ghost use Rattle.pg_term_io.specs.Reading.{item_at};
 ghost use Rattle.pg_term_io.specs.Scanning.{past};
 ghost use Rattle.pg_message.specs.Parts.{pid_of};
 ghost use Rattle.pg_shape.specs.Alike.{Heads};
-ghost use Rattle.pg_shape.specs.Lists.{Leaves};
+ghost use Rattle.pg_shape.specs.Lists.{EndsAlike};
 ghost use Rattle.pg_shape.specs.Shape.{members_of};
 
 use crate::groups::is_list;
@@ -73,8 +73,8 @@ pub(crate) fn past_pids(levels: u8, bytes: &[u8]) -> Option<&[u8]>
 fn past_alike<'a>(first: &[u8], count: u32, bytes: &'a [u8]) -> (u32, &'a [u8])
     ensures pids { (room : ℕ) (t : Term) (end : List ℕ) → item_at room first.now ≡ Ok (t, end)
         → (levels : ℕ) (whole : Option (List Pid)) (rest : List ℕ)
-        → Leaves pid_of levels count bytes.now whole rest
-        → Leaves pid_of levels result.0 result.1.now whole rest }
+        → EndsAlike pid_of levels count bytes.now whole rest
+        → EndsAlike pid_of levels result.0 result.1.now whole rest }
     ensures shorter { length result.1.now ≤ length bytes.now }
 {
     let mut others = count;

@@ -10,9 +10,9 @@ use Rattle.pg_tally.specs.declared.streaks.Hop.{Hop}
 use Rattle.pg_tally.specs.declared.takes.Takes.{Takes}
 use Rattle.pg_tally.specs.declared.ways.Way.{Way}
 use Rattle.pg_tally.specs.Runs.{IsLongest, IsMarked, IsRun}
-use Rattle.pg_tally.specs.Takes.{AreTakes, AreTakesTo, IsTaken, IsWithin, widened_to}
+use Rattle.pg_tally.specs.Takes.{AreTakes, AreTakesTo, IsTaken, IsInBounds, widened_to}
 use Rattle.pg_tally.specs.Walks.{IsWalk, takes_of}
-use Rattle.pg_survey.specs.Findings.{AreAmong, IsSpan, IsTakenTo, IsWhereMarked, joined}
+use Rattle.pg_survey.specs.Findings.{AreAmong, IsSpan, IsTakenTo, IsWhereMarked, joined_takes}
 
 -- ---- takes
 
@@ -38,7 +38,7 @@ greatest worlds places a b h k = elim (cases_lt b a) as (λ _. IsTakenTo worlds 
 to_added : (worlds : List (Vec Way)) (place other : ℕ) (ways : List Way) → place ≡ other → IsWalk worlds 0 ways other → IsWalk worlds 0 ways place
 to_added worlds place other ways e walk = subst (λ (p : ℕ). IsWalk worlds 0 ways p) (sym e) walk
 
-join : (worlds : List (Vec Way)) (places : List ℕ) (place : ℕ) (among next : Option Takes) → AreTakesTo worlds place next → AreAmong worlds places among → AreAmong worlds (places ++ place ∷ []) (joined among next)
+join : (worlds : List (Vec Way)) (places : List ℕ) (place : ℕ) (among next : Option Takes) → AreTakesTo worlds place next → AreAmong worlds places among → AreAmong worlds (places ++ place ∷ []) (joined_takes among next)
 join worlds places place None None h k = λ other ways c walk. elim (Contains-push_cases places place other c) as (λ _. ⊥) [
   | inl before ↦ k other ways before walk
   | inr this ↦ h ways (to_added worlds place other ways this walk)
@@ -46,7 +46,7 @@ join worlds places place None None h k = λ other ways c walk. elim (Contains-pu
 join worlds places place (Some among) None h k = record {
   fewest = more worlds places place among.fewest k.fewest;
   most = more worlds places place among.most k.most;
-  within = λ other ways c walk. elim (Contains-push_cases places place other c) as (λ _. IsWithin among (takes_of ways)) [
+  within = λ other ways c walk. elim (Contains-push_cases places place other c) as (λ _. IsInBounds among (takes_of ways)) [
     | inl before ↦ k.within other ways before walk
     | inr this ↦ absurd (h ways (to_added worlds place other ways this walk))
   ];
@@ -54,7 +54,7 @@ join worlds places place (Some among) None h k = record {
 join worlds places place None (Some next) h k = record {
   fewest = here worlds places place next.fewest h.0.fewest;
   most = here worlds places place next.most h.0.most;
-  within = λ other ways c walk. elim (Contains-push_cases places place other c) as (λ _. IsWithin next (takes_of ways)) [
+  within = λ other ways c walk. elim (Contains-push_cases places place other c) as (λ _. IsInBounds next (takes_of ways)) [
     | inl before ↦ absurd (k other ways before walk)
     | inr this ↦ h.1 ways (to_added worlds place other ways this walk)
   ];
@@ -62,14 +62,14 @@ join worlds places place None (Some next) h k = record {
 join worlds places place (Some among) (Some next) h k = record {
   fewest = least worlds (places ++ place ∷ []) among.fewest next.fewest (more worlds places place among.fewest k.fewest) (here worlds places place next.fewest h.0.fewest);
   most = greatest worlds (places ++ place ∷ []) among.most next.most (more worlds places place among.most k.most) (here worlds places place next.most h.0.most);
-  within = λ other ways c walk. elim (Contains-push_cases places place other c) as (λ _. IsWithin (widened_to (Some among) next) (takes_of ways)) [
+  within = λ other ways c walk. elim (Contains-push_cases places place other c) as (λ _. IsInBounds (widened_to (Some among) next) (takes_of ways)) [
     | inl before ↦ let w = k.within other ways before walk in record { fewest = omega (arith, w.fewest); most = omega (arith, w.most) }
     | inr this ↦ let w = h.1 ways (to_added worlds place other ways this walk) in record { fewest = omega (arith, w.fewest); most = omega (arith, w.most) }
   ];
 }
 
 pub join_step : (worlds : List (Vec Way)) (takes : List (Option Takes)) (places : List ℕ) (place : ℕ) (among : Option Takes) → AreTakes worlds takes → AreAmong worlds places among
-    → AreAmong worlds (places ++ place ∷ []) (joined among (get_or takes place None))
+    → AreAmong worlds (places ++ place ∷ []) (joined_takes among (get_or takes place None))
 join_step worlds takes places place among h k = join worlds places place among (get_or takes place None) (h.are place) k
 
 -- ---- runs

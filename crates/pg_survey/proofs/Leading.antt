@@ -12,7 +12,7 @@ use Rattle.pg_diagram.specs.declared.graph.Spot.{Spot}
 use Rattle.pg_explore.specs.declared.visitor.Led.{Led}
 use Rattle.pg_tally.specs.declared.ways.Way.{Way}
 use Rattle.pg_survey.specs.declared.findings.Findings.{Findings}
-use Rattle.pg_survey.specs.Findings.{AreSpots, IsSpot, link_of, links_from}
+use Rattle.pg_survey.specs.Findings.{AreSpots, IsSpot, link_line, links_from}
 use Rattle.pg_survey.specs.Ways.{AreWaysOf, all_led, rows_of, way_of}
 
 -- those of one more world
@@ -30,20 +30,20 @@ ways_more led i row ways next l is h e =
 
 -- ---- lines
 
-pub links_more : (rows : List (List Led)) (i : ℕ) (row : List Led) (links new all : List Link) → i < length rows → row ≡ get_or rows i row → new ≡ links ++ map (link_of i) row
+pub links_more : (rows : List (List Led)) (i : ℕ) (row : List Led) (links new all : List Link) → i < length rows → row ≡ get_or rows i row → new ≡ links ++ map (link_line i) row
     → links ++ links_from i (drop i rows) ≡ all → new ++ links_from (i + 1) (drop (i + 1) rows) ≡ all
 links_more rows i row links new all l is e h =
     let cut : drop i rows ≡ row ∷ drop (i + 1) rows = drop_more rows i row l ∙ ap (λ (r : List Led). r ∷ drop (i + 1) rows) (sym is) in
-    ap (λ (xs : List Link). xs ++ links_from (i + 1) (drop (i + 1) rows)) e ∙ append_assoc links (map (link_of i) row) (links_from (i + 1) (drop (i + 1) rows))
+    ap (λ (xs : List Link). xs ++ links_from (i + 1) (drop (i + 1) rows)) e ∙ append_assoc links (map (link_line i) row) (links_from (i + 1) (drop (i + 1) rows))
     ∙ ap (λ (rs : List (List Led)). links ++ links_from i rs) (sym cut) ∙ h
 
 -- the same where a world's steps were lent by a slice
 pub links_led : (led : List (Vec Led)) (i : ℕ) (row : Vec Led) (part : List Led) (links new all : List Link) → i < length led → row ≡ get_or led i row → part ≡ row.items
-    → new ≡ links ++ map (link_of i) part → links ++ links_from i (drop i (all_led led)) ≡ all → new ++ links_from (i + 1) (drop (i + 1) (all_led led)) ≡ all
+    → new ≡ links ++ map (link_line i) part → links ++ links_from i (drop i (all_led led)) ≡ all → new ++ links_from (i + 1) (drop (i + 1) (all_led led)) ≡ all
 links_led led i row part links new all l is e n h =
     let within : i < length (all_led led) = subst (λ (k : ℕ). i < k) (sym (length-map led (λ (r : Vec Led). r.items))) l in
     let at : row.items ≡ get_or (all_led led) i row.items = ap (λ (r : Vec Led). r.items) is ∙ sym (get_or-map (λ (r : Vec Led). r.items) led i row row.items l) in
-    links_more (all_led led) i row.items links new all within at (n ∙ ap (λ (p : List Led). links ++ map (link_of i) p) e) h
+    links_more (all_led led) i row.items links new all within at (n ∙ ap (λ (p : List Led). links ++ map (link_line i) p) e) h
 
 -- ---- spots
 

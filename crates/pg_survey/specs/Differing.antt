@@ -46,18 +46,18 @@ IsApartOrSame nodes lost name first place true = IsApartAt nodes lost name first
 IsApartOrSame nodes lost name first place false = IsSameAt nodes lost name first place
 
 -- one of the first nodes has not the same of a group as a node
-pub record IsOther (nodes : List Seen) (lost : List ℕ) (count : ℕ) (name : Term) (first : Seen) : Type 0 where
+pub record DiffersFromFirst (nodes : List Seen) (lost : List ℕ) (count : ℕ) (name : Term) (first : Seen) : Type 0 where
   pub place : ℕ
   pub within : place < count
   pub is : IsApartAt nodes lost name first place
 
 -- each of them has
-abbrev pub AreSame : List Seen → List ℕ → ℕ → Term → Seen → Type 0
-AreSame nodes lost count name first = (place : ℕ) → place < count → IsSameAt nodes lost name first place
+abbrev pub HoldSame : List Seen → List ℕ → ℕ → Term → Seen → Type 0
+HoldSame nodes lost count name first = (place : ℕ) → place < count → IsSameAt nodes lost name first place
 
 abbrev pub IsOtherOrSame : List Seen → List ℕ → ℕ → Term → Seen → Bool → Type 0
-IsOtherOrSame nodes lost count name first true = IsOther nodes lost count name first
-IsOtherOrSame nodes lost count name first false = AreSame nodes lost count name first
+IsOtherOrSame nodes lost count name first true = DiffersFromFirst nodes lost count name first
+IsOtherOrSame nodes lost count name first false = HoldSame nodes lost count name first
 
 -- two of them have not the same of a group
 pub record DifferOn (nodes : List Seen) (lost : List ℕ) (count : ℕ) (name : Term) : Type 0 where
@@ -65,7 +65,7 @@ pub record DifferOn (nodes : List Seen) (lost : List ℕ) (count : ℕ) (name : 
   pub within : place < count
   pub node : Seen
   pub live : IsLive nodes lost place node
-  pub other : IsOther nodes lost count name node
+  pub other : DiffersFromFirst nodes lost count name node
 
 -- of one of some groups
 pub record Differ (nodes : List Seen) (lost : List ℕ) (count : ℕ) (names : List Term) : Type 0 where

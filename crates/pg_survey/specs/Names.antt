@@ -38,6 +38,6 @@ known_in starts = flat_map (λ (start : Start). flat_map known_by start.groups) 
 abbrev pub AddsNames : List Term → List Term → List Term → Type 0
 AddsNames more old new = (name : Term) → Contains new name ↔ (Contains old name ⊎ Contains more name)
 
-abbrev pub listed : Option Term → List Term
-listed None = []
-listed (Some name) = name ∷ []
+abbrev pub name_list : Option Term → List Term
+name_list None = []
+name_list (Some name) = name ∷ []

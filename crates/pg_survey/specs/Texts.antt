@@ -48,8 +48,8 @@ abbrev pub command_at : Scenario → ℕ → ℕ → List ℕ
 command_at scenario node place = option_map_or (λ line. line_at scenario line) (slice_get (places_of scenario node) place) []
 
 -- by its number, from 1 on
-abbrev pub command_line : Scenario → ℕ → ℕ → List ℕ
-command_line scenario node number = command_at scenario node (number - 1)
+abbrev pub line_of_command : Scenario → ℕ → ℕ → List ℕ
+line_of_command scenario node number = command_at scenario node (number - 1)
 
 -- ---- histories
 
@@ -59,7 +59,7 @@ with_line [] line = line
 with_line (code ∷ text) line = (code ∷ text) ++ (codes ", " ++ line)
 
 abbrev pub with_entry : Scenario → List ℕ → history.Entry → List ℕ
-with_entry scenario text entry = with_line text (command_line scenario entry.node entry.op.number)
+with_entry scenario text entry = with_line text (line_of_command scenario entry.node entry.op.number)
 
 abbrev pub or_nothing : List ℕ → List ℕ
 or_nothing [] = codes "nothing"

@@ -3,7 +3,7 @@
 ghost use Rattle.std.specs.Prelude.{◌≡◌, ◌∷◌, ◌++◌, [], true, IfOk, OnOk};
 ghost use Rattle.std.specs.List.{Contains, flat_map};
 ghost use Rattle.std.specs.Option.{option_copied};
-ghost use Rattle.pg_survey.specs.Names.{AddsNames, changed_by, changed_in, command_names, known_by, known_in, listed};
+ghost use Rattle.pg_survey.specs.Names.{AddsNames, changed_by, changed_in, command_names, known_by, known_in, name_list};
 
 use crate::scenario::Scenario;
 use pg_explore::{Plan, Planned};
@@ -133,7 +133,7 @@ fn has_name(names: &[Term], name: &Term) -> bool
 
 /// The group that a command changes.
 fn changed_group(planned: &Planned) -> Option<&Term>
-    ensures { listed (option_copied result) ≡ changed_by planned.now }
+    ensures { name_list (option_copied result) ≡ changed_by planned.now }
 {
     match planned {
         Planned::Step(
@@ -148,7 +148,7 @@ fn changed_group(planned: &Planned) -> Option<&Term>
 }
 
 fn group_of(command: &Command) -> Option<&Term>
-    ensures { listed (option_copied result) ≡ command_names command.now }
+    ensures { name_list (option_copied result) ≡ command_names command.now }
 {
     match command {
         Command::Create(name) | Command::Delete(name) => Some(name),

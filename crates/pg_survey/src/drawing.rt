@@ -1,7 +1,7 @@
 //! The state graph of a survey.
 
 ghost use Rattle.std.specs.Prelude.{◌≡◌, ◌++◌, IfOk, OnOk, length, map};
-ghost use Rattle.pg_survey.specs.Findings.{AreSpots, IsDrawn, is_end_at, kind_of, led_in, link_of, links_from, met_in};
+ghost use Rattle.pg_survey.specs.Findings.{AreSpots, IsDrawn, is_end_at, link_kind, led_in, link_line, links_from, met_in};
 
 use crate::findings::Findings;
 use crate::tally::mark_at;
@@ -68,7 +68,7 @@ impl Findings<'_, '_> {
 ///
 /// Errors: `AllocError`.
 fn add_links(links: &mut Vec<Link>, from: usize, led: &[Led]) -> Result<(), AllocError>
-    ensures { OnOk result (links.new.items ≡ links.old.items ++ map (link_of from) led.now) }
+    ensures { OnOk result (links.new.items ≡ links.old.items ++ map (link_line from) led.now) }
 {
     for way in led {
         links.push(Link {
@@ -104,7 +104,7 @@ fn has_no_way(ways: &[Vec<Way>], place: usize) -> bool
 }
 
 fn kind_of(step: &Move) -> LinkKind
-    ensures { result ≡ kind_of step.now }
+    ensures { result ≡ link_kind step.now }
 {
     match step {
         Move::Take { .. } => LinkKind::Take,

@@ -2,11 +2,11 @@
 
 ghost use Rattle.std.specs.Prelude.{◌≡◌, ◌↔◌, ◌<◌, ◌≤◌, IsTrue, IfOk, IfErr, length, max};
 ghost use Rattle.std.specs.Option.{option_copied};
-ghost use Rattle.pg_explore.specs.Explorations.{AreApart, AreFollowed, AreReached};
+ghost use Rattle.pg_explore.specs.Explorations.{AreUnlike, AreFollowed, AreReached};
 ghost use Rattle.pg_explore.specs.Faults.{CantExplore};
 ghost use Rattle.pg_explore.specs.Ways.{AreWays};
 ghost use Rattle.pg_explore.specs.declared.fault.ExploreFault.TheVariants.{OutOfMemory};
-ghost use Rattle.pg_survey.specs.Findings.{IsCounted, end_at, ends_in, led_in, met_in, moment_at};
+ghost use Rattle.pg_survey.specs.Findings.{IsCounted, end_numbered, end_places, led_in, met_in, moment_at};
 ghost use Rattle.pg_survey.specs.Ways.{AreWaysOf, all_led};
 
 use crate::recorder::{Observer, Recorder, Ways};
@@ -39,14 +39,14 @@ impl Findings<'_, '_> {
     ///
     /// Cost: no memory.
     pub fn end_count(&self) -> usize
-        ensures { result ≡ length (ends_in self.now) }
+        ensures { result ≡ length (end_places self.now) }
     {
         self.tally.ends.len()
     }
 
     /// The place of an end, from 1 on.
     pub(crate) fn end_place(&self, number: usize) -> Option<usize>
-        ensures { result ≡ end_at (ends_in self.now) number }
+        ensures { result ≡ end_numbered (end_places self.now) number }
     {
         if number < 1 {
             return None;
@@ -58,7 +58,7 @@ impl Findings<'_, '_> {
     ///
     /// Cost: no memory.
     pub fn end(&self, number: usize) -> Option<&Moment>
-        ensures { option_copied result ≡ moment_at (met_in self.now) (end_at (ends_in self.now) number) }
+        ensures { option_copied result ≡ moment_at (met_in self.now) (end_numbered (end_places self.now) number) }
     {
         match self.end_place(number) {
             Some(place) => match self.explored.met().get(place) {
@@ -83,7 +83,7 @@ pub fn survey<'a, 'b, O: Observer>(
     observer: &mut O,
 ) -> Result<Findings<'a, 'b>, ExploreFault>
     ensures reached { IfOk result (λ found. AreReached scenario.now.config.starts.items scenario.now.plans.items limits.retries (met_in found)) }
-    ensures distinct { IfOk result (λ found. AreApart (met_in found)) }
+    ensures distinct { IfOk result (λ found. AreUnlike (met_in found)) }
     ensures first { IfOk result (λ found. 0 < length (met_in found)) }
     ensures few { IfOk result (λ found. length (met_in found) ≤ max 1 limits.worlds) }
     ensures followed { IfOk result (λ found. AreFollowed scenario.now.plans.items limits.retries (met_in found) found.explored.lent) }

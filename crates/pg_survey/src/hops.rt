@@ -1,7 +1,7 @@
 //! Runs through the worlds that were met.
 
 ghost use Rattle.std.specs.Prelude.{◌≡◌, IfOk, is_some};
-ghost use Rattle.pg_survey.specs.Findings.{IsWhereMarked, marks_in, met_in};
+ghost use Rattle.pg_survey.specs.Findings.{IsWhereMarked, differing_marks, met_in};
 ghost use Rattle.pg_survey.specs.Runs.{IsRunTo, met_by};
 
 use crate::findings::Findings;
@@ -32,7 +32,7 @@ impl Findings<'_, '_> {
     ///
     /// Errors: `AllocError`, also where a run leads back to where it began.
     pub(crate) fn differing_run(&self) -> Result<Option<Vec<Stride>>, AllocError>
-        ensures { IfOk result (λ run. IsWhereMarked (marks_in self.now) (is_some run)) }
+        ensures { IfOk result (λ run. IsWhereMarked (differing_marks self.now) (is_some run)) }
     {
         let ways = self.ways.ways.as_slice();
         match longest_run(self.alloc, ways, self.tally.differing.as_slice())? {

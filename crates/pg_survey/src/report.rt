@@ -4,7 +4,7 @@ ghost use Rattle.std.specs.Prelude.{◌≡◌, IfOk, List, None, get_or, string_
 ghost use Rattle.std.specs.Global.{Vec};
 ghost use Rattle.pg_tally.specs.declared.ways.Way.{Way};
 ghost use Rattle.pg_tally.specs.Takes.{AreTakes, widened_to};
-ghost use Rattle.pg_survey.specs.Findings.{AreAmong, joined, IsPage, IsReport, countings_in, ends_in, ways_in};
+ghost use Rattle.pg_survey.specs.Findings.{AreAmong, joined_takes, IsPage, IsReport, countings_in, end_places, ways_in};
 ghost use Rattle.pg_survey.specs.Texts.{AreSections};
 
 use crate::answers::add_answers;
@@ -56,7 +56,7 @@ impl Findings<'_, '_> {
     ///
     /// Errors: `AllocError`, also where a walk with takes leads back to where it began.
     fn takes(&self) -> Result<Option<Takes>, AllocError>
-        ensures { IfOk result (AreAmong (ways_in self.now) (ends_in self.now)) }
+        ensures { IfOk result (AreAmong (ways_in self.now) (end_places self.now)) }
     {
         let takes = takes_to(self.alloc, self.ways.ways.as_slice())?;
         Ok(takes_among(takes.as_slice(), self.tally.ends.as_slice()))
@@ -91,7 +91,7 @@ fn takes_among(takes: &[Option<Takes>], places: &[usize]) -> Option<Takes>
 
 /// Those of a place more, where some are known.
 fn with_next(among: Option<Takes>, takes: &[Option<Takes>], place: usize) -> Option<Takes>
-    ensures { result ≡ joined among (get_or takes.now place None) }
+    ensures { result ≡ joined_takes among (get_or takes.now place None) }
 {
     match takes.get(place) {
         Some(Some(next)) => Some(both(among, *next)),

@@ -25,11 +25,11 @@ pub struct Scenario<'a> {
 
 impl<'a> Scenario<'a> {
     ghost use Rattle.std.specs.Prelude.{slice_get};
-    ghost use Rattle.pg_survey.specs.Texts.{command_at, command_line, line_at, places_of};
+    ghost use Rattle.pg_survey.specs.Texts.{command_at, line_of_command, line_at, places_of};
 
     /// The line of a command of a node, by its number from 1 on.
     pub(crate) fn command(&self, node: usize, number: u32) -> &'a str
-        ensures { result.now ≡ command_line self.now node number }
+        ensures { result.now ≡ line_of_command self.now node number }
     {
         self.command_at(node, number.saturating_sub(1) as usize)
     }

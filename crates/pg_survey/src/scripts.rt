@@ -1,7 +1,7 @@
 //! A run as a script.
 
 ghost use Rattle.std.specs.Prelude.{◌≡◌, IfOk, is_some};
-ghost use Rattle.pg_survey.specs.Findings.{IsWhereMarked, end_at, ends_in, marks_in};
+ghost use Rattle.pg_survey.specs.Findings.{IsWhereMarked, end_numbered, end_places, differing_marks};
 
 use crate::findings::Findings;
 use crate::hops::Stride;
@@ -33,7 +33,7 @@ impl Findings<'_, '_> {
     /// Cost: memory for each step of the run and for the text; O(n^2) in the nodes; a walk over the packets on the
     /// ways of a node for each step at most.
     pub fn script_to_end(&self, number: usize) -> Result<Option<String>, AllocError>
-        ensures { IfOk result (λ script. is_some script ≡ is_some (end_at (ends_in self.now) number)) }
+        ensures { IfOk result (λ script. is_some script ≡ is_some (end_numbered (end_places self.now) number)) }
     {
         match self.end_place(number) {
             Some(place) => {
@@ -51,7 +51,7 @@ impl Findings<'_, '_> {
     ///
     /// Cost: that of `longest_run`, and of a script, as of `script_to_end`.
     pub fn script_of_differing(&self) -> Result<Option<String>, AllocError>
-        ensures { IfOk result (λ script. IsWhereMarked (marks_in self.now) (is_some script)) }
+        ensures { IfOk result (λ script. IsWhereMarked (differing_marks self.now) (is_some script)) }
     {
         match self.differing_run()? {
             Some(strides) => {

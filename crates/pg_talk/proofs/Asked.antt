@@ -23,8 +23,8 @@ use Rattle.pg_cluster.specs.Clients.{AllPairs}
 use Rattle.pg_talk.specs.declared.speaker.Speaker.{Speaker}
 use Rattle.pg_talk.specs.declared.speaker.Stage.{Stage}
 use Rattle.pg_talk.specs.declared.speaker.Stage.TheVariants.{Waiting, Creating, Making, Joining, Leaving, Silent}
-use Rattle.pg_talk.specs.Asking.{AllKeep, AllSpoke, IsAt, Keeps, MayBe, Spoke, all_asked, commands_of}
-use Rattle.pg_talk.specs.Asking.{first_asked, group_name, is_first, left_to_say, made_in, made_of}
+use Rattle.pg_talk.specs.Asking.{AllKeep, AllSpoke, HasHeard, HasRest, MayBe, Spoke, all_asked, commands_of}
+use Rattle.pg_talk.specs.Asking.{first_asked, group_name, is_first, left_to_say, made_in, process_made}
 use Rattle.pg_talk.specs.Asking.{make_place, next_said, pid_after, rounds_after, rounds_asked, stage_after}
 use Rattle.pg_talk.specs.Conversations.{saturated}
 use Rattle.pg_talk.proofs.Conversing.{add_one_up_to}
@@ -58,7 +58,7 @@ left_goes Silent n p = refl
 
 -- ---- what was heard
 
-at_asked : (creates : Bool) (s : Stage) (known : Option Pid) (command : Command) (count : ℕ) → next_said s known ≡ Some command → IsAt creates s false count → IsAt creates s true count
+at_asked : (creates : Bool) (s : Stage) (known : Option Pid) (command : Command) (count : ℕ) → next_said s known ≡ Some command → HasHeard creates s false count → HasHeard creates s true count
 at_asked creates Waiting known command count is at = absurd (cc)
 at_asked creates Creating known command count is at = at
 at_asked creates Making known command count is at = at
@@ -72,7 +72,7 @@ one_more a b e = omega (arith, e)
 still_more : (a b : ℕ) → b < a → b < a + 1
 still_more a b l = omega (arith, l)
 
-at_after : (creates : Bool) (s : Stage) (n count : ℕ) → IsAt creates s true count → IsAt creates (stage_after s n) false (count + 1)
+at_after : (creates : Bool) (s : Stage) (n count : ℕ) → HasHeard creates s true count → HasHeard creates (stage_after s n) false (count + 1)
 at_after creates Waiting n count at = absurd (let no = at.1 in cc)
 at_after creates Creating n count at = ap (λ k. k + 1) at.1 ∙ sym (ap make_place at.0)
 at_after creates Making zero count at = one_more count (make_place creates) at
@@ -83,7 +83,7 @@ at_after creates Leaving (suc n) count at = still_more count (make_place creates
 at_after creates Silent n count at = still_more count (make_place creates) at
 
 -- the answer to the make is that at its place
-made_here : (creates : Bool) (heard : List Answer) (answer : Answer) → length heard ≡ make_place creates → made_in creates (heard ++ answer ∷ []) ≡ made_of answer.reply
+made_here : (creates : Bool) (heard : List Answer) (answer : Answer) → length heard ≡ make_place creates → made_in creates (heard ++ answer ∷ []) ≡ process_made answer.reply
 made_here true [] answer at = absurd (cc)
 made_here true (x ∷ []) answer at = refl
 made_here true (x ∷ y ∷ xs) answer at = absurd (omega (arith, at))
@@ -109,7 +109,7 @@ none_made true (x ∷ y ∷ xs) at = absurd (omega (arith, at))
 none_made false [] at = refl
 none_made false (x ∷ xs) at = absurd (cc)
 
-process_after : (creates : Bool) (s : Stage) (known : Option Pid) (heard : List Answer) (answer : Answer) → IsAt creates s true (length heard) → known ≡ made_in creates heard
+process_after : (creates : Bool) (s : Stage) (known : Option Pid) (heard : List Answer) (answer : Answer) → HasHeard creates s true (length heard) → known ≡ made_in creates heard
     → pid_after s known answer.reply ≡ made_in creates (heard ++ answer ∷ [])
 process_after creates Waiting known heard answer at is = absurd (let no = at.1 in cc)
 process_after creates Creating known heard answer at is = is ∙ sym (made_later creates heard answer at.0 at.1)
@@ -118,7 +118,7 @@ process_after creates Joining known heard answer at is = is ∙ sym (made_before
 process_after creates Leaving known heard answer at is = is ∙ sym (made_before creates heard answer at)
 process_after creates Silent known heard answer at is = is ∙ sym (made_before creates heard answer at)
 
-may_before : (creates : Bool) (s : Stage) (known : Option Pid) (heard : List Answer) (reply : Reply) (p : Pid) → IsAt creates s true (length heard) → known ≡ made_in creates heard
+may_before : (creates : Bool) (s : Stage) (known : Option Pid) (heard : List Answer) (reply : Reply) (p : Pid) → HasHeard creates s true (length heard) → known ≡ made_in creates heard
     → MayBe p (pid_after s known reply) → MayBe p known
 may_before creates Waiting known heard reply p at is may = may
 may_before creates Creating known heard reply p at is may = may
@@ -132,26 +132,26 @@ may_before creates Silent known heard reply p at is may = may
 module _ (creates : Bool) (rounds : ℕ) where
   -- the group is there
   pub begins : (a b : Speaker) (client : Client) → a.stage ≡ Waiting → b.stage ≡ Making → b.is_asked ≡ a.is_asked → b.pid ≡ a.pid → b.rounds ≡ a.rounds → b.answered ≡ a.answered
-      → Keeps creates rounds a client → Keeps creates rounds b client
+      → HasRest creates rounds a client → HasRest creates rounds b client
   begins a b client was now asked pid left answered k =
       let count = length (polled client) in
-      let at : (creates ≡ false) × (a.is_asked ≡ false) × (count ≡ 0) = subst (λ s. IsAt creates s a.is_asked count) was k.at in
+      let at : (creates ≡ false) × (a.is_asked ≡ false) × (count ≡ 0) = subst (λ s. HasHeard creates s a.is_asked count) was k.at in
       let rest : (p : Pid) → left_to_say b.stage b.is_asked b.rounds p ≡ left_to_say a.stage a.is_asked a.rounds p = λ p.
       (λ j. left_to_say (now j) ((asked ∙ at.1) j) (left j) p) ∙ sym (λ j. left_to_say (was j) a.is_asked a.rounds p) in record {
         counted = answered ∙ k.counted;
         process = pid ∙ k.process;
         said = λ p may. ap (λ r. commands_of client ++ r) (rest p) ∙ k.said p (subst (MayBe p) pid may);
         turns = k.turns ∙ ap (λ x. count + cond x 1 0) (sym asked);
-        at = subst (λ s. IsAt creates s b.is_asked count) (sym now) (at.2 ∙ sym (ap make_place at.0));
+        at = subst (λ s. HasHeard creates s b.is_asked count) (sym now) (at.2 ∙ sym (ap make_place at.0));
       }
 
   -- the command of the stage is submitted
   pub asks : (a b : Speaker) (client client2 : Client) (command : Command) (number : ℕ) → a.is_asked ≡ false → next_said a.stage a.pid ≡ Some command
       → submitted client2 ≡ submitted client ++ record { command = command; polled = number } ∷ [] → polled client2 ≡ polled client
-      → b.stage ≡ a.stage → b.is_asked ≡ true → b.pid ≡ a.pid → b.rounds ≡ a.rounds → b.answered ≡ a.answered → Keeps creates rounds a client → Keeps creates rounds b client2
+      → b.stage ≡ a.stage → b.is_asked ≡ true → b.pid ≡ a.pid → b.rounds ≡ a.rounds → b.answered ≡ a.answered → HasRest creates rounds a client → HasRest creates rounds b client2
   asks a b client client2 command number unasked next gave heard stage asked pid left answered k =
       let count = length (polled client) in
-      let at : IsAt creates a.stage false count = subst (λ x. IsAt creates a.stage x count) unasked k.at in
+      let at : HasHeard creates a.stage false count = subst (λ x. HasHeard creates a.stage x count) unasked k.at in
       let commands : commands_of client2 ≡ commands_of client ++ command ∷ [] = ap (map (λ (x : Asked). x.command)) gave ∙ map-append (λ (x : Asked). x.command) (submitted client) (record { command = command; polled = number } ∷ []) in
       let rest : (p : Pid) → MayBe p a.pid → command ∷ left_to_say b.stage b.is_asked b.rounds p ≡ left_to_say a.stage a.is_asked a.rounds p = λ p may.
       (λ j. command ∷ left_to_say (stage j) (asked j) (left j) p) ∙ sym ((λ j. left_to_say a.stage (unasked j) a.rounds p) ∙ left_splits a.stage a.pid a.rounds command p next may) in record {
@@ -162,9 +162,9 @@ module _ (creates : Bool) (rounds : ℕ) where
             ∙ (ap (λ r. commands_of client ++ r) (rest p before) ∙ k.said p before));
         turns = ap length commands ∙ (length-append (commands_of client) (command ∷ []) ∙ (ap (λ n. n + 1) (k.turns ∙ ap (λ x. count + cond x 1 0) unasked)
             ∙ (plain count ∙ (λ j. length (sym heard j) + cond (sym asked j) 1 0))));
-        at = subst (λ s. IsAt creates s b.is_asked (length (polled client2))) (sym stage)
-            (subst (λ x. IsAt creates a.stage x (length (polled client2))) (sym asked)
-            (subst (λ (h : List Answer). IsAt creates a.stage true (length h)) (sym heard) (at_asked creates a.stage a.pid command count next at)));
+        at = subst (λ s. HasHeard creates s b.is_asked (length (polled client2))) (sym stage)
+            (subst (λ x. HasHeard creates a.stage x (length (polled client2))) (sym asked)
+            (subst (λ (h : List Answer). HasHeard creates a.stage true (length h)) (sym heard) (at_asked creates a.stage a.pid command count next at)));
       }
     where
       plain : (n : ℕ) → n + 0 + 1 ≡ n + 1
@@ -172,7 +172,7 @@ module _ (creates : Bool) (rounds : ℕ) where
 
   -- it is not submitted
   pub stays : (a b : Speaker) (client client2 : Client) → a.is_asked ≡ false → b.is_asked ≡ false → submitted client2 ≡ submitted client → polled client2 ≡ polled client
-      → b.stage ≡ a.stage → b.pid ≡ a.pid → b.rounds ≡ a.rounds → b.answered ≡ a.answered → Keeps creates rounds a client → Keeps creates rounds b client2
+      → b.stage ≡ a.stage → b.pid ≡ a.pid → b.rounds ≡ a.rounds → b.answered ≡ a.answered → HasRest creates rounds a client → HasRest creates rounds b client2
   stays a b client client2 unasked still gave heard stage pid left answered k =
       let asked : b.is_asked ≡ a.is_asked = still ∙ sym unasked in record {
         counted = answered ∙ (k.counted ∙ ap (λ (xs : List Answer). min (length xs) (2 ^ 64 - 1)) (sym heard));
@@ -180,18 +180,18 @@ module _ (creates : Bool) (rounds : ℕ) where
         said = λ p may. ap (λ (xs : List Asked). map (λ (x : Asked). x.command) xs ++ left_to_say b.stage b.is_asked b.rounds p) gave
             ∙ ((λ j. commands_of client ++ left_to_say (stage j) (asked j) (left j) p) ∙ k.said p (subst (MayBe p) pid may));
         turns = ap (λ (xs : List Asked). length (map (λ (x : Asked). x.command) xs)) gave ∙ (k.turns ∙ (λ j. length (sym heard j) + cond (sym asked j) 1 0));
-        at = subst (λ s. IsAt creates s b.is_asked (length (polled client2))) (sym stage)
-            (subst (λ x. IsAt creates a.stage x (length (polled client2))) (sym asked)
-            (subst (λ (h : List Answer). IsAt creates a.stage a.is_asked (length h)) (sym heard) k.at));
+        at = subst (λ s. HasHeard creates s b.is_asked (length (polled client2))) (sym stage)
+            (subst (λ x. HasHeard creates a.stage x (length (polled client2))) (sym asked)
+            (subst (λ (h : List Answer). HasHeard creates a.stage a.is_asked (length h)) (sym heard) k.at));
       }
 
   -- the command of the stage is answered
   pub hears : (a b : Speaker) (client client2 : Client) (answer : Answer) → a.is_asked ≡ true → polled client2 ≡ polled client ++ answer ∷ [] → submitted client2 ≡ submitted client
       → b.answered ≡ saturated (a.answered + 1) → b.is_asked ≡ false → b.pid ≡ pid_after a.stage a.pid answer.reply → b.stage ≡ stage_after a.stage a.rounds
-      → b.rounds ≡ rounds_after a.stage a.rounds → Keeps creates rounds a client → Keeps creates rounds b client2
+      → b.rounds ≡ rounds_after a.stage a.rounds → HasRest creates rounds a client → HasRest creates rounds b client2
   hears a b client client2 answer asked heard gave answered unasked pid stage left k =
       let count = length (polled client) in
-      let at : IsAt creates a.stage true count = subst (λ x. IsAt creates a.stage x count) asked k.at in
+      let at : HasHeard creates a.stage true count = subst (λ x. HasHeard creates a.stage x count) asked k.at in
       let longer : length (polled client2) ≡ count + 1 = ap length heard ∙ length-append (polled client) (answer ∷ []) in
       let rest : (p : Pid) → left_to_say b.stage b.is_asked b.rounds p ≡ left_to_say a.stage a.is_asked a.rounds p = λ p.
       (λ j. left_to_say (stage j) (unasked j) (left j) p) ∙ (left_goes a.stage a.rounds p ∙ (λ j. left_to_say a.stage (sym asked j) a.rounds p)) in record {
@@ -201,24 +201,24 @@ module _ (creates : Bool) (rounds : ℕ) where
             ∙ (ap (λ r. commands_of client ++ r) (rest p) ∙ k.said p (may_before creates a.stage a.pid (polled client) answer.reply p at k.process (subst (MayBe p) pid may)));
         turns = ap (λ (xs : List Asked). length (map (λ (x : Asked). x.command) xs)) gave ∙ (k.turns ∙ (ap (λ x. count + cond x 1 0) asked
             ∙ (plain count ∙ (λ j. sym longer j + cond (sym unasked j) 1 0))));
-        at = subst (λ s. IsAt creates s b.is_asked (length (polled client2))) (sym stage)
-            (subst (λ x. IsAt creates (stage_after a.stage a.rounds) x (length (polled client2))) (sym unasked)
-            (subst (IsAt creates (stage_after a.stage a.rounds) false) (sym longer) (at_after creates a.stage a.rounds count at)));
+        at = subst (λ s. HasHeard creates s b.is_asked (length (polled client2))) (sym stage)
+            (subst (λ x. HasHeard creates (stage_after a.stage a.rounds) x (length (polled client2))) (sym unasked)
+            (subst (HasHeard creates (stage_after a.stage a.rounds) false) (sym longer) (at_after creates a.stage a.rounds count at)));
       }
     where
       plain : (n : ℕ) → n + 1 ≡ n + 1 + 0
       plain n = omega arith
 
   -- a client that has said nothing yet
-  pub first_keeps : (a : Speaker) (client : Client) → IsSilent client → a.answered ≡ 0 → a.pid ≡ None → a.is_asked ≡ false → a.rounds ≡ rounds → IsAt creates a.stage false 0
-      → ((p : Pid) → left_to_say a.stage false rounds p ≡ all_asked creates rounds p) → Keeps creates rounds a client
+  pub first_keeps : (a : Speaker) (client : Client) → IsSilent client → a.answered ≡ 0 → a.pid ≡ None → a.is_asked ≡ false → a.rounds ≡ rounds → HasHeard creates a.stage false 0
+      → ((p : Pid) → left_to_say a.stage false rounds p ≡ all_asked creates rounds p) → HasRest creates rounds a client
   first_keeps a client silent answered pid unasked left at all = record {
     counted = answered ∙ sym (ap (λ (xs : List Answer). min (length xs) (2 ^ 64 - 1)) silent.polled);
     process = pid ∙ (sym (nothing creates) ∙ ap (made_in creates) (sym silent.polled));
     said = λ p may. ap (λ (xs : List Asked). map (λ (x : Asked). x.command) xs ++ left_to_say a.stage a.is_asked a.rounds p) silent.submitted
         ∙ ((λ j. left_to_say a.stage (unasked j) (left j) p) ∙ all p);
     turns = ap (λ (xs : List Asked). length (map (λ (x : Asked). x.command) xs)) silent.submitted ∙ (λ j. length (sym silent.polled j) + cond (sym unasked j) 1 0);
-    at = subst (λ x. IsAt creates a.stage x (length (polled client))) (sym unasked) (subst (λ (xs : List Answer). IsAt creates a.stage false (length xs)) (sym silent.polled) at);
+    at = subst (λ x. HasHeard creates a.stage x (length (polled client))) (sym unasked) (subst (λ (xs : List Answer). HasHeard creates a.stage false (length xs)) (sym silent.polled) at);
   }
     where
       nothing : (b : Bool) → made_in b [] ≡ None
@@ -226,7 +226,7 @@ module _ (creates : Bool) (rounds : ℕ) where
       nothing false = refl
 
   -- what it has said
-  pub keeps_spoke : (a : Speaker) (client : Client) → Keeps creates rounds a client → Spoke creates rounds client
+  pub keeps_spoke : (a : Speaker) (client : Client) → HasRest creates rounds a client → Spoke creates rounds client
   keeps_spoke a client k = record {
     asked = λ p may. ap (take (length (commands_of client))) (sym (k.said p (subst (MayBe p) (sym k.process) may))) ∙ take-append_seam (commands_of client) (left_to_say a.stage a.is_asked a.rounds p);
     heard = at_least a.is_asked (length (commands_of client)) (length (polled client)) k.turns;
@@ -245,16 +245,16 @@ module _ (creates : Bool) (rounds : ℕ) where
 
 -- one of them goes on, and the others stay
 pub keep_after : (rounds : ℕ) (speakers : List Speaker) (clients clients2 : List Client) (k : ℕ) (s2 : Speaker) → k < length clients → length clients2 ≡ length clients
-    → ((i : ℕ) (c : Client) → i ≢ k → get_or clients2 i c ≡ get_or clients i c) → ((c : Client) → Keeps (is_first k) rounds s2 (get_or clients2 k c))
+    → ((i : ℕ) (c : Client) → i ≢ k → get_or clients2 i c ≡ get_or clients i c) → ((c : Client) → HasRest (is_first k) rounds s2 (get_or clients2 k c))
     → AllKeep rounds speakers clients → AllKeep rounds (set speakers k s2) clients2
 keep_after rounds speakers clients clients2 k s2 within count stay here all = record {
   len = length-set speakers k s2 ∙ all.len ∙ sym count;
   each = λ i s c low. each i s c (omega (arith, low, count)) (cases_eq i k);
 }
   where
-    each : (i : ℕ) (s : Speaker) (c : Client) → i < length clients → (i ≡ k) ⊎ (i ≢ k) → Keeps (is_first i) rounds (get_or (set speakers k s2) i s) (get_or clients2 i c)
+    each : (i : ℕ) (s : Speaker) (c : Client) → i < length clients → (i ≡ k) ⊎ (i ≢ k) → HasRest (is_first i) rounds (get_or (set speakers k s2) i s) (get_or clients2 i c)
     each i s c low (inl e) =
-        subst (λ j. Keeps (is_first j) rounds (get_or (set speakers k s2) j s) (get_or clients2 j c)) (sym e)
+        subst (λ j. HasRest (is_first j) rounds (get_or (set speakers k s2) j s) (get_or clients2 j c)) (sym e)
         (rw (get_or-set_same speakers k s2 s (omega (arith, all.len, within))) (here c))
     each i s c low (inr n) = rw (get_or-set_other speakers k i s2 s n, stay i c n) (all.each i s c low)
 
@@ -269,14 +269,14 @@ all_counted_of rounds speakers clients all = record { len = all.len; each = λ i
 
 -- one more client that has said nothing
 pub begin_push : (rounds : ℕ) (speakers : List Speaker) (s2 : Speaker)
-    → ((i : ℕ) (s : Speaker) (client : Client) → i < length speakers → IsSilent client → Keeps (is_first i) rounds (get_or speakers i s) client)
-    → ((client : Client) → IsSilent client → Keeps (is_first (length speakers)) rounds s2 client)
-    → (i : ℕ) (s : Speaker) (client : Client) → i < length (speakers ++ s2 ∷ []) → IsSilent client → Keeps (is_first i) rounds (get_or (speakers ++ s2 ∷ []) i s) client
+    → ((i : ℕ) (s : Speaker) (client : Client) → i < length speakers → IsSilent client → HasRest (is_first i) rounds (get_or speakers i s) client)
+    → ((client : Client) → IsSilent client → HasRest (is_first (length speakers)) rounds s2 client)
+    → (i : ℕ) (s : Speaker) (client : Client) → i < length (speakers ++ s2 ∷ []) → IsSilent client → HasRest (is_first i) rounds (get_or (speakers ++ s2 ∷ []) i s) client
 begin_push rounds speakers s2 all here i s client low silent = elim (eqb_tells i (length speakers)) [
   | inl t ↦
-      subst (λ k. Keeps (is_first k) rounds (get_or (speakers ++ s2 ∷ []) k s) client) (sym t.1)
-      (subst (λ (x : Speaker). Keeps (is_first (length speakers)) rounds x client) (sym (get_or-append_seam speakers s2 [] s)) (here client silent))
+      subst (λ k. HasRest (is_first k) rounds (get_or (speakers ++ s2 ∷ []) k s) client) (sym t.1)
+      (subst (λ (x : Speaker). HasRest (is_first (length speakers)) rounds x client) (sym (get_or-append_seam speakers s2 [] s)) (here client silent))
   | inr f ↦
       let less : i < length speakers = let n = length-append speakers (s2 ∷ []) in omega (arith, f.1, low, n) in
-      subst (λ (x : Speaker). Keeps (is_first i) rounds x client) (sym (get_or-append speakers (s2 ∷ []) s i less)) (all i s client less silent)
+      subst (λ (x : Speaker). HasRest (is_first i) rounds x client) (sym (get_or-append speakers (s2 ∷ []) s i less)) (all i s client less silent)
 ]

@@ -20,7 +20,7 @@ use Rattle.pg_requests.specs.declared.input.Input.TheVariants as forms
 use Rattle.pg_requests.specs.declared.layout.NodePorts.{NodePorts}
 use Rattle.pg_requests.specs.Requests.{input_of}
 use Rattle.pg_talk.specs.ReadingThread.{asked_by, breaks, ReadsOn, TakesFront}
-use Rattle.pg_talk.specs.Readings.{AreAll, AreReadOn, asks, cut_by, ending_of}
+use Rattle.pg_talk.specs.Readings.{AreAll, AreReadOn, requests_in, cut_by, stream_ending}
 use Rattle.pg_talk.specs.Readings.{FailsAfter, input_then, inputs_in, inputs_of}
 
 -- ---- the inputs of bodies
@@ -28,7 +28,7 @@ use Rattle.pg_talk.specs.Readings.{FailsAfter, input_then, inputs_in, inputs_of}
 module _ (nodes : List NodePorts) where
   -- a body that spells a term
   pub first_input : (wanted : ℕ) (body : List ℕ) (others : List (List ℕ)) (last : Input) (term : Term) → wanted ≢ 0 → term_of body ≡ Ok term
-      → inputs_of nodes wanted (body ∷ others) last ≡ input_of nodes term ∷ inputs_of nodes (wanted - asks (input_of nodes term)) others last
+      → inputs_of nodes wanted (body ∷ others) last ≡ input_of nodes term ∷ inputs_of nodes (wanted - requests_in (input_of nodes term)) others last
   first_input zero body others last term some e = absurd (some refl)
   first_input (suc n) body others last term some e = ap (λ (read : Result Term TermFault). input_then nodes read (λ count. inputs_of nodes (suc n - count) others last)) e
 
@@ -101,7 +101,7 @@ module _ (nodes : List NodePorts) where
 
   -- a frame was taken out, and what it asks for was given on
   pub reads_frame : (x : Option (List ℕ)) (unread unread2 body : List ℕ) (wanted wanted2 : ℕ) (gave gave2 : List Input) (term : Term) → front_of unread ≡ Ok (Some body) → unread2 ≡ after_front unread
-      → term_of body ≡ Ok term → wanted ≢ 0 → wanted2 ≡ wanted - asks (input_of nodes term) → gave2 ≡ gave ++ input_of nodes term ∷ []
+      → term_of body ≡ Ok term → wanted ≢ 0 → wanted2 ≡ wanted - requests_in (input_of nodes term) → gave2 ≡ gave ++ input_of nodes term ∷ []
       → ReadsOn nodes x x unread unread2 wanted wanted2 gave gave2
   reads_frame x unread unread2 body wanted wanted2 gave gave2 term front after spelled some fewer more = record {
     bytes = [];
@@ -154,11 +154,11 @@ empty_of : (bytes : List ℕ) → length bytes ≡ 0 → bytes ≡ []
 empty_of [] e = refl
 empty_of (byte ∷ bytes) e = absurd (omega (arith, e))
 
-pub cut_ending : (unread : List ℕ) → length unread ≢ 0 → front_of unread ≡ Ok None → ending_of unread ≡ forms.Broken TRUNCATED
+pub cut_ending : (unread : List ℕ) → length unread ≢ 0 → front_of unread ≡ Ok None → stream_ending unread ≡ forms.Broken TRUNCATED
 cut_ending [] some front = absurd (some refl)
 cut_ending (byte ∷ bytes) some front = ap cut_by front
 
-long_ending : (unread : List ℕ) (fault : TooLong) → front_of unread ≡ Err fault → ending_of unread ≡ forms.Broken TOO_LONG
+long_ending : (unread : List ℕ) (fault : TooLong) → front_of unread ≡ Err fault → stream_ending unread ≡ forms.Broken TOO_LONG
 long_ending [] fault front = let none = written_is_read.nothing.0 in absurd (cc)
 long_ending (byte ∷ bytes) fault front = ap cut_by front
 
@@ -178,9 +178,9 @@ module _ {S : Type 0} (remaining : S → Option (List ℕ)) (fails : S → S →
     where
       whole : inputs_in nodes k (u ++ (on.bytes ++ bytes)) ≡ on.inputs ++ inputs_in nodes l (v ++ bytes)
       whole =
-          ap (λ (bodies : List (List ℕ)). inputs_of nodes k bodies (ending_of (rest_of (u ++ (on.bytes ++ bytes))))) (on.bodies bytes)
-          ∙ (ap (λ (end : List ℕ). inputs_of nodes k (on.taken ++ bodies_of (v ++ bytes)) (ending_of end)) (on.rest bytes)
-          ∙ on.asked (bodies_of (v ++ bytes)) (ending_of (rest_of (v ++ bytes))))
+          ap (λ (bodies : List (List ℕ)). inputs_of nodes k bodies (stream_ending (rest_of (u ++ (on.bytes ++ bytes))))) (on.bodies bytes)
+          ∙ (ap (λ (end : List ℕ). inputs_of nodes k (on.taken ++ bodies_of (v ++ bytes)) (stream_ending end)) (on.rest bytes)
+          ∙ on.asked (bodies_of (v ++ bytes)) (stream_ending (rest_of (v ++ bytes))))
   read_then x y u v k l g h rest on (inr (inl (bytes, all, (count, are)))) =
       inr (inl (on.bytes ++ bytes, all_then x y on.bytes bytes on.consumed all, (length on.taken + count, ap (λ (inputs : List Input). on.inputs ++ inputs) are ∙ sym some)))
     where
@@ -222,8 +222,8 @@ module _ {S : Type 0} (remaining : S → Option (List ℕ)) (fails : S → S →
       none_left source over,
       sym (
           ap (λ (bytes : List ℕ). inputs_in nodes wanted (bytes ++ [])) (empty_of unread empty)
-          ∙ (ap (λ (bodies : List (List ℕ)). inputs_of nodes wanted bodies (ending_of (rest_of []))) written_is_read.nothing.1
-          ∙ (ap (λ (end : List ℕ). inputs_of nodes wanted [] (ending_of end)) written_is_read.nothing.2 ∙ end_alone nodes wanted))),
+          ∙ (ap (λ (bodies : List (List ℕ)). inputs_of nodes wanted bodies (stream_ending (rest_of []))) written_is_read.nothing.1
+          ∙ (ap (λ (end : List ℕ). inputs_of nodes wanted [] (stream_ending end)) written_is_read.nothing.2 ∙ end_alone nodes wanted))),
     )
 
     -- it is at its end, within a frame
@@ -232,8 +232,8 @@ module _ {S : Type 0} (remaining : S → Option (List ℕ)) (fails : S → S →
       [],
       none_left source over,
       sym (
-          ap (λ (bodies : List (List ℕ)). inputs_of nodes wanted bodies (ending_of (rest_of (unread ++ [])))) (no_body unread front)
-          ∙ (ap (λ (end : List ℕ). inputs_of nodes wanted [] (ending_of end)) (whole_rest unread front)
+          ap (λ (bodies : List (List ℕ)). inputs_of nodes wanted bodies (stream_ending (rest_of (unread ++ [])))) (no_body unread front)
+          ∙ (ap (λ (end : List ℕ). inputs_of nodes wanted [] (stream_ending end)) (whole_rest unread front)
           ∙ (ap (inputs_of nodes wanted []) (cut_ending unread more front) ∙ last_input nodes wanted (forms.Broken TRUNCATED) some))),
     )
 
@@ -247,8 +247,8 @@ module _ {S : Type 0} (remaining : S → Option (List ℕ)) (fails : S → S →
           or_none source,
           all_of source,
           sym (
-              ap (λ (bodies : List (List ℕ)). inputs_of nodes wanted bodies (ending_of (rest_of bytes))) none
-              ∙ (ap (λ (end : List ℕ). inputs_of nodes wanted [] (ending_of end)) (front_is_frame.none bytes none)
+              ap (λ (bodies : List (List ℕ)). inputs_of nodes wanted bodies (stream_ending (rest_of bytes))) none
+              ∙ (ap (λ (end : List ℕ). inputs_of nodes wanted [] (stream_ending end)) (front_is_frame.none bytes none)
               ∙ (ap (inputs_of nodes wanted []) (long_ending bytes _ long) ∙ last_input nodes wanted (forms.Broken TOO_LONG) some))),
         )
 
@@ -257,7 +257,7 @@ module _ {S : Type 0} (remaining : S → Option (List ℕ)) (fails : S → S →
         → AreReadOn remaining fails nodes wanted source unread (forms.Broken (number_of fault) ∷ [])
     ends_broken some body fault front spelled =
         let bytes = unread ++ or_none source in
-        let end = ending_of (rest_of bytes) in
+        let end = stream_ending (rest_of bytes) in
         inl (
           or_none source,
           all_of source,
@@ -314,7 +314,7 @@ ended_whole (x ∷ next ∷ xs) ys ended has = ended_whole (next ∷ xs) ys ende
 
 module _ (nodes : List NodePorts) (on : (term : Term) → ends (input_of nodes term) ≡ false) where
   ended_then : (read : Result Term TermFault) (later : ℕ → List Input) → ((count : ℕ) → IsEnded (later count)) → IsEnded (input_then nodes read later)
-  ended_then (Ok term) later all = ended_more (input_of nodes term) (later (asks (input_of nodes term))) (on term) (all (asks (input_of nodes term)))
+  ended_then (Ok term) later all = ended_more (input_of nodes term) (later (requests_in (input_of nodes term))) (on term) (all (requests_in (input_of nodes term)))
   ended_then (Err fault) later all = tt
 
   ended_of : (wanted : ℕ) (bodies : List (List ℕ)) (last : Input) → IsEnded (inputs_of nodes wanted bodies last)
@@ -327,7 +327,7 @@ module _ (nodes : List NodePorts) (on : (term : Term) → ends (input_of nodes t
 
   module _ {S : Type 0} (remaining : S → Option (List ℕ)) (fails : S → S → Type 0) where
     nothing_more : (source : Option (List ℕ)) (unread : List ℕ) (wanted : ℕ) (xs ys : List Input) → AreReadOn remaining fails nodes wanted source unread (xs ++ ys) → has_end xs ≡ true → ys ≡ []
-    nothing_more source unread wanted xs ys (inl (bytes, all, are)) has = whole_of wanted (bodies_of (unread ++ bytes)) (ending_of (rest_of (unread ++ bytes))) xs ys are has
+    nothing_more source unread wanted xs ys (inl (bytes, all, are)) has = whole_of wanted (bodies_of (unread ++ bytes)) (stream_ending (rest_of (unread ++ bytes))) xs ys are has
     nothing_more source unread wanted xs ys (inr (inl (bytes, all, (count, are)))) has = whole_of wanted (take count (bodies_of (unread ++ bytes))) (forms.Broken OUT_OF_MEMORY) xs ys are has
     nothing_more source unread wanted xs ys (inr (inr (bytes, failed, are))) has = whole_of wanted (bodies_of (unread ++ bytes)) (forms.Broken READ_FAULT) xs ys are has
 
@@ -348,7 +348,7 @@ module _ (nodes : List NodePorts) (on : (term : Term) → ends (input_of nodes t
 
   -- a frame was taken out, and the input goes on
   pub front_goes : (x : Option (List ℕ)) (unread unread2 : List ℕ) (wanted wanted2 : ℕ) (gave gave2 : List Input) (input : Input) → TakesFront nodes unread unread2 input → breaks input ≡ false
-      → wanted ≢ 0 → wanted2 ≡ wanted - asks input → gave2 ≡ gave ++ input ∷ [] → ReadsOn nodes x x unread unread2 wanted wanted2 gave gave2
+      → wanted ≢ 0 → wanted2 ≡ wanted - requests_in input → gave2 ≡ gave ++ input ∷ [] → ReadsOn nodes x x unread unread2 wanted wanted2 gave gave2
   front_goes x unread unread2 wanted wanted2 gave gave2 input (inr (fault, front, is)) whole some fewer more = never_true (sym whole ∙ ap breaks is)
   front_goes x unread unread2 wanted wanted2 gave gave2 input (inl (body, front, after, inr is)) whole some fewer more = never_true (sym whole ∙ ap breaks is)
   front_goes x unread unread2 wanted wanted2 gave gave2 input (inl (body, front, after, inl is)) whole some fewer more = by_term (term_of body) refl
@@ -357,7 +357,7 @@ module _ (nodes : List NodePorts) (on : (term : Term) → ends (input_of nodes t
       by_term (Err fault) e = never_true (sym whole ∙ ap breaks (is ∙ ap (asked_by nodes) e))
       by_term (Ok term) e =
           let same : input ≡ input_of nodes term = is ∙ ap (asked_by nodes) e in
-          reads_frame nodes x unread unread2 body wanted wanted2 gave gave2 term front after e some (fewer ∙ ap (λ (one : Input). wanted - asks one) same) (more ∙ ap (λ (one : Input). gave ++ one ∷ []) same)
+          reads_frame nodes x unread unread2 body wanted wanted2 gave gave2 term front after e some (fewer ∙ ap (λ (one : Input). wanted - requests_in one) same) (more ∙ ap (λ (one : Input). gave ++ one ∷ []) same)
 
   module _ {S : Type 0} (remaining : S → Option (List ℕ)) (fails : S → S → Type 0) where
     -- or it is broken there

@@ -13,29 +13,29 @@ use Rattle.pg_requests.specs.declared.layout.NodePorts.{NodePorts}
 use Rattle.pg_requests.specs.Requests.{input_of}
 use Rattle.pg_talk.proofs.BodiesRead.{cut_ending, first_input, last_input}
 use Rattle.pg_talk.specs.Frames.{framed}
-use Rattle.pg_talk.specs.ReadingLaws.{FramesAreRead, IsHeld, inputs_said, requests_said}
-use Rattle.pg_talk.specs.Readings.{asks, ending_of, inputs_in, inputs_of}
+use Rattle.pg_talk.specs.ReadingLaws.{FramesAreRead, IsFramed, inputs_said, requests_said}
+use Rattle.pg_talk.specs.Readings.{requests_in, stream_ending, inputs_in, inputs_of}
 
-are_bodies : (terms : List Term) → AllByRecursion IsHeld terms → AllByRecursion IsBody (map written terms)
+are_bodies : (terms : List Term) → AllByRecursion IsFramed terms → AllByRecursion IsBody (map written terms)
 are_bodies [] all = tt
 are_bodies (term ∷ terms) all = (all.0.fits, are_bodies terms all.1)
 
 module _ (nodes : List NodePorts) where
   -- so are the bodies read
-  bodies_read : (wanted : ℕ) (terms : List Term) (last : Input) → AllByRecursion IsHeld terms → requests_said nodes terms < wanted
+  bodies_read : (wanted : ℕ) (terms : List Term) (last : Input) → AllByRecursion IsFramed terms → requests_said nodes terms < wanted
       → inputs_of nodes wanted (map written terms) last ≡ inputs_said nodes terms ++ last ∷ []
   bodies_read wanted [] last all some = last_input nodes wanted last (λ e. omega (arith, some, e))
   bodies_read wanted (term ∷ terms) last all some =
-      let count = sum_by-cons (λ (term : Term). asks (input_of nodes term)) term terms in
+      let count = sum_by-cons (λ (term : Term). requests_in (input_of nodes term)) term terms in
       first_input nodes wanted (written term) (map written terms) last term (λ e. omega (arith, some, e)) all.0.back
-      ∙ ap (λ (inputs : List Input). input_of nodes term ∷ inputs) (bodies_read (wanted - asks (input_of nodes term)) terms last all.1 (omega (arith, some, count)))
+      ∙ ap (λ (inputs : List Input). input_of nodes term ∷ inputs) (bodies_read (wanted - requests_in (input_of nodes term)) terms last all.1 (omega (arith, some, count)))
 
-  frames_read : (wanted : ℕ) (terms : List Term) (rest : List ℕ) → AllByRecursion IsHeld terms → requests_said nodes terms < wanted → front_of rest ≡ Ok None
-      → inputs_in nodes wanted (flat_map framed terms ++ rest) ≡ inputs_said nodes terms ++ ending_of rest ∷ []
+  frames_read : (wanted : ℕ) (terms : List Term) (rest : List ℕ) → AllByRecursion IsFramed terms → requests_said nodes terms < wanted → front_of rest ≡ Ok None
+      → inputs_in nodes wanted (flat_map framed terms ++ rest) ≡ inputs_said nodes terms ++ stream_ending rest ∷ []
   frames_read wanted terms rest all some front =
       ap (λ (bytes : List ℕ). inputs_in nodes wanted (bytes ++ rest)) (sym (flat_map-map frame written terms))
-      ∙ (ap (λ (bodies : List (List ℕ)). inputs_of nodes wanted bodies (ending_of (rest_of (flat_map frame (map written terms) ++ rest)))) bodies
-      ∙ (ap (λ (end : List ℕ). inputs_of nodes wanted (map written terms) (ending_of end)) end ∙ bodies_read wanted terms (ending_of rest) all some))
+      ∙ (ap (λ (bodies : List (List ℕ)). inputs_of nodes wanted bodies (stream_ending (rest_of (flat_map frame (map written terms) ++ rest)))) bodies
+      ∙ (ap (λ (end : List ℕ). inputs_of nodes wanted (map written terms) (stream_ending end)) end ∙ bodies_read wanted terms (stream_ending rest) all some))
     where
       none : bodies_of rest ≡ []
       none = ((front_is_first.open_rest rest).0 front).0

@@ -18,7 +18,7 @@ use Rattle.std.specs.Str.{chars}
 use Rattle.pg_talk.specs.Conversations.{saturated}
 use Rattle.pg_talk.specs.Frames.{framed, IsUntellable, WritesReply}
 use Rattle.pg_talk.specs.Servings.{IsKept, with_node}
-use Rattle.pg_talk.specs.Written.{AreReplies, InTurn, IsReply, PortName, commands_of, outcomes}
+use Rattle.pg_talk.specs.Written.{AreReplies, AlternateWithAnswers, IsReply, PortName, commands_of, outcomes}
 
 pub true_is_not_false : true ≡ false → ⊥
 true_is_not_false e = absurd (cc)
@@ -77,7 +77,7 @@ replies_more port os rs o r all is = record {
           (get_or-append os (o ∷ []) none k less_too) (get_or-append rs (r ∷ []) none k less) (all.each k none less_too)
     ]
 
-turns_more : (asked : List Asked) (one : Asked) → InTurn asked → one.polled ≡ saturated (length asked) → InTurn (asked ++ one ∷ [])
+turns_more : (asked : List Asked) (one : Asked) → AlternateWithAnswers asked → one.polled ≡ saturated (length asked) → AlternateWithAnswers (asked ++ one ∷ [])
 turns_more asked one all here k none low = elim (eqb_tells k (length asked)) [
   | inl t ↦ ap (λ (x : Asked). x.polled) (get_or_push asked one none k (sym t.1)) ∙ here ∙ ap saturated (sym t.1)
   | inr f ↦

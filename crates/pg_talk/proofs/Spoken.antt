@@ -31,9 +31,9 @@ use Rattle.pg_talk.specs.declared.service.serving.ServedNode.{ServedNode}
 use Rattle.pg_talk.specs.Conversations.{saturated}
 use Rattle.pg_talk.specs.Desks.{SameDesk, waiting_at}
 use Rattle.pg_talk.specs.Frames.{framed, WritesReply}
-use Rattle.pg_talk.specs.Servings.{AreKept, IsKept, IsKeptAt, Knows, Serves, ServesTold, View}
+use Rattle.pg_talk.specs.Servings.{AreDesksKept, IsKept, IsKeptAt, Knows, Serves, ServesTold, View}
 use Rattle.pg_talk.specs.Servings.{asked_at, is_known_lost, known_lost, node_at, port_at, replied_at}
-use Rattle.pg_talk.specs.Written.{IsAddressed, IsReply, PortName, Told, Written, bytes_of, heard_at}
+use Rattle.pg_talk.specs.Written.{IsAddressed, IsReply, PortName, InputsSeen, Written, bytes_of, heard_at}
 use Rattle.pg_talk.specs.Written.{is_lost_at, none_told, notices_in, ports_in, replies_to, request_to}
 use Rattle.pg_talk.specs.Written.{requests_to, said_at, tell_bad, tell_lost, tell_next, tell_on, told_by}
 use Rattle.pg_talk.proofs.Posts.{bad_same, kept_answers, kept_hands, kept_later, kept_loses}
@@ -127,7 +127,7 @@ kept_by lost desk r r2 s s2 h h2 p p2 er es eh ep k =
 kept_step : (lost : List Bool) (inputs inputs2 : List Input) (d : List Desk) (clients clients2 : List Client) (frames frames2 : List Written) (k : ℕ) (x2 : Desk) → k < length d
     → ((i : ℕ) → i ≢ k → requests_to i inputs2 ≡ requests_to i inputs) → ((i : ℕ) → i ≢ k → said_at i clients2 ≡ said_at i clients) → ((i : ℕ) → i ≢ k → heard_at i clients2 ≡ heard_at i clients)
     → ((i : ℕ) → i ≢ k → replies_to i frames2 ≡ replies_to i frames) → IsKeptAt lost (requests_to k inputs2) x2 (said_at k clients2) (heard_at k clients2) (replies_to k frames2)
-    → AreKept lost inputs d clients frames → AreKept lost inputs2 (set d k x2) clients2 frames2
+    → AreDesksKept lost inputs d clients frames → AreDesksKept lost inputs2 (set d k x2) clients2 frames2
 kept_step lost inputs inputs2 d clients clients2 frames frames2 k x2 low requests said heard replies here all i none within = go (cases_eq i k)
   where
     go : (i ≡ k) ⊎ (i ≢ k) → IsKeptAt lost (requests_to i inputs2) (get_or (set d k x2) i none) (said_at i clients2) (heard_at i clients2) (replies_to i frames2)
@@ -144,7 +144,7 @@ kept_step lost inputs inputs2 d clients clients2 frames frames2 k x2 low request
 kept_all : (lost lost2 : List Bool) (inputs inputs2 : List Input) (d : List Desk) (clients clients2 : List Client) (frames frames2 : List Written)
     → ((node : ℕ) → is_lost_at node lost ≡ true → is_lost_at node lost2 ≡ true) → ((i : ℕ) → i < length d → requests_to i inputs2 ≡ requests_to i inputs)
     → ((i : ℕ) → said_at i clients2 ≡ said_at i clients) → ((i : ℕ) → heard_at i clients2 ≡ heard_at i clients) → ((i : ℕ) → replies_to i frames2 ≡ replies_to i frames)
-    → AreKept lost inputs d clients frames → AreKept lost2 inputs2 d clients2 frames2
+    → AreDesksKept lost inputs d clients frames → AreDesksKept lost2 inputs2 d clients2 frames2
 kept_all lost lost2 inputs inputs2 d clients clients2 frames frames2 later requests said heard replies all i none low =
     let desk = get_or d i none in
     kept_by lost2 desk (requests_to i inputs) (requests_to i inputs2) (said_at i clients) (said_at i clients2) (heard_at i clients) (heard_at i clients2)
@@ -209,15 +209,15 @@ addressed_more count count2 frames frame same is all =
 
 -- ---- the inputs
 
-told_on : (given : Config) (told : Told) (inputs : List Input) (input : Input) → tell_on given told (inputs ++ input ∷ []) ≡ tell_next given (tell_on given told inputs) input
+told_on : (given : Config) (told : InputsSeen) (inputs : List Input) (input : Input) → tell_on given told (inputs ++ input ∷ []) ≡ tell_next given (tell_on given told inputs) input
 told_on given told [] input = refl
 told_on given told (other ∷ inputs) input = told_on given (tell_next given told other) inputs input
 
 -- what is served with one input more, by what that comes to
-takes_by : (given : Config) (first now : Option (List ℕ)) (inputs : List Input) (input : Input) (view : View) (told : Told) → told ≡ tell_next given (told_by given inputs) input
+takes_by : (given : Config) (first now : Option (List ℕ)) (inputs : List Input) (input : Input) (view : View) (told : InputsSeen) → told ≡ tell_next given (told_by given inputs) input
     → ServesTold given told first (inputs ++ input ∷ []) view now → Serves given first (inputs ++ input ∷ []) view now
 takes_by given first now inputs input view told is serves =
-    subst (λ (t : Told). ServesTold given t first (inputs ++ input ∷ []) view now) (is ∙ sym (told_on given (none_told given) inputs input)) serves
+    subst (λ (t : InputsSeen). ServesTold given t first (inputs ++ input ∷ []) view now) (is ∙ sym (told_on given (none_told given) inputs input)) serves
 
 unasked : (inputs : List Input) (input : Input) (i : ℕ) → request_to i input ≡ [] → requests_to i (inputs ++ input ∷ []) ≡ requests_to i inputs
 unasked inputs input i none =
@@ -240,7 +240,7 @@ not_asked_of client i command n = elim (eqb_tells client i) [
 
 -- ---- one desk
 
-module _ (given : Config) (first before : Option (List ℕ)) (inputs : List Input) (told : Told) (a : View) (k : ℕ) (x : Desk) (low : k < length a.desks) (value : x ≡ get_or a.desks k x)
+module _ (given : Config) (first before : Option (List ℕ)) (inputs : List Input) (told : InputsSeen) (a : View) (k : ℕ) (x : Desk) (low : k < length a.desks) (value : x ≡ get_or a.desks k x)
     (s : ServesTold given told first inputs a before) where
   abbrev requests_here : List Command
   requests_here = requests_to k inputs
@@ -298,7 +298,7 @@ abbrev reply_at : Option (List ℕ) → Option (List ℕ) → Desk → Term → 
 reply_at before after desk outcome = WritesReply before after desk.name desk.port (saturated (desk.replied + 1)) outcome
 
 -- whether its node is held for lost is whether it was lost
-lost_told : (given : Config) (told : Told) (a : View) (k : ℕ) (x : Desk) (so : Bool) → k < length a.desks → x ≡ get_or a.desks k x → is_known_lost (node_at k a.desks) a.nodes ≡ so
+lost_told : (given : Config) (told : InputsSeen) (a : View) (k : ℕ) (x : Desk) (so : Bool) → k < length a.desks → x ≡ get_or a.desks k x → is_known_lost (node_at k a.desks) a.nodes ≡ so
     → Knows given told a → is_lost_at x.node told.lost ≡ so
 lost_told given told a k x so low value lost knows =
     ap (λ (all : List Bool). get_or all x.node false) (sym knows.known) ∙ ap (λ (node : ℕ). get_or (known_lost a.nodes) node false) (sym (found (λ (desk : Desk). desk.node) a.desks k x 0 low value)) ∙ lost
@@ -311,7 +311,7 @@ replied_same a b same = record { name = same.name; node = same.node; port = same
 
 module _ (given : Config) (first before : Option (List ℕ)) (inputs : List Input) (a : View) (k : ℕ) (x : Desk) (low : k < length a.desks) (value : x ≡ get_or a.desks k x)
     (s : Serves given first inputs a before) where
-  abbrev told_here : Told
+  abbrev told_here : InputsSeen
   told_here = told_by given inputs
 
   abbrev was_here : IsKeptAt told_here.lost (requests_to k inputs) x (said_at k (clients_in a.running)) (heard_at k (clients_in a.running)) (replies_to k s.frames)
@@ -516,7 +516,7 @@ module _ (given : Config) (first before : Option (List ℕ)) (inputs : List Inpu
 -- ---- other inputs
 
 module _ (given : Config) (first before : Option (List ℕ)) (inputs : List Input) (a : View) (s : Serves given first inputs a before) where
-  abbrev told_now : Told
+  abbrev told_now : InputsSeen
   told_now = told_by given inputs
 
   -- a body was told to ask for nothing

@@ -14,7 +14,7 @@ use Rattle.pg_talk.proofs.InputsGoOn.{goes_on}
 use Rattle.pg_talk.specs.declared.service.reading.Reading.{Reading}
 use Rattle.pg_talk.specs.declared.service.reader.Reader.{Reader}
 use Rattle.pg_talk.specs.Readers.{held_by, Reads}
-use Rattle.pg_talk.specs.Readings.{AreRead, AreReadOn, asks}
+use Rattle.pg_talk.specs.Readings.{AreRead, AreReadOn, requests_in}
 use Rattle.pg_talk.specs.ReadingThread.{breaks, EndsAt, GoesOn, IsWaiting, ReadsOn, TakesFront}
 
 pub out_itself : (a : SlotOut Input) → SameSlotOut a a
@@ -74,7 +74,7 @@ module _ {S : Type 0} (remaining : S → Option (List ℕ)) (fails : S → S →
 
   -- a frame was taken out, and what it asks for was given on
   pub goes_frame : (a b : Reading S) (input : Input) → b.layout ≡ a.layout → b.source ≡ a.source → SameSlotOut a.out b.out → TakesFront a.layout.nodes.items a.deframer.unread b.deframer.unread input
-      → breaks input ≡ false → a.requests ≢ 0 → b.requests ≡ a.requests - asks input → given b.out ≡ given a.out ++ input ∷ [] → GoesOn remaining fails a b
+      → breaks input ≡ false → a.requests ≢ 0 → b.requests ≡ a.requests - requests_in input → given b.out ≡ given a.out ++ input ∷ [] → GoesOn remaining fails a b
   goes_frame a b input layout source same front whole some fewer gave = record {
     layout = layout;
     same = same;
@@ -96,7 +96,7 @@ waiting_front wanted unread (inr front) some = front
 -- ---- a turn: a frame is taken out, its request is counted, and its input is given on
 
 module _ {S : Type 0} (remaining : S → Option (List ℕ)) (fails : S → S → Type 0) (a took counted b : Reading S) (input : Input) (front : TakesFront a.layout.nodes.items a.deframer.unread took.deframer.unread input)
-    (takes : took ≡ record a { deframer = took.deframer }) (counts : counted ≡ record took { requests = took.requests - asks input }) (gives : b ≡ record counted { out = b.out })
+    (takes : took ≡ record a { deframer = took.deframer }) (counts : counted ≡ record took { requests = took.requests - requests_in input }) (gives : b ≡ record counted { out = b.out })
     (same : SameSlotOut counted.out b.out) where
   same_out : counted.out ≡ a.out
   same_out = ap (λ (x : Reading S). x.out) counts ∙ ap (λ (x : Reading S). x.out) takes
@@ -114,7 +114,7 @@ module _ {S : Type 0} (remaining : S → Option (List ℕ)) (fails : S → S →
       (subst (λ unread. TakesFront a.layout.nodes.items a.deframer.unread unread input)
       (sym (ap (λ (x : Reading S). x.deframer.unread) gives ∙ ap (λ (x : Reading S). x.deframer.unread) counts)) front)
       whole some
-      (ap (λ (x : Reading S). x.requests) gives ∙ (ap (λ (x : Reading S). x.requests) counts ∙ ap (λ (x : Reading S). x.requests - asks input) takes)) (on_given (input ∷ []) gave)
+      (ap (λ (x : Reading S). x.requests) gives ∙ (ap (λ (x : Reading S). x.requests) counts ∙ ap (λ (x : Reading S). x.requests - requests_in input) takes)) (on_given (input ∷ []) gave)
 
   pub turn_ends : breaks input ≡ true → a.requests ≢ 0 → given b.out ≡ given counted.out ++ input ∷ [] → EndsAt remaining fails a b
   turn_ends broken some gave = ends_frame remaining fails a b took.deframer.unread input on_same (inl (on_given (input ∷ []) gave)) front broken some

@@ -21,7 +21,7 @@ use Rattle.pg_talk.specs.declared.service.desk.Desk.{Desk}
 use Rattle.pg_talk.specs.declared.service.serving.Serving.{Serving}
 use Rattle.pg_talk.specs.Conversations.{saturated}
 use Rattle.pg_talk.specs.Frames.{WritesReply}
-use Rattle.pg_talk.specs.Servings.{Advances, Comes, ServingGoes, RepliesLost, RepliesNext, Serves, Takes, asked_at}
+use Rattle.pg_talk.specs.Servings.{Advances, CameSince, ServingGoes, RepliesLost, RepliesNext, Serves, ServesOne, asked_at}
 use Rattle.pg_talk.specs.Servings.{desks_of, is_known_lost, kept_in, lost_at, nodes_of, replied_at, view_of}
 
 pub on_ok : {T E : Type 0} (r : Result T E) (P Q : Type 0) → OnOk r P → (P → Q) → OnOk r Q
@@ -61,15 +61,15 @@ asked_here a client x told low value is = get_or-map (λ (desk : Desk). desk.is_
 
 -- ---- what comes in
 
-pub comes_next : (came kept came2 : List Input) (input : Input) → kept ≡ [] → came2 ≡ came ++ input ∷ [] → Comes came kept came2 (input ∷ [])
+pub comes_next : (came kept came2 : List Input) (input : Input) → kept ≡ [] → came2 ≡ came ++ input ∷ [] → CameSince came kept came2 (input ∷ [])
 comes_next came kept came2 input none more inputs e = more ∙ ap (λ (all : List Input). all ++ input ∷ []) (e ∙ ap (λ (k : List Input). inputs ++ k) none ∙ append-nil inputs)
 
-pub comes_not : (came kept came2 : List Input) → kept ≡ [] → came2 ≡ came → Comes came kept came2 []
+pub comes_not : (came kept came2 : List Input) → kept ≡ [] → came2 ≡ came → CameSince came kept came2 []
 comes_not came kept came2 none same inputs e = same ∙ e ∙ ap (λ (k : List Input). inputs ++ k) none
 
 module _ (a b : Serving) (came came2 : List Input) (x y : Option (List ℕ)) where
   -- what came first was kept
-  pub advances_kept : (input : Input) (mid : Serving) → view_of mid ≡ view_of a → Comes came (kept_in a.kept) came2 (input ∷ [])
+  pub advances_kept : (input : Input) (mid : Serving) → view_of mid ≡ view_of a → CameSince came (kept_in a.kept) came2 (input ∷ [])
       → view_of b ≡ view_of mid → b.kept ≡ Some input → Advances a b came came2 x x
   advances_kept input mid first comes second kept given before s = record {
     inputs = s.inputs;
@@ -78,7 +78,7 @@ module _ (a b : Serving) (came came2 : List Input) (x y : Option (List ℕ)) whe
   }
 
   -- or taken
-  pub advances_took : (input : Input) (mid : Serving) → view_of mid ≡ view_of a → mid.kept ≡ None → Comes came (kept_in a.kept) came2 (input ∷ []) → Takes input mid b x y
+  pub advances_took : (input : Input) (mid : Serving) → view_of mid ≡ view_of a → mid.kept ≡ None → CameSince came (kept_in a.kept) came2 (input ∷ []) → ServesOne input mid b x y
       → Advances a b came came2 x y
   advances_took input mid first none comes takes given before s = record {
     inputs = s.inputs ++ input ∷ [];
@@ -87,7 +87,7 @@ module _ (a b : Serving) (came came2 : List Input) (x y : Option (List ℕ)) whe
   }
 
   -- nothing came
-  pub advances_empty : view_of b ≡ view_of a → b.kept ≡ None → Comes came (kept_in a.kept) came2 [] → Advances a b came came2 x x
+  pub advances_empty : view_of b ≡ view_of a → b.kept ≡ None → CameSince came (kept_in a.kept) came2 [] → Advances a b came came2 x x
   advances_empty view none comes given before s = record {
     inputs = s.inputs;
     whole = comes s.inputs s.whole ∙ ap (λ k. s.inputs ++ kept_in k) (sym none);
@@ -119,7 +119,7 @@ module _ (a b : Serving) (came came2 : List Input) (x y : Option (List ℕ)) whe
 -- ---- what one call does
 
 pub takes_to : (input : Input) (a b : Serving) (x y : Option (List ℕ)) → b.kept ≡ a.kept
-    → ((given : Config) (first : Option (List ℕ)) (inputs : List Input) → Serves given first inputs (view_of a) x → Serves given first (inputs ++ input ∷ []) (view_of b) y) → Takes input a b x y
+    → ((given : Config) (first : Option (List ℕ)) (inputs : List Input) → Serves given first inputs (view_of a) x → Serves given first (inputs ++ input ∷ []) (view_of b) y) → ServesOne input a b x y
 takes_to input a b x y kept takes = record { kept = kept; takes = takes }
 
 -- the reply was written by the desk as it is now

@@ -33,7 +33,7 @@ use Rattle.pg_talk.specs.Services.{WasServed}
 use Rattle.pg_talk.specs.Servings.{IsKept, IsKeptAt, IsNew, Serves, View, known_lost}
 use Rattle.pg_talk.specs.Servings.{names_of, port_at, ports_of, with_node}
 use Rattle.pg_talk.specs.Verdicts.{IsJudged}
-use Rattle.pg_talk.specs.Written.{AllServed, IsAddressed, IsServed, PortName, Told, Written}
+use Rattle.pg_talk.specs.Written.{AllServed, IsAddressed, IsServed, PortName, InputsSeen, Written}
 use Rattle.pg_talk.specs.Written.{heard_at, is_lost_at, none_told, ports_in, replies_to, requests_to}
 use Rattle.pg_talk.specs.Written.{said_at, tell_bad, tell_lost, tell_next, tell_on, told_by}
 use Rattle.pg_talk.proofs.BodiesRead.{ends, has_end, read_whole}
@@ -140,12 +140,12 @@ all_served given before after inputs view idle s = record {
 
 -- ---- the input
 
-over_if : (test : Bool) (a b : Told) (over : Option (Option ℕ)) → a.over ≡ over → b.over ≡ over → (cond test a b).over ≡ over
+over_if : (test : Bool) (a b : InputsSeen) (over : Option (Option ℕ)) → a.over ≡ over → b.over ≡ over → (cond test a b).over ≡ over
 over_if true a b over p q = p
 over_if false a b over p q = q
 
 -- what does not end the input does not say so
-over_kept : (given : Config) (told : Told) (input : Input) → ends input ≡ false → (tell_next given told input).over ≡ told.over
+over_kept : (given : Config) (told : InputsSeen) (input : Input) → ends input ≡ false → (tell_next given told input).over ≡ told.over
 over_kept given told (forms.Ask client command) e =
     over_if (nat_lt client (length (ports_in 0 given))) (record told { bodies = told.bodies + 1 }) (tell_bad told) told.over refl refl
 over_kept given told (forms.Lose node) e = over_if (get_or told.lost node true) (tell_bad told) (tell_lost given node told) told.over refl refl
@@ -161,7 +161,7 @@ end_or_later input inputs later = go (ends input) refl
     go false e = ap (λ (end : Bool). end || has_end inputs) e ∙ later e
 
 -- inputs that are over have an end
-over_by_end : (given : Config) (inputs : List Input) (told : Told) (fault : Option ℕ) → told.over ≡ None → (tell_on given told inputs).over ≡ Some fault → has_end inputs ≡ true
+over_by_end : (given : Config) (inputs : List Input) (told : InputsSeen) (fault : Option ℕ) → told.over ≡ None → (tell_on given told inputs).over ≡ Some fault → has_end inputs ≡ true
 over_by_end given [] told fault none some = absurd (cc)
 over_by_end given (input ∷ inputs) told fault none some =
     end_or_later input inputs (λ e. over_by_end given inputs (tell_next given told input) fault (over_kept given told input e ∙ none) some)

@@ -36,9 +36,9 @@ abbrev pub all_asked : Bool → ℕ → Pid → List Command
 all_asked creates rounds pid = first_asked creates ++ rounds_asked pid rounds
 
 -- the process that a reply tells of
-abbrev pub made_of : Reply → Option Pid
-made_of (Made pid) = Some pid
-made_of reply = None
+abbrev pub process_made : Reply → Option Pid
+process_made (Made pid) = Some pid
+process_made reply = None
 
 -- how many answers come before that to the make
 abbrev pub make_place : Bool → ℕ
@@ -47,7 +47,7 @@ make_place false = 0
 
 -- the process that a client made, by what it was answered
 abbrev pub made_in : Bool → List Answer → Option Pid
-made_in creates heard = option_map_or (λ answer. made_of answer.reply) (slice_get heard (make_place creates)) None
+made_in creates heard = option_map_or (λ answer. process_made answer.reply) (slice_get heard (make_place creates)) None
 
 -- it is this one, or none is known
 abbrev pub MayBe : Pid → Option Pid → Type 0
@@ -101,7 +101,7 @@ rounds_after stage n = n
 
 -- the process that is known then
 abbrev pub pid_after : Stage → Option Pid → Reply → Option Pid
-pid_after Making pid reply = made_of reply
+pid_after Making pid reply = process_made reply
 pid_after stage pid reply = pid
 
 -- what is left to be said by a client that has submitted the command of its stage, or not
@@ -114,21 +114,21 @@ left_to_say Leaving asked n pid = cond asked [] (Leave group_name pid ∷ []) ++
 left_to_say Silent asked n pid = []
 
 -- how many answers a client has heard at a stage
-abbrev pub IsAt : Bool → Stage → Bool → ℕ → Type 0
-IsAt creates Waiting asked count = (creates ≡ false) × (asked ≡ false) × (count ≡ 0)
-IsAt creates Creating asked count = (creates ≡ true) × (count ≡ 0)
-IsAt creates Making asked count = count ≡ make_place creates
-IsAt creates stage asked count = make_place creates < count
+abbrev pub HasHeard : Bool → Stage → Bool → ℕ → Type 0
+HasHeard creates Waiting asked count = (creates ≡ false) × (asked ≡ false) × (count ≡ 0)
+HasHeard creates Creating asked count = (creates ≡ true) × (count ≡ 0)
+HasHeard creates Making asked count = count ≡ make_place creates
+HasHeard creates stage asked count = make_place creates < count
 
 -- A client has said the first of what it is to say, and its speaker has the rest.
-pub record Keeps (creates : Bool) (rounds : ℕ) (speaker : Speaker) (client : Client) : Type 0 where
+pub record HasRest (creates : Bool) (rounds : ℕ) (speaker : Speaker) (client : Client) : Type 0 where
   pub counted : speaker.answered ≡ polled_count client
   pub process : speaker.pid ≡ made_in creates (polled client)
   pub said : (pid : Pid) → MayBe pid speaker.pid → commands_of client ++ left_to_say speaker.stage speaker.is_asked speaker.rounds pid ≡ all_asked creates rounds pid
   pub turns : length (commands_of client) ≡ length (polled client) + cond speaker.is_asked 1 0
-  pub at : IsAt creates speaker.stage speaker.is_asked (length (polled client))
+  pub at : HasHeard creates speaker.stage speaker.is_asked (length (polled client))
 
 -- the same of each client and its speaker, of which the first creates the group
 pub record AllKeep (rounds : ℕ) (speakers : List Speaker) (clients : List Client) : Type 0 where
   pub len : length speakers ≡ length clients
-  pub each : (i : ℕ) (s : Speaker) (c : Client) → i < length clients → Keeps (is_first i) rounds (get_or speakers i s) (get_or clients i c)
+  pub each : (i : ℕ) (s : Speaker) (c : Client) → i < length clients → HasRest (is_first i) rounds (get_or speakers i s) (get_or clients i c)

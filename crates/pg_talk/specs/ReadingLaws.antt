@@ -12,10 +12,10 @@ use Rattle.pg_requests.specs.declared.input.Input.TheVariants as forms
 use Rattle.pg_requests.specs.declared.layout.NodePorts.{NodePorts}
 use Rattle.pg_requests.specs.Requests.{input_of}
 use Rattle.pg_talk.specs.Frames.{framed}
-use Rattle.pg_talk.specs.Readings.{asks, inputs_in}
+use Rattle.pg_talk.specs.Readings.{requests_in, inputs_in}
 
 -- a frame holds it, and it is read back
-pub record IsHeld (term : Term) : Type 0 where
+pub record IsFramed (term : Term) : Type 0 where
   pub fits : length (written term) ≤ MAX_BODY
   pub back : term_of (written term) ≡ Ok term
 
@@ -25,11 +25,11 @@ inputs_said nodes terms = map (input_of nodes) terms
 
 -- how many requests they are
 abbrev pub requests_said : List NodePorts → List Term → ℕ
-requests_said nodes terms = sum_by (λ term. asks (input_of nodes term)) terms
+requests_said nodes terms = sum_by (λ term. requests_in (input_of nodes term)) terms
 
 -- Where terms were written one after another, and fewer requests than are wanted, each is read as its input, in order. Then comes the end, or that a frame is cut.
 pub record FramesAreRead : Type 0 where
-  pub whole : (nodes : List NodePorts) (wanted : ℕ) (terms : List Term) → AllByRecursion IsHeld terms → requests_said nodes terms < wanted
+  pub whole : (nodes : List NodePorts) (wanted : ℕ) (terms : List Term) → AllByRecursion IsFramed terms → requests_said nodes terms < wanted
       → inputs_in nodes wanted (flat_map framed terms) ≡ inputs_said nodes terms ++ forms.End ∷ []
-  pub cut : (nodes : List NodePorts) (wanted : ℕ) (terms : List Term) (byte : ℕ) (rest : List ℕ) → AllByRecursion IsHeld terms → requests_said nodes terms < wanted → IsOpen (byte ∷ rest)
+  pub cut : (nodes : List NodePorts) (wanted : ℕ) (terms : List Term) (byte : ℕ) (rest : List ℕ) → AllByRecursion IsFramed terms → requests_said nodes terms < wanted → IsOpen (byte ∷ rest)
       → inputs_in nodes wanted (flat_map framed terms ++ byte ∷ rest) ≡ inputs_said nodes terms ++ forms.Broken TRUNCATED ∷ []

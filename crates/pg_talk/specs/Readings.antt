@@ -16,16 +16,16 @@ use Rattle.pg_requests.specs.Requests.{input_of}
 -- ---- bytes
 
 -- how many requests an input is
-abbrev pub asks : Input → ℕ
-asks (forms.Ask client command) = 1
-asks (forms.Lose node) = 0
-asks forms.Bad = 0
-asks forms.End = 0
-asks (forms.Broken number) = 0
+abbrev pub requests_in : Input → ℕ
+requests_in (forms.Ask client command) = 1
+requests_in (forms.Lose node) = 0
+requests_in forms.Bad = 0
+requests_in forms.End = 0
+requests_in (forms.Broken number) = 0
 
 -- the input of a term, and those of the bodies after it, of which so many requests fewer are wanted; without a term the input is broken
 abbrev pub input_then : List NodePorts → Result Term TermFault → (ℕ → List Input) → List Input
-input_then nodes (Ok term) later = input_of nodes term ∷ later (asks (input_of nodes term))
+input_then nodes (Ok term) later = input_of nodes term ∷ later (requests_in (input_of nodes term))
 input_then nodes (Err fault) later = forms.Broken (number_of fault) ∷ []
 
 -- Each body is one input, up to the first that spells no term. The input is over once so many requests came, and else by what comes after the bodies.
@@ -39,13 +39,13 @@ cut_by (Ok front) = forms.Broken TRUNCATED
 cut_by (Err fault) = forms.Broken TOO_LONG
 
 -- what comes after the whole frames, by the bytes there: the end, or a frame that is cut, or too long
-abbrev pub ending_of : List ℕ → Input
-ending_of [] = forms.End
-ending_of (byte ∷ bytes) = cut_by (front_of (byte ∷ bytes))
+abbrev pub stream_ending : List ℕ → Input
+stream_ending [] = forms.End
+stream_ending (byte ∷ bytes) = cut_by (front_of (byte ∷ bytes))
 
 -- the inputs that bytes are
 abbrev pub inputs_in : List NodePorts → ℕ → List ℕ → List Input
-inputs_in nodes wanted bytes = inputs_of nodes wanted (bodies_of bytes) (ending_of (rest_of bytes))
+inputs_in nodes wanted bytes = inputs_of nodes wanted (bodies_of bytes) (stream_ending (rest_of bytes))
 
 -- ---- a source
 

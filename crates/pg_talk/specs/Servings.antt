@@ -19,7 +19,7 @@ use Rattle.pg_talk.specs.declared.service.serving.Serving.{Serving}
 use Rattle.pg_talk.specs.Conversations.{saturated}
 use Rattle.pg_talk.specs.Desks.{is_idle, waiting_at}
 use Rattle.pg_talk.specs.Frames.{framed, WritesReply}
-use Rattle.pg_talk.specs.Written.{IsAddressed, IsServed, PortName, Told, Written, bytes_of, heard_at}
+use Rattle.pg_talk.specs.Written.{IsAddressed, IsServed, PortName, InputsSeen, Written, bytes_of, heard_at}
 use Rattle.pg_talk.specs.Written.{is_lost_at, notices_in, ports_in, replies_to, requests_to, said_at, told_by}
 
 -- ---- desks
@@ -67,8 +67,8 @@ abbrev pub IsKeptAt : List Bool → List Command → Desk → List Asked → Lis
 IsKeptAt lost requests desk said heard replies = IsKept (port_at desk) (is_lost_at desk.node lost) requests (waiting_at desk) desk.is_asked desk.replied said heard replies
 
 -- and of all desks
-abbrev pub AreKept : List Bool → List Input → List Desk → List Client → List Written → Type 0
-AreKept lost inputs desks clients frames = (client : ℕ) (none : Desk) → client < length desks
+abbrev pub AreDesksKept : List Bool → List Input → List Desk → List Client → List Written → Type 0
+AreDesksKept lost inputs desks clients frames = (client : ℕ) (none : Desk) → client < length desks
     → IsKeptAt lost (requests_to client inputs) (get_or desks client none) (said_at client clients) (heard_at client clients) (replies_to client frames)
 
 -- ---- a service
@@ -92,7 +92,7 @@ pub record View : Type 0 where
   pub over : Option (Option ℕ)
 
 -- it is the service of this configuration, and knows so much of its input
-pub record Knows (given : Config) (told : Told) (view : View) : Type 0 where
+pub record Knows (given : Config) (told : InputsSeen) (view : View) : Type 0 where
   pub config : (config_in view.running).starts.items ≡ given
   pub ports : ports_of view.desks ≡ ports_in 0 given
   pub names : names_of view.nodes ≡ map (λ start. start.name) given
@@ -102,13 +102,13 @@ pub record Knows (given : Config) (told : Told) (view : View) : Type 0 where
   pub over : view.over ≡ told.over
 
 -- the frames that were written for these inputs so far, which came to so much
-pub record ServesTold (given : Config) (told : Told) (first : Option (List ℕ)) (inputs : List Input) (view : View) (now : Option (List ℕ)) : Type 0 where
+pub record ServesTold (given : Config) (told : InputsSeen) (first : Option (List ℕ)) (inputs : List Input) (view : View) (now : Option (List ℕ)) : Type 0 where
   pub knows : Knows given told view
   pub frames : List Written
   pub wrote : Appends first now (bytes_of frames)
   pub addressed : All (λ frame. IsAddressed (length view.desks) frame.client) frames
   pub notices : notices_in frames ≡ told.notices
-  pub kept : AreKept told.lost inputs view.desks (clients_in view.running) frames
+  pub kept : AreDesksKept told.lost inputs view.desks (clients_in view.running) frames
 
 abbrev pub Serves : Config → Option (List ℕ) → List Input → View → Option (List ℕ) → Type 0
 Serves given first inputs view now = ServesTold given (told_by given inputs) first inputs view now
@@ -134,7 +134,7 @@ kept_in None = []
 kept_in (Some input) = input ∷ []
 
 -- all that came was served, but for the input that is kept
-pub record Stands (given : Config) (first : Option (List ℕ)) (came : List Input) (serving : Serving) (now : Option (List ℕ)) : Type 0 where
+pub record HasServedAll (given : Config) (first : Option (List ℕ)) (came : List Input) (serving : Serving) (now : Option (List ℕ)) : Type 0 where
   pub inputs : List Input
   pub whole : came ≡ inputs ++ kept_in serving.kept
   pub serves : Serves given first inputs (view_of serving) now
@@ -149,12 +149,12 @@ pub record IsOver (serving : Serving) : Type 0 where
 -- ---- its steps
 
 -- from inputs that came but for what is kept, to the same with what came meanwhile
-abbrev pub Comes : List Input → List Input → List Input → List Input → Type 0
-Comes came kept came2 kept2 = (inputs : List Input) → came ≡ inputs ++ kept → came2 ≡ inputs ++ kept2
+abbrev pub CameSince : List Input → List Input → List Input → List Input → Type 0
+CameSince came kept came2 kept2 = (inputs : List Input) → came ≡ inputs ++ kept → came2 ≡ inputs ++ kept2
 
 -- what came meanwhile was served
 abbrev pub Advances : Serving → Serving → List Input → List Input → Option (List ℕ) → Option (List ℕ) → Type 0
-Advances a b came came2 before after = (given : Config) (first : Option (List ℕ)) → Stands given first came a before → Stands given first came2 b after
+Advances a b came came2 before after = (given : Config) (first : Option (List ℕ)) → HasServedAll given first came a before → HasServedAll given first came2 b after
 
 -- the same inputs are served still
 pub record ServingGoes (a b : Serving) (before after : Option (List ℕ)) : Type 0 where
@@ -162,11 +162,11 @@ pub record ServingGoes (a b : Serving) (before after : Option (List ℕ)) : Type
   pub goes : (given : Config) (first : Option (List ℕ)) (inputs : List Input) → Serves given first inputs (view_of a) before → Serves given first inputs (view_of b) after
 
 -- and nothing is written
-abbrev pub Rests : Serving → Serving → Type 0
-Rests a b = (now : Option (List ℕ)) → ServingGoes a b now now
+abbrev pub WritesNothing : Serving → Serving → Type 0
+WritesNothing a b = (now : Option (List ℕ)) → ServingGoes a b now now
 
 -- one input more is served
-pub record Takes (input : Input) (a b : Serving) (before after : Option (List ℕ)) : Type 0 where
+pub record ServesOne (input : Input) (a b : Serving) (before after : Option (List ℕ)) : Type 0 where
   pub kept : b.kept ≡ a.kept
   pub takes : (given : Config) (first : Option (List ℕ)) (inputs : List Input) → Serves given first inputs (view_of a) before
       → Serves given first (inputs ++ input ∷ []) (view_of b) after

@@ -83,22 +83,22 @@ requests_to client inputs = flat_map (request_to client) inputs
 
 -- what inputs came to: how many bodies they are, which nodes were lost, which notices are due, and whether the input is over, and by
 -- which fault
-pub record Told : Type 0 where
+pub record InputsSeen : Type 0 where
   pub bodies : ℕ
   pub lost : List Bool
   pub notices : List Term
   pub over : Option (Option ℕ)
 
 -- before the first
-abbrev pub none_told : Config → Told
+abbrev pub none_told : Config → InputsSeen
 none_told given = record { bodies = 0; lost = map (λ start. false) given; notices = []; over = None }
 
 -- a body that asks for nothing is told by its number
-abbrev pub tell_bad : Told → Told
+abbrev pub tell_bad : InputsSeen → InputsSeen
 tell_bad told = record told { bodies = told.bodies + 1; notices = told.notices ++ bad_request_term (told.bodies + 1) ∷ [] }
 
 -- a node is lost, which is told by its name
-abbrev pub tell_lost : Config → ℕ → Told → Told
+abbrev pub tell_lost : Config → ℕ → InputsSeen → InputsSeen
 tell_lost given node told = record told {
   bodies = told.bodies + 1;
   lost = set told.lost node true;
@@ -106,19 +106,19 @@ tell_lost given node told = record told {
 }
 
 -- the next input: a request to a port that is not there asks for nothing, as does the loss of a node that is not there any more
-abbrev pub tell_next : Config → Told → Input → Told
+abbrev pub tell_next : Config → InputsSeen → Input → InputsSeen
 tell_next given told (forms.Ask client command) = if nat_lt client (length (ports_in 0 given)) then record told { bodies = told.bodies + 1 } else tell_bad told
 tell_next given told (forms.Lose node) = if get_or told.lost node true then tell_bad told else tell_lost given node told
 tell_next given told forms.Bad = tell_bad told
 tell_next given told forms.End = record told { over = Some None }
 tell_next given told (forms.Broken number) = record told { over = Some (Some number) }
 
-abbrev pub tell_on : Config → Told → List Input → Told
+abbrev pub tell_on : Config → InputsSeen → List Input → InputsSeen
 tell_on given told [] = told
 tell_on given told (input ∷ inputs) = tell_on given (tell_next given told input) inputs
 
 -- all inputs
-abbrev pub told_by : Config → List Input → Told
+abbrev pub told_by : Config → List Input → InputsSeen
 told_by given inputs = tell_on given (none_told given) inputs
 
 -- ---- one port
@@ -128,8 +128,8 @@ abbrev pub commands_of : List Asked → List Command
 commands_of asked = map (λ one. one.command) asked
 
 -- the first was handed over before an answer was heard, the second after one, and so on
-abbrev pub InTurn : List Asked → Type 0
-InTurn asked = (k : ℕ) (none : Asked) → k < length asked → (get_or asked k none).polled ≡ saturated k
+abbrev pub AlternateWithAnswers : List Asked → Type 0
+AlternateWithAnswers asked = (k : ℕ) (none : Asked) → k < length asked → (get_or asked k none).polled ≡ saturated k
 
 -- what a port is told: the answers of its node, and then, so many times, that the node was lost
 abbrev pub outcomes : List ℕ → List Answer → ℕ → List Term
@@ -151,7 +151,7 @@ pub record IsServed (port : PortName) (is_lost : Bool) (requests : List Command)
   -- the first of them were handed over, in their order, each once all before it were answered; the others were refused
   pub refused : List Command
   pub handed : requests ≡ commands_of said ++ refused
-  pub turns : InTurn said
+  pub turns : AlternateWithAnswers said
   -- what the node answered was replied, in its order and once, and then, that the node was lost, if it was
   pub losses : ℕ
   pub lost : 0 < losses → is_lost ≡ true

@@ -6,7 +6,7 @@ ghost use Rattle.std.specs.List.{All, sum_by};
 ghost use Rattle.pg_run.specs.Ports.{IsSilent};
 ghost use Rattle.pg_run.specs.declared.port.Client.{Client};
 ghost use Rattle.pg_cluster.specs.Running.{clients_in, RunningGoes};
-ghost use Rattle.pg_talk.specs.Asking.{AllKeep, AllSpoke, Keeps, is_first};
+ghost use Rattle.pg_talk.specs.Asking.{AllKeep, AllSpoke, HasRest, is_first};
 ghost use Rattle.pg_talk.specs.Conversations.{AreAsked, IsBare, TookPlace, all_polled, saturated};
 ghost use Rattle.pg_talk.specs.Outcomes.{agree_line, answered_line, is_good, nodes_line};
 ghost use Rattle.pg_talk.specs.Outcomes.{outcome_lines, replay_line, yes_or_no};
@@ -241,7 +241,7 @@ fn speakers(alloc: Global, count: usize, rounds: u32) -> Result<Vec<Speaker>, Al
 
 /// The client at a place, as it begins.
 fn speaker_at(place: usize, rounds: u32) -> Speaker
-    ensures { (client : Client) → IsSilent client → Keeps (is_first place) rounds result client }
+    ensures { (client : Client) → IsSilent client → HasRest (is_first place) rounds result client }
 {
     if place == 0 {
         Speaker::creating(rounds)

@@ -4,7 +4,7 @@ ghost use Rattle.std.specs.Prelude.{◌≡◌, ◌<◌, ◌+◌, ℕ, Bool, true
 ghost use Rattle.pg_run.specs.Ports.{IsSilent};
 ghost use Rattle.pg_run.specs.declared.port.Client.{Client};
 ghost use Rattle.pg_cluster.specs.Running.{clients_in, OnlyClient};
-ghost use Rattle.pg_talk.specs.Asking.{Keeps, group_name, made_of, next_said, pid_after, rounds_after, stage_after};
+ghost use Rattle.pg_talk.specs.Asking.{HasRest, group_name, process_made, next_said, pid_after, rounds_after, stage_after};
 ghost use Rattle.pg_talk.specs.Conversations.{saturated};
 
 use pg_cluster::Running;
@@ -46,7 +46,7 @@ pub(crate) struct Speaker {
 impl Speaker {
     /// A client that creates the group first.
     pub(crate) fn creating(rounds: u32) -> Speaker
-        ensures { (client : Client) → IsSilent client → Keeps true rounds result client }
+        ensures { (client : Client) → IsSilent client → HasRest true rounds result client }
     {
         Speaker {
             stage: Stage::Creating,
@@ -59,7 +59,7 @@ impl Speaker {
 
     /// A client that waits for the group.
     pub(crate) fn waiting(rounds: u32) -> Speaker
-        ensures { (client : Client) → IsSilent client → Keeps false rounds result client }
+        ensures { (client : Client) → IsSilent client → HasRest false rounds result client }
     {
         Speaker {
             stage: Stage::Waiting,
@@ -72,7 +72,7 @@ impl Speaker {
 
     /// The group is there.
     pub(crate) fn begin(&mut self)
-        ensures { (creates : Bool) (rounds : ℕ) (client : Client) → Keeps creates rounds self.old client → Keeps creates rounds self.new client }
+        ensures { (creates : Bool) (rounds : ℕ) (client : Client) → HasRest creates rounds self.old client → HasRest creates rounds self.new client }
     {
         if self.stage == Stage::Waiting {
             self.stage = Stage::Making;
@@ -95,8 +95,8 @@ impl Speaker {
     ) -> Result<bool, AllocError>
         requires { place < length (clients_in running.old) }
         ensures only { OnlyClient place running.old running.new }
-        ensures keeps { (creates : Bool) (rounds : ℕ) (none : Client) → Keeps creates rounds self.old (get_or (clients_in running.old) place none)
-            → Keeps creates rounds self.new (get_or (clients_in running.new) place none) }
+        ensures keeps { (creates : Bool) (rounds : ℕ) (none : Client) → HasRest creates rounds self.old (get_or (clients_in running.old) place none)
+            → HasRest creates rounds self.new (get_or (clients_in running.new) place none) }
     {
         if self.is_asked {
             match running.poll(place) {
@@ -121,8 +121,8 @@ impl Speaker {
         requires place { place < length (clients_in running.old) }
         requires unasked { self.old.is_asked ≡ false }
         ensures only { OnlyClient place running.old running.new }
-        ensures keeps { (creates : Bool) (rounds : ℕ) (none : Client) → Keeps creates rounds self.old (get_or (clients_in running.old) place none)
-            → Keeps creates rounds self.new (get_or (clients_in running.new) place none) }
+        ensures keeps { (creates : Bool) (rounds : ℕ) (none : Client) → HasRest creates rounds self.old (get_or (clients_in running.old) place none)
+            → HasRest creates rounds self.new (get_or (clients_in running.new) place none) }
     {
         match self.command(alloc)? {
             Some(command) => {
@@ -203,7 +203,7 @@ impl Speaker {
 
 // The process that an answer tells of.
 fn made_by(answer: Answer) -> Option<Pid>
-    ensures { result ≡ made_of answer.reply }
+    ensures { result ≡ process_made answer.reply }
 {
     match answer.reply {
         Reply::Made(pid) => Some(pid),

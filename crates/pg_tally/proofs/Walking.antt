@@ -18,8 +18,8 @@ use Rattle.std.proofs.lemmas.Bool.{cases_lt}
 use Rattle.pg_tally.specs.declared.takes.Takes.{Takes}
 use Rattle.pg_tally.specs.declared.ways.Way.{Way}
 use Rattle.pg_tally.specs.Takes.{AreClosed, AreKept, AreTakes, AreTakesTo, AreWalked, AreWider}
-use Rattle.pg_tally.specs.Takes.{HasFirst, IsClosedAt, IsClosedBy, IsStart, IsTaken, IsWalked}
-use Rattle.pg_tally.specs.Takes.{IsWider, IsWithin, followed, followed_from, takes_after, widened_to}
+use Rattle.pg_tally.specs.Takes.{HasFirst, IsClosedAt, IsClosedBy, IsReachedUntaken, IsTaken, IsWalked}
+use Rattle.pg_tally.specs.Takes.{IsWider, IsInBounds, followed, followed_from, takes_after, widened_to}
 use Rattle.pg_tally.specs.Walks.{IsWalk, takes_of, takes_on, ways_at}
 
 -- one way more
@@ -83,14 +83,14 @@ walked_set worlds all i new h k place takes e = elim (set_cases all i place (Som
   | inr other ↦ h place takes (sym other ∙ e)
 ]
 
-first_both : (old : Option Takes) (new : Takes) → IsStart old → IsStart (Some (widened_to old new))
+first_both : (old : Option Takes) (new : Takes) → IsReachedUntaken old → IsReachedUntaken (Some (widened_to old new))
 first_both None new h = absurd h
 first_both (Some old) new h = omega (arith, h)
 
 first_set : (all : List (Option Takes)) (i : ℕ) (new : Takes) → HasFirst all → HasFirst (set all i (Some (widened_to (get_or all i None) new)))
-first_set all i new h l = elim (set_cases all i 0 (Some (widened_to (get_or all i None) new)) None) as (λ _. IsStart (get_or (set all i (Some (widened_to (get_or all i None) new))) 0 None)) [
-  | inl at ↦ subst (λ (o : Option Takes). IsStart o) (sym at.1) (first_both (get_or all i None) new (subst (λ (p : ℕ). IsStart (get_or all p None)) at.0 (h (subst (λ (n : ℕ). 0 < n) (length-set all i (Some (widened_to (get_or all i None) new))) l))))
-  | inr other ↦ subst (λ (o : Option Takes). IsStart o) (sym other) (h (subst (λ (n : ℕ). 0 < n) (length-set all i (Some (widened_to (get_or all i None) new))) l))
+first_set all i new h l = elim (set_cases all i 0 (Some (widened_to (get_or all i None) new)) None) as (λ _. IsReachedUntaken (get_or (set all i (Some (widened_to (get_or all i None) new))) 0 None)) [
+  | inl at ↦ subst (λ (o : Option Takes). IsReachedUntaken o) (sym at.1) (first_both (get_or all i None) new (subst (λ (p : ℕ). IsReachedUntaken (get_or all p None)) at.0 (h (subst (λ (n : ℕ). 0 < n) (length-set all i (Some (widened_to (get_or all i None) new))) l))))
+  | inr other ↦ subst (λ (o : Option Takes). IsReachedUntaken o) (sym other) (h (subst (λ (n : ℕ). 0 < n) (length-set all i (Some (widened_to (get_or all i None) new))) l))
 ]
 
 -- what is kept where a way is followed
@@ -241,7 +241,7 @@ kept_first worlds none len h = record {
       let known = first_known place none takes h e in
       let some = some_world none takes h (ap (λ (p : ℕ). get_or (set none 0 (Some (record { fewest = 0; most = 0 }))) p None) (sym known.0) ∙ e) in
       subst (λ (p : ℕ). IsWalked worlds p takes) (sym known.0) (subst (λ (t : Takes). IsWalked worlds 0 t) known.1 (first_walked worlds (omega arith)));
-  first = λ l. subst (λ (o : Option Takes). IsStart o) (sym (get_or-set_same none 0 (Some (record { fewest = 0; most = 0 })) None (subst (λ (n : ℕ). 0 < n) (length-set none 0 (Some (record { fewest = 0; most = 0 }))) l))) refl;
+  first = λ l. subst (λ (o : Option Takes). IsReachedUntaken o) (sym (get_or-set_same none 0 (Some (record { fewest = 0; most = 0 })) None (subst (λ (n : ℕ). 0 < n) (length-set none 0 (Some (record { fewest = 0; most = 0 }))) l))) refl;
 }
 
 -- ---- the end
@@ -278,7 +278,7 @@ walked_to worlds all from (way ∷ ways) to at len closed e walk =
     (λ next is. walked_to worlds all way.place ways to next len closed is walk.1)
 
 -- what is known of the end of each walk
-from_first : (worlds : List (Vec Way)) (all : List (Option Takes)) (ways : List Way) (to : ℕ) (at : Option Takes) → AreKept worlds all → AreClosed worlds all → get_or all 0 None ≡ at → IsStart at
+from_first : (worlds : List (Vec Way)) (all : List (Option Takes)) (ways : List Way) (to : ℕ) (at : Option Takes) → AreKept worlds all → AreClosed worlds all → get_or all 0 None ≡ at → IsReachedUntaken at
     → IsWalk worlds 0 ways to → (first : Takes) × (first.fewest ≡ 0) × IsEnd all first (takes_of ways) to
 from_first worlds all ways to None kept closed e start walk = absurd start
 from_first worlds all ways to (Some at) kept closed e start walk = (at, start, walked_to worlds all 0 ways to at kept.len closed e walk)
@@ -294,7 +294,7 @@ are_takes_to worlds all to (Some takes) kept closed e = (
   kept.walked to takes e,
   λ ways walk.
       let k = known_to worlds all ways to kept closed walk in
-      subst (λ (t : Takes). IsWithin t (takes_of ways)) (some_same k.2.end takes (sym k.2.known ∙ e)) (record { fewest = omega (arith, k.2.fewest, k.1); most = omega (arith, k.2.most) }),
+      subst (λ (t : Takes). IsInBounds t (takes_of ways)) (some_same k.2.end takes (sym k.2.known ∙ e)) (record { fewest = omega (arith, k.2.fewest, k.1); most = omega (arith, k.2.most) }),
 )
 
 pub are_takes : (worlds : List (Vec Way)) (all : List (Option Takes)) → AreKept worlds all → AreClosed worlds all → AreTakes worlds all

@@ -8,8 +8,8 @@ use Rattle.pg_tally.specs.declared.report.Section.{Section}
 use Rattle.pg_tally.specs.declared.takes.Takes.{Takes}
 
 -- this stands at the end, behind what stood there
-abbrev pub Adds : List ℕ → List ℕ → List ℕ → Type 0
-Adds text old new = new ≡ old ++ text
+abbrev pub GrowsBy : List ℕ → List ℕ → List ℕ → Type 0
+GrowsBy text old new = new ≡ old ++ text
 
 -- a line: a number on the right of its column, and what it counts
 abbrev pub row_of : ℕ → ℕ → List ℕ → List ℕ

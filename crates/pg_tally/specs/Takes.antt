@@ -19,14 +19,14 @@ pub record IsWalked (worlds : List (Vec Way)) (place : ℕ) (takes : Takes) : Ty
   pub most : IsTaken worlds place takes.most
 
 -- so many takes lie between the fewest and the most
-pub record IsWithin (takes : Takes) (count : ℕ) : Type 0 where
+pub record IsInBounds (takes : Takes) (count : ℕ) : Type 0 where
   pub fewest : takes.fewest ≤ count
   pub most : count ≤ takes.most
 
 -- the fewest and the most takes on walks from the first world to a place; None: no walk leads there
 abbrev pub AreTakesTo : List (Vec Way) → ℕ → Option Takes → Type 0
 AreTakesTo worlds place None = (ways : List Way) → IsWalk worlds 0 ways place → ⊥
-AreTakesTo worlds place (Some takes) = IsWalked worlds place takes × ((ways : List Way) → IsWalk worlds 0 ways place → IsWithin takes (takes_of ways))
+AreTakesTo worlds place (Some takes) = IsWalked worlds place takes × ((ways : List Way) → IsWalk worlds 0 ways place → IsInBounds takes (takes_of ways))
 
 -- those of each world, by its place
 pub record AreTakes (worlds : List (Vec Way)) (all : List (Option Takes)) : Type 0 where
@@ -57,13 +57,13 @@ abbrev pub AreWalked : List (Vec Way) → List (Option Takes) → Type 0
 AreWalked worlds all = (place : ℕ) (takes : Takes) → get_or all place None ≡ Some takes → IsWalked worlds place takes
 
 -- the first world is reached with no take
-abbrev pub IsStart : Option Takes → Type 0
-IsStart None = ⊥
-IsStart (Some takes) = takes.fewest ≡ 0
+abbrev pub IsReachedUntaken : Option Takes → Type 0
+IsReachedUntaken None = ⊥
+IsReachedUntaken (Some takes) = takes.fewest ≡ 0
 
 -- so it is where there is a world
 abbrev pub HasFirst : List (Option Takes) → Type 0
-HasFirst all = 0 < length all → IsStart (get_or all 0 None)
+HasFirst all = 0 < length all → IsReachedUntaken (get_or all 0 None)
 
 -- what holds all along
 pub record AreKept (worlds : List (Vec Way)) (all : List (Option Takes)) : Type 0 where

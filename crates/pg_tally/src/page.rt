@@ -2,7 +2,7 @@
 
 ghost use Rattle.std.specs.Prelude.{◌≡◌, ◌++◌, IfOk, OnOk, codes, decimal, length, max, map, replicate, string_bytes};
 ghost use Rattle.std.specs.List.{flat_map};
-ghost use Rattle.pg_tally.specs.Pages.{Adds, counted_row, limit_line, row_of, section_of, takes_rows, totals_of};
+ghost use Rattle.pg_tally.specs.Pages.{GrowsBy, counted_row, limit_line, row_of, section_of, takes_rows, totals_of};
 
 use crate::counts::Counted;
 use crate::report::{Report, Section};
@@ -31,7 +31,7 @@ pub(crate) fn add_totals(
     width: usize,
     report: &Report,
 ) -> Result<(), AllocError>
-    ensures { OnOk result (Adds (totals_of width report.now) (string_bytes out.old) (string_bytes out.new)) }
+    ensures { OnOk result (GrowsBy (totals_of width report.now) (string_bytes out.old) (string_bytes out.new)) }
 {
     add_row(out, alloc, width, report.worlds, "worlds")?;
     add_limit(out, report.is_whole)?;
@@ -64,7 +64,7 @@ pub(crate) fn add_totals(
 ///
 /// Errors: `AllocError`.
 fn add_limit(out: &mut String, is_whole: bool) -> Result<(), AllocError>
-    ensures { OnOk result (Adds (limit_line is_whole) (string_bytes out.old) (string_bytes out.new)) }
+    ensures { OnOk result (GrowsBy (limit_line is_whole) (string_bytes out.old) (string_bytes out.new)) }
 {
     if is_whole {
         Ok(())
@@ -82,7 +82,7 @@ fn add_takes(
     width: usize,
     takes: Option<Takes>,
 ) -> Result<(), AllocError>
-    ensures { OnOk result (Adds (takes_rows width takes) (string_bytes out.old) (string_bytes out.new)) }
+    ensures { OnOk result (GrowsBy (takes_rows width takes) (string_bytes out.old) (string_bytes out.new)) }
 {
     match takes {
         Some(takes) => {
@@ -108,7 +108,7 @@ pub(crate) fn add_sections(
     width: usize,
     sections: &[Section],
 ) -> Result<(), AllocError>
-    ensures { OnOk result (Adds (flat_map (section_of width) sections.now) (string_bytes out.old) (string_bytes out.new)) }
+    ensures { OnOk result (GrowsBy (flat_map (section_of width) sections.now) (string_bytes out.old) (string_bytes out.new)) }
 {
     for section in sections {
         add_section(out, alloc, width, section)?;
@@ -125,7 +125,7 @@ fn add_section(
     width: usize,
     section: &Section,
 ) -> Result<(), AllocError>
-    ensures { OnOk result (Adds (section_of width section.now) (string_bytes out.old) (string_bytes out.new)) }
+    ensures { OnOk result (GrowsBy (section_of width section.now) (string_bytes out.old) (string_bytes out.new)) }
 {
     out.push_str("\n")?;
     out.push_str(section.title.as_str())?;
@@ -142,7 +142,7 @@ fn add_rows(
     width: usize,
     rows: &[Counted],
 ) -> Result<(), AllocError>
-    ensures { OnOk result (Adds (flat_map (counted_row width) rows.now) (string_bytes out.old) (string_bytes out.new)) }
+    ensures { OnOk result (GrowsBy (flat_map (counted_row width) rows.now) (string_bytes out.old) (string_bytes out.new)) }
 {
     for row in rows {
         add_row(out, alloc, width, row.count, row.text.as_str())?;
@@ -160,7 +160,7 @@ fn add_row(
     number: usize,
     what: &str,
 ) -> Result<(), AllocError>
-    ensures { OnOk result (Adds (row_of width number what.now) (string_bytes out.old) (string_bytes out.new)) }
+    ensures { OnOk result (GrowsBy (row_of width number what.now) (string_bytes out.old) (string_bytes out.new)) }
 {
     let digits = format!(in alloc; "{number}")?;
     add_spaces(out, width.saturating_sub(digits.len()))?;
@@ -174,7 +174,7 @@ fn add_row(
 ///
 /// Errors: `AllocError`.
 fn add_spaces(out: &mut String, count: usize) -> Result<(), AllocError>
-    ensures { OnOk result (Adds (replicate count 32) (string_bytes out.old) (string_bytes out.new)) }
+    ensures { OnOk result (GrowsBy (replicate count 32) (string_bytes out.old) (string_bytes out.new)) }
 {
     for _ in 0..count {
         out.push_str(" ")?;

@@ -45,10 +45,10 @@ Continues (Item room count bytes) elements rest = ListGoesOn room count bytes.no
 Continues NoItem elements rest = IsText elements
 
 -- an element that stands there may nest no more levels, and stands in the same bytes; fewer follow the list
-abbrev pub IsWithin : ℕ → List ℕ → NextElement → Type 0
-IsWithin room bytes (End behind) = length behind.now < length bytes
-IsWithin room bytes (Item below count behind) = (below ≤ room) × (length behind.now ≤ length bytes)
-IsWithin room bytes NoItem = Unit {0}
+abbrev pub IsInList : ℕ → List ℕ → NextElement → Type 0
+IsInList room bytes (End behind) = length behind.now < length bytes
+IsInList room bytes (Item below count behind) = (below ≤ room) × (length behind.now ≤ length bytes)
+IsInList room bytes NoItem = Unit {0}
 
 -- what comes next in a list: its end, with the bytes behind it, or an element, with how many levels it may nest, how many
 -- elements stand behind it, and the bytes from it on

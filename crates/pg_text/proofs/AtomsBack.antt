@@ -14,7 +14,7 @@ use Rattle.pg_text.specs.Reading.{quoted_at, quoted_next, plain_step, digit_step
 use Rattle.pg_text.specs.Reading.{with_first, then_read, begins, short, atom_at, unless_bare, bare_at, begins_number}
 use Rattle.pg_text.specs.Again.{NoWord}
 use Rattle.pg_text.proofs.NumbersBack.{take_front, drop_front}
-use Rattle.pg_text.specs.Writing.{quoted_text, escape_text, hex_text, is_word, is_bare, begins_lower, atom_text}
+use Rattle.pg_text.specs.Writing.{quoted_text, escape_text, hex_text, is_word_byte, needs_no_quotes, begins_lower, atom_text}
 
 -- a digit of an escape
 hex_digit : (d : ℕ) → d < 16 → is_hex (digit_char d) ≡ true
@@ -91,13 +91,13 @@ quoted_back (c ∷ cs) rest s =
 
 -- ---- bare atoms
 
-words_pass : (cs : List ℕ) → list_all is_word cs ≡ true → prefix_len is_word cs ≡ length cs
+words_pass : (cs : List ℕ) → list_all is_word_byte cs ≡ true → prefix_len is_word_byte cs ≡ length cs
 words_pass [] e = refl
-words_pass (c ∷ cs) e = let h = both (is_word c) (list_all is_word cs) e in ap (λ b. cond b (1 + prefix_len is_word cs) 0) h.0 ∙ omega (arith, words_pass cs h.1)
+words_pass (c ∷ cs) e = let h = both (is_word_byte c) (list_all is_word_byte cs) e in ap (λ b. cond b (1 + prefix_len is_word_byte cs) 0) h.0 ∙ omega (arith, words_pass cs h.1)
 
-word_stops : (cs rest : List ℕ) → list_all is_word cs ≡ true → NoWord rest → prefix_len is_word (cs ++ rest) ≡ length cs
+word_stops : (cs rest : List ℕ) → list_all is_word_byte cs ≡ true → NoWord rest → prefix_len is_word_byte (cs ++ rest) ≡ length cs
 word_stops cs rest e none =
-    prefix_len-append is_word cs rest ∙ ap (λ b. cond b (length cs + prefix_len is_word rest) (prefix_len is_word cs)) (eq-eqb _ _ (words_pass cs e)) ∙ omega (arith, none)
+    prefix_len-append is_word_byte cs rest ∙ ap (λ b. cond b (length cs + prefix_len is_word_byte rest) (prefix_len is_word_byte cs)) (eq-eqb _ _ (words_pass cs e)) ∙ omega (arith, none)
 
 lower_begins : (cs rest : List ℕ) → begins_lower cs ≡ true → begins_lower (cs ++ rest) ≡ true
 lower_begins [] rest e = absurd (cc)
@@ -112,11 +112,11 @@ short_atom cs rest few = let f : nat_lt 255 (length cs) ≡ false = grind (arith
 
 pub atom_back : (cs rest : List ℕ) → length cs ≤ 255 → scalars cs ≡ true → NoWord rest → atom_at (atom_text cs ++ rest) ≡ Some (cs, rest)
 unfolding atom_at atom_text
-atom_back cs rest few s none = step (is_bare cs) refl
+atom_back cs rest few s none = step (needs_no_quotes cs) refl
   where
-    step : (b : Bool) → is_bare cs ≡ b → atom_at ((cond b cs (39 ∷ flat_map quoted_text cs ++ 39 ∷ [])) ++ rest) ≡ Some (cs, rest)
+    step : (b : Bool) → needs_no_quotes cs ≡ b → atom_at ((cond b cs (39 ∷ flat_map quoted_text cs ++ 39 ∷ [])) ++ rest) ≡ Some (cs, rest)
     step true e =
-        let h = both (begins_lower cs) (list_all is_word cs) e in
+        let h = both (begins_lower cs) (list_all is_word_byte cs) e in
         ap (λ b. cond b (then_read (quoted_at (drop 1 (cs ++ rest)) Plain) unless_bare) (cond (begins_lower (cs ++ rest)) (bare_at (cs ++ rest)) None)) (no_quote cs rest h.0)
         ∙ ap (λ b. cond b (bare_at (cs ++ rest)) None) (lower_begins cs rest h.0)
         ∙ ap (λ k. short (take k (cs ++ rest)) (drop k (cs ++ rest))) (word_stops cs rest h.1 none)
@@ -130,36 +130,36 @@ atom_back cs rest few s none = step (is_bare cs) refl
 -- which characters begin the text of an atom
 pub atom_begins : (cs rest : List ℕ) (k : ℕ) → is_ascii_lowercase k ≡ false → (39 == k) ≡ false → begins k (atom_text cs ++ rest) ≡ false
 unfolding atom_text
-atom_begins cs rest k other quote = step cs (is_bare cs) refl
+atom_begins cs rest k other quote = step cs (needs_no_quotes cs) refl
   where
-    bare : (ds : List ℕ) → is_bare ds ≡ true → begins k (ds ++ rest) ≡ false
+    bare : (ds : List ℕ) → needs_no_quotes ds ≡ true → begins k (ds ++ rest) ≡ false
     bare [] e = absurd (cc)
-    bare (d ∷ ds) e = ne_eqb d k (λ same. let lower : is_ascii_lowercase d ≡ true = (both (is_ascii_lowercase d) (list_all is_word (d ∷ ds)) e).0 in let z : is_ascii_lowercase d ≡ false = ap is_ascii_lowercase same ∙ other in absurd (cc))
+    bare (d ∷ ds) e = ne_eqb d k (λ same. let lower : is_ascii_lowercase d ≡ true = (both (is_ascii_lowercase d) (list_all is_word_byte (d ∷ ds)) e).0 in let z : is_ascii_lowercase d ≡ false = ap is_ascii_lowercase same ∙ other in absurd (cc))
 
-    step : (ds : List ℕ) (b : Bool) → is_bare ds ≡ b → begins k ((cond b ds (39 ∷ flat_map quoted_text ds ++ 39 ∷ [])) ++ rest) ≡ false
+    step : (ds : List ℕ) (b : Bool) → needs_no_quotes ds ≡ b → begins k ((cond b ds (39 ∷ flat_map quoted_text ds ++ 39 ∷ [])) ++ rest) ≡ false
     step ds true e = bare ds e
     step ds false e = quote
 
 pub atom_no_number : (cs rest : List ℕ) → begins_number (atom_text cs ++ rest) ≡ false
 unfolding atom_text
-atom_no_number cs rest = step cs (is_bare cs) refl
+atom_no_number cs rest = step cs (needs_no_quotes cs) refl
   where
     letter : (d : ℕ) → is_ascii_lowercase d ≡ true → ((d == 45) || is_ascii_digit d) ≡ false
     letter d e = grind (arith, nat_tests)
 
-    bare : (ds : List ℕ) → is_bare ds ≡ true → begins_number (ds ++ rest) ≡ false
+    bare : (ds : List ℕ) → needs_no_quotes ds ≡ true → begins_number (ds ++ rest) ≡ false
     bare [] e = absurd (cc)
-    bare (d ∷ ds) e = letter d ((both (is_ascii_lowercase d) (list_all is_word (d ∷ ds)) e).0)
+    bare (d ∷ ds) e = letter d ((both (is_ascii_lowercase d) (list_all is_word_byte (d ∷ ds)) e).0)
 
-    step : (ds : List ℕ) (b : Bool) → is_bare ds ≡ b → begins_number ((cond b ds (39 ∷ flat_map quoted_text ds ++ 39 ∷ [])) ++ rest) ≡ false
+    step : (ds : List ℕ) (b : Bool) → needs_no_quotes ds ≡ b → begins_number ((cond b ds (39 ∷ flat_map quoted_text ds ++ 39 ∷ [])) ++ rest) ≡ false
     step ds true e = bare ds e
     step ds false e = refl
 
 pub atom_some : (cs : List ℕ) → 1 ≤ length (atom_text cs)
 unfolding atom_text
-atom_some cs = step cs (is_bare cs) refl
+atom_some cs = step cs (needs_no_quotes cs) refl
   where
-    step : (ds : List ℕ) (b : Bool) → is_bare ds ≡ b → 1 ≤ length (cond b ds (39 ∷ flat_map quoted_text ds ++ 39 ∷ []))
+    step : (ds : List ℕ) (b : Bool) → needs_no_quotes ds ≡ b → 1 ≤ length (cond b ds (39 ∷ flat_map quoted_text ds ++ 39 ∷ []))
     step [] true e = absurd (cc)
     step (d ∷ ds) true e = omega arith
     step ds false e = omega arith

@@ -13,7 +13,7 @@ use Rattle.std.specs.Str.Parse.{AllDigits, digits_value}
 use borrow.Author.Tests.{ne_eqb}
 use Rattle.pg_text.proofs.AtomsBack.{both}
 use Rattle.pg_text.proofs.Numerals.{digits_in_front}
-use Rattle.pg_text.specs.Reading.{Read, then_read, begins, behind, numeral_at, is_plain, integer_at, below_zero}
+use Rattle.pg_text.specs.Reading.{Read, then_read, begins, behind, numeral_at, is_plain_number, integer_at, below_zero}
 
 pub read_inv : {A B : Type 0} (r : Read A) (next : A → List ℕ → Read B) (y : B × List ℕ) → then_read r next ≡ Some y → (x : A × List ℕ) × (r ≡ Some x) × (next x.0 x.1 ≡ Some y)
 read_inv None next y e = absurd (cc)
@@ -38,11 +38,11 @@ behind_inv c text next y e = let h = cond_inv (begins c text) (next (drop 1 text
 model : IsNumeralModel (AllDigits 10) (digits_value 10)
 model = numerals_by_value (AllDigits 10) tells_digits
 
-plain_some : (ds : List ℕ) → is_plain ds ≡ true → 0 < length ds
+plain_some : (ds : List ℕ) → is_plain_number ds ≡ true → 0 < length ds
 plain_some [] e = absurd (cc)
 plain_some (d ∷ ds) e = omega arith
 
-plain_lead : (ds : List ℕ) → is_plain ds ≡ true → get_or ds 0 0 ≡ 48 → length ds ≡ 1
+plain_lead : (ds : List ℕ) → is_plain_number ds ≡ true → get_or ds 0 0 ≡ 48 → length ds ≡ 1
 plain_lead [] e lead = absurd (cc)
 plain_lead (d ∷ ds) e lead = grind (arith, nat_tests)
 
@@ -51,8 +51,8 @@ unfolding numeral_at
 numeral_just most text y small e =
     let k = prefix_len is_ascii_digit text in
     let x : ℕ × List ℕ = (digits_value 10 (take k text), drop k text) in
-    let h = cond_inv (is_plain (take k text) && nat_le (digits_value 10 (take k text)) most) (Some x) y e in
-    let t = both (is_plain (take k text)) (nat_le (digits_value 10 (take k text)) most) h.0 in
+    let h = cond_inv (is_plain_number (take k text) && nat_le (digits_value 10 (take k text)) most) (Some x) y e in
+    let t = both (is_plain_number (take k text)) (nat_le (digits_value 10 (take k text)) most) h.0 in
     let s = some_inv x y h.1 in
     let under : nat_le (digits_value 10 (take k text)) most ≡ true = t.1 in
     let fits : digits_value 10 (take k text) < 2 ^ 64 = grind (arith, nat_tests) in

@@ -13,9 +13,9 @@ use Rattle.std.specs.Fmt.{signed_decimal}
 use Rattle.std.specs.List.{prefix_len}
 use Rattle.std.specs.Str.Parse.{AllDigits, digits_value}
 use borrow.Author.Tests.{eq-eqb, ne_eqb, le-leb}
-use Rattle.pg_text.specs.Reading.{numeral_at, numeral_of, is_plain, integer_at}
+use Rattle.pg_text.specs.Reading.{numeral_at, numeral_of, is_plain_number, integer_at}
 use Rattle.pg_text.specs.Reading.{begins, then_read, below_zero, begins_number}
-use Rattle.pg_text.specs.Writing.{is_word}
+use Rattle.pg_text.specs.Writing.{is_word_byte}
 
 -- a list that no digit begins
 abbrev pub NoDigit : List ℕ → Type 0
@@ -39,12 +39,12 @@ pub drop_front : (xs ys : List ℕ) → drop (length xs) (xs ++ ys) ≡ ys
 drop_front [] ys = refl
 drop_front (x ∷ xs) ys = drop_front xs ys
 
-plain_first : (ds : List ℕ) → 0 < length ds → 48 < get_or ds 0 0 → is_plain ds ≡ true
+plain_first : (ds : List ℕ) → 0 < length ds → 48 < get_or ds 0 0 → is_plain_number ds ≡ true
 plain_first [] some first = absurd (omega arith)
 plain_first (d ∷ ds) some first = ap (λ b. not b || (length ds == 0)) (ne_eqb d 48 (λ e. omega arith))
 
-plain_decimal : (n : ℕ) → n < 2 ^ 64 → is_plain (decimal n) ≡ true
-plain_decimal zero small = ap is_plain (decimal_digit 0 (omega arith))
+plain_decimal : (n : ℕ) → n < 2 ^ 64 → is_plain_number (decimal n) ≡ true
+plain_decimal zero small = ap is_plain_number (decimal_digit 0 (omega arith))
 plain_decimal (suc m) small = plain_first (decimal (suc m)) (decimal_nonempty (suc m) small) (first_decimal (suc m) (omega arith) small)
 
 -- no character but a digit begins digits
@@ -105,13 +105,13 @@ integer_some (pos n) fits = omega (arith, decimal_nonempty n (omega (arith, fits
 integer_some (negsuc n) fits = omega arith
 
 -- what no character of a word begins no digit begins
-pub no_digit : (text : List ℕ) → prefix_len is_word text ≡ 0 → NoDigit text
+pub no_digit : (text : List ℕ) → prefix_len is_word_byte text ≡ 0 → NoDigit text
 no_digit [] e = refl
 no_digit (c ∷ text) e = step (is_ascii_digit c) refl
   where
-    word : is_ascii_digit c ≡ true → is_word c ≡ true
+    word : is_ascii_digit c ≡ true → is_word_byte c ≡ true
     word d = grind (arith, nat_tests)
 
     step : (b : Bool) → is_ascii_digit c ≡ b → cond b (1 + prefix_len is_ascii_digit text) 0 ≡ 0
-    step true d = let h : 1 + prefix_len is_word text ≡ 0 = ap (λ b. cond b (1 + prefix_len is_word text) 0) (sym (word d)) ∙ e in absurd (omega arith)
+    step true d = let h : 1 + prefix_len is_word_byte text ≡ 0 = ap (λ b. cond b (1 + prefix_len is_word_byte text) 0) (sym (word d)) ∙ e in absurd (omega arith)
     step false d = refl

@@ -15,7 +15,7 @@ use Rattle.pg_text.proofs.NumbersBack.{NoDigit, numeral_back}
 use Rattle.pg_text.specs.Reading.{Read, then_read, with_front, begins, ended, number_at, atom_at}
 use Rattle.pg_text.specs.Reading.{part_at, creation_at, told_creation, numbers_at, pid_at}
 use Rattle.pg_text.specs.Reading.{words_at, some_words, reference_at, elements_from, elements_at}
-use Rattle.pg_text.specs.Writing.{atom_text, part_text, creation_text, pid_text, reference_text, more_text, listed}
+use Rattle.pg_text.specs.Writing.{atom_text, part_text, creation_text, pid_text, reference_text, more_text, with_commas}
 
 pub part_back : (before n : ℕ) (rest : List ℕ) → n < 2 ^ 32 → NoDigit rest → part_at before (part_text before n ++ rest) ≡ Some (n, rest)
 part_back before n rest small none =
@@ -124,7 +124,7 @@ module _ {A : Type 0} (element : List ℕ → Read A) (text : A → List ℕ) (l
   many [] all = omega arith
   many (x ∷ xs) all = omega (arith, length-append (text x) (more_text text xs), many xs all.1)
 
-  pub elements_back : (xs : List A) (rest : List ℕ) → AreBack element text last xs → elements_at element last (listed text xs ++ last ∷ rest) ≡ Some (xs, rest)
+  pub elements_back : (xs : List A) (rest : List ℕ) → AreBack element text last xs → elements_at element last (with_commas text xs ++ last ∷ rest) ≡ Some (xs, rest)
   elements_back [] rest all = ap (λ b. cond b (Some ([], rest)) (elements_from element last (length (last ∷ rest)) (last ∷ rest))) (eq-eqb last last refl)
   elements_back (x ∷ xs) rest all =
       let more : List ℕ = more_text text xs ++ last ∷ rest in

@@ -16,7 +16,7 @@ use Rattle.pg_text.specs.declared.reading.quoted.Hex.{Hex}
 use Rattle.pg_text.specs.declared.reading.quoted.Place.{Place}
 use Rattle.pg_text.specs.declared.reading.quoted.Place.TheVariants.{Plain, Escape, Opening, Digits}
 use Rattle.pg_text.specs.declared.reading.quoted.Quoted.TheVariants.{Close, Character, Within, Bad}
-use Rattle.pg_text.specs.Reading.{with_first, is_hex, is_plain, plain_step, escape_step}
+use Rattle.pg_text.specs.Reading.{with_first, is_hex, is_plain_number, plain_step, escape_step}
 use Rattle.pg_text.specs.Reading.{opening_step, digits_step, quoted_next, quoted_at}
 use Rattle.pg_text.specs.Spelling.{IsHexOf, IsQuoted}
 use Rattle.pg_text.specs.Spelling.IsQuoted.{none, shown, escaped}
@@ -27,7 +27,7 @@ record HexSoFar (hex : Hex) (ds : List ℕ) : Type 0 where
   digits : list_all is_hex ds ≡ true
   value : digits_value 16 ds ≡ hex.value
   nothing : hex.begun ≡ false → ds ≡ []
-  plain : hex.begun ≡ true → is_plain ds ≡ true
+  plain : hex.begun ≡ true → is_plain_number ds ≡ true
 
 -- the characters since the last whole one
 abbrev Opened : Place → List ℕ → Type 0
@@ -75,7 +75,7 @@ or_true true = refl
 or_true false = refl
 
 -- one digit more has no leading zero either
-plain_push : (ds : List ℕ) (c : ℕ) → is_plain ds ≡ true → (digits_value 16 ds == 0) ≡ false → is_plain (ds ++ c ∷ []) ≡ true
+plain_push : (ds : List ℕ) (c : ℕ) → is_plain_number ds ≡ true → (digits_value 16 ds == 0) ≡ false → is_plain_number (ds ++ c ∷ []) ≡ true
 plain_push [] c e v = absurd (cc)
 plain_push (d ∷ []) c e v = ap (λ b. not b || false) (ne_eqb d 48 (λ same. let z = subst (λ x. (digits_value 16 (x ∷ []) == 0) ≡ false) same v in absurd (cc)))
 plain_push (d ∷ f ∷ ds) c e v =
@@ -90,9 +90,9 @@ hex_more hex ds c h e lead = record {
   plain = λ f. step hex.begun refl;
 }
   where
-    step : (b : Bool) → hex.begun ≡ b → is_plain (ds ++ c ∷ []) ≡ true
+    step : (b : Bool) → hex.begun ≡ b → is_plain_number (ds ++ c ∷ []) ≡ true
     step true f = let zero_value : (hex.value == 0) ≡ false = ap (λ b. b && (hex.value == 0)) (sym f) ∙ lead in plain_push ds c (h.plain f) (ap (λ v. v == 0) h.value ∙ zero_value)
-    step false f = subst (λ xs. is_plain (xs ++ c ∷ []) ≡ true) (sym (h.nothing f)) (or_true (not (c == 48)))
+    step false f = subst (λ xs. is_plain_number (xs ++ c ∷ []) ≡ true) (sym (h.nothing f)) (or_true (not (c == 48)))
 
 -- what is known of what follows a character
 abbrev Later : List ℕ → Type 0

@@ -20,7 +20,7 @@ use Rattle.pg_text.specs.Again.{NoWord, ReadsAs, ReadsBack, ReadBack}
 use Rattle.pg_text.specs.Reading.{as_term, begins, begins_number, integer_at, atom_at, pid_at, reference_at}
 use Rattle.pg_text.specs.Reading.{numeral_at, elements_at, ended, then_read, bytes_at, angled_at, leaf_at, term_at}
 use Rattle.pg_text.specs.Writing.{term_text, terms_text, atom_text, pid_text, reference_text, part_text}
-use Rattle.pg_text.specs.Writing.{creation_text, binary_text, between_text, listed, more_text}
+use Rattle.pg_text.specs.Writing.{creation_text, binary_text, between_text, with_commas, more_text}
 use Rattle.pg_text.proofs.AtomsBack.{atom_back, atom_begins, atom_no_number, atom_some}
 use Rattle.pg_text.proofs.Fronts.{term_leaf}
 use Rattle.pg_text.proofs.NumbersBack.{numeral_back, decimal_begins, integer_back}
@@ -154,7 +154,7 @@ bytes_are_back : (bytes : List ℕ) → AllByRecursion (λ b. b < 256) bytes →
 bytes_are_back [] all = tt
 bytes_are_back (b ∷ bytes) all = (byte_back b all.0, bytes_are_back bytes all.1)
 
-bytes_back : (bytes rest : List ℕ) → AllByRecursion (λ b. b < 256) bytes → bytes_at (listed decimal bytes ++ 62 ∷ 62 ∷ rest) ≡ Some (bytes, rest)
+bytes_back : (bytes rest : List ℕ) → AllByRecursion (λ b. b < 256) bytes → bytes_at (with_commas decimal bytes ++ 62 ∷ 62 ∷ rest) ≡ Some (bytes, rest)
 unfolding bytes_at
 bytes_back bytes rest all =
     ap (λ r. then_read r (λ content more. ended 62 content more)) (elements_back (numeral_at 255) decimal 62 (λ more. refl) refl bytes (62 ∷ rest) (bytes_are_back bytes all))
@@ -162,7 +162,7 @@ bytes_back bytes rest all =
 binary_leaf : (bytes rest : List ℕ) → AllByRecursion (λ b. b < 256) bytes → leaf_at (binary_text bytes ++ rest) ≡ Some (Binary bytes, rest)
 unfolding leaf_at
 binary_leaf bytes rest all =
-    ap (λ t. as_term Binary (bytes_at t)) (regroup_three (listed decimal bytes) (62 ∷ []) (62 ∷ []) rest) ∙ ap (as_term Binary) (bytes_back bytes rest all)
+    ap (λ t. as_term Binary (bytes_at t)) (regroup_three (with_commas decimal bytes) (62 ∷ []) (62 ∷ []) rest) ∙ ap (as_term Binary) (bytes_back bytes rest all)
 
 pub binary_reads_back : (bytes : List ℕ) → AllByRecursion (λ b. b < 256) bytes → ReadsBack (Binary bytes)
 binary_reads_back bytes all = subst (ReadsAs (Binary bytes)) (sym (binary_is bytes)) (record {
@@ -178,7 +178,7 @@ more_mapped : (ts : List Term) → more_text (λ part. part) (map term_text ts) 
 more_mapped [] = refl
 more_mapped (t ∷ ts) = ap (λ x. 44 ∷ (term_text t ++ x)) (more_mapped ts)
 
-listed_mapped : (ts : List Term) → terms_text ts ≡ listed term_text ts
+listed_mapped : (ts : List Term) → terms_text ts ≡ with_commas term_text ts
 listed_mapped [] = refl
 listed_mapped (t ∷ ts) = ap (λ x. term_text t ++ x) (more_mapped ts)
 

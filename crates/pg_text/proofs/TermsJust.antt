@@ -22,8 +22,8 @@ use Rattle.pg_text.specs.Reading.{elements_at, bytes_at, as_term, begins_number,
 use Rattle.pg_text.specs.Spelling.{IsAtomText, IsText, AreTexts}
 use Rattle.pg_text.specs.Spelling.IsAtomText.{bare, quoted}
 use Rattle.pg_text.specs.Spelling as s
-use Rattle.pg_text.specs.Writing.{is_word, is_bare, begins_lower, part_text, creation_text, pid_with}
-use Rattle.pg_text.specs.Writing.{reference_with, listed, more_text, binary_text, between_text}
+use Rattle.pg_text.specs.Writing.{is_word_byte, needs_no_quotes, begins_lower, part_text, creation_text, pid_with}
+use Rattle.pg_text.specs.Writing.{reference_with, with_commas, more_text, binary_text, between_text}
 
 unless_inv : {A : Type 0} (b : Bool) (x : Option A) (y : A) → cond b None x ≡ Some y → (b ≡ false) × (x ≡ Some y)
 unless_inv true x y e = absurd (cc)
@@ -31,21 +31,21 @@ unless_inv false x y e = (refl, e)
 
 -- ---- atoms
 
-lower_word : (c : ℕ) → is_ascii_lowercase c ≡ true → is_word c ≡ true
+lower_word : (c : ℕ) → is_ascii_lowercase c ≡ true → is_word_byte c ≡ true
 lower_word c e = grind (arith, nat_tests)
 
-prefix_words : (text : List ℕ) → list_all is_word (take (prefix_len is_word text) text) ≡ true
+prefix_words : (text : List ℕ) → list_all is_word_byte (take (prefix_len is_word_byte text) text) ≡ true
 prefix_words [] = refl
-prefix_words (c ∷ text) = step (is_word c) refl (prefix_words text)
+prefix_words (c ∷ text) = step (is_word_byte c) refl (prefix_words text)
   where
-    step : (b : Bool) → is_word c ≡ b → list_all is_word (take (prefix_len is_word text) text) ≡ true → list_all is_word (take (cond b (1 + prefix_len is_word text) 0) (c ∷ text)) ≡ true
-    step true e h = let n : suc (prefix_len is_word text) ≡ 1 + prefix_len is_word text = omega arith in subst (λ k. list_all is_word (take k (c ∷ text)) ≡ true) n (ap (λ b. b && list_all is_word (take (prefix_len is_word text) text)) e ∙ h)
+    step : (b : Bool) → is_word_byte c ≡ b → list_all is_word_byte (take (prefix_len is_word_byte text) text) ≡ true → list_all is_word_byte (take (cond b (1 + prefix_len is_word_byte text) 0) (c ∷ text)) ≡ true
+    step true e h = let n : suc (prefix_len is_word_byte text) ≡ 1 + prefix_len is_word_byte text = omega arith in subst (λ k. list_all is_word_byte (take k (c ∷ text)) ≡ true) n (ap (λ b. b && list_all is_word_byte (take (prefix_len is_word_byte text) text)) e ∙ h)
     step false e h = refl
 
-prefix_lower : (text : List ℕ) → begins_lower text ≡ true → begins_lower (take (prefix_len is_word text) text) ≡ true
+prefix_lower : (text : List ℕ) → begins_lower text ≡ true → begins_lower (take (prefix_len is_word_byte text) text) ≡ true
 prefix_lower [] e = absurd (cc)
 prefix_lower (c ∷ text) e =
-    let n : suc (prefix_len is_word text) ≡ prefix_len is_word (c ∷ text) = (let m : suc (prefix_len is_word text) ≡ 1 + prefix_len is_word text = omega arith in m) ∙ ap (λ b. cond b (1 + prefix_len is_word text) 0) (sym (lower_word c e)) in
+    let n : suc (prefix_len is_word_byte text) ≡ prefix_len is_word_byte (c ∷ text) = (let m : suc (prefix_len is_word_byte text) ≡ 1 + prefix_len is_word_byte text = omega arith in m) ∙ ap (λ b. cond b (1 + prefix_len is_word_byte text) 0) (sym (lower_word c e)) in
     subst (λ k. begins_lower (take k (c ∷ text)) ≡ true) n e
 
 short_inv : (cs rest : List ℕ) (y : List ℕ × List ℕ) → short cs rest ≡ Some y → (cs ≡ y.0) × (rest ≡ y.1)
@@ -63,7 +63,7 @@ atom_just text y e = step (begins 39 text) refl (begins_lower text) refl e
     step : (a : Bool) → begins 39 text ≡ a → (b : Bool) → begins_lower text ≡ b → cond a (then_read (quoted_at (drop 1 text) Plain) unless_bare) (cond b (bare_at text) None) ≡ Some y → AtomJust text y
     step true ea b eb f =
         let h = read_inv (quoted_at (drop 1 text) Plain) unless_bare y f in
-        let u = unless_inv (is_bare h.0.0) (short h.0.0 h.0.1) y h.2 in
+        let u = unless_inv (needs_no_quotes h.0.0) (short h.0.0 h.0.1) y h.2 in
         let t = short_inv h.0.0 h.0.1 y u.1 in
         let w = within_quotes (drop 1 text) h.0 h.1 in
         record {
@@ -72,9 +72,9 @@ atom_just text y e = step (begins 39 text) refl (begins_lower text) refl e
           spelled = subst (λ cs. IsAtomText cs (39 ∷ (w.0 ++ 39 ∷ []))) t.0 (quoted h.0.0 w.0 u.0 w.2);
         }
     step false ea true eb f =
-        let k = prefix_len is_word text in
+        let k = prefix_len is_word_byte text in
         let t = short_inv (take k text) (drop k text) y f in
-        let is : is_bare (take k text) ≡ true = ap (λ b. b && list_all is_word (take k text)) (prefix_lower text eb) ∙ prefix_words text in
+        let is : needs_no_quotes (take k text) ≡ true = ap (λ b. b && list_all is_word_byte (take k text)) (prefix_lower text eb) ∙ prefix_words text in
         record {
           front = take k text;
           whole = sym (take-append-drop k text) ∙ ap (λ x. take k text ++ x) t.1;
@@ -192,7 +192,7 @@ Each R (x ∷ xs) [] = ⊥
 Each R (x ∷ xs) (part ∷ parts) = R x part × Each R xs parts
 
 abbrev pub parts_text : List (List ℕ) → List ℕ
-parts_text parts = listed (λ part. part) parts
+parts_text parts = with_commas (λ part. part) parts
 
 parts_more : (part : List ℕ) (parts : List (List ℕ)) → 1 ≤ length parts → part ++ 44 ∷ parts_text parts ≡ parts_text (part ∷ parts)
 parts_more part [] some = absurd (omega arith)
@@ -266,19 +266,19 @@ more_bytes [] (part ∷ parts) each = absurd each
 more_bytes (b ∷ bytes) [] each = absurd each
 more_bytes (b ∷ bytes) (part ∷ parts) each = ap (λ x. 44 ∷ (x ++ more_text (λ part. part) parts)) each.0 ∙ ap (λ x. 44 ∷ (decimal b ++ x)) (more_bytes bytes parts each.1)
 
-bytes_text : (bytes : List ℕ) (parts : List (List ℕ)) → Each (λ n part. part ≡ decimal n) bytes parts → parts_text parts ≡ listed decimal bytes
+bytes_text : (bytes : List ℕ) (parts : List (List ℕ)) → Each (λ n part. part ≡ decimal n) bytes parts → parts_text parts ≡ with_commas decimal bytes
 bytes_text [] [] each = refl
 bytes_text [] (part ∷ parts) each = absurd each
 bytes_text (b ∷ bytes) [] each = absurd each
 bytes_text (b ∷ bytes) (part ∷ parts) each = ap (λ x. x ++ more_text (λ part. part) parts) each.0 ∙ ap (λ x. decimal b ++ x) (more_bytes bytes parts each.1)
 
-bytes_just : (text : List ℕ) (y : List ℕ × List ℕ) → bytes_at text ≡ Some y → text ≡ listed decimal y.0 ++ 62 ∷ 62 ∷ y.1
+bytes_just : (text : List ℕ) (y : List ℕ × List ℕ) → bytes_at text ≡ Some y → text ≡ with_commas decimal y.0 ++ 62 ∷ 62 ∷ y.1
 unfolding bytes_at
 bytes_just text y e =
     let h = read_inv (elements_at (numeral_at 255) 62 text) (λ bytes rest. ended 62 bytes rest) y e in
     let j = elements_just (λ n part. part ≡ decimal n) (numeral_at 255) 62 byte_just text h.0 h.1 in
     let d = ended_inv 62 h.0.0 h.0.1 y h.2 in
-    j.whole ∙ ap (λ x. x ++ 62 ∷ h.0.1) (bytes_text h.0.0 j.parts j.spelled) ∙ ap (λ x. listed decimal h.0.0 ++ 62 ∷ x) d.0 ∙ ap (λ bs. listed decimal bs ++ 62 ∷ 62 ∷ y.1) d.1
+    j.whole ∙ ap (λ x. x ++ 62 ∷ h.0.1) (bytes_text h.0.0 j.parts j.spelled) ∙ ap (λ x. with_commas decimal h.0.0 ++ 62 ∷ x) d.0 ∙ ap (λ bs. with_commas decimal bs ++ 62 ∷ 62 ∷ y.1) d.1
 
 -- ---- terms
 
@@ -300,7 +300,7 @@ angled_just text y first e = step (begins 60 (drop 1 text)) refl e
     step true eb f =
         let h = as_inv Binary (bytes_at (drop 1 (drop 1 text))) y f in
         spelled_by text (binary_text h.0.0) h.0.1 (Binary h.0.0) y
-        (begins_inv 60 text first ∙ ap (λ x. 60 ∷ x) (begins_inv 60 (drop 1 text) eb ∙ ap (λ x. 60 ∷ x) (bytes_just (drop 1 (drop 1 text)) h.0 h.1 ∙ sym (regroup_three (listed decimal h.0.0) (62 ∷ []) (62 ∷ []) h.0.1))))
+        (begins_inv 60 text first ∙ ap (λ x. 60 ∷ x) (begins_inv 60 (drop 1 text) eb ∙ ap (λ x. 60 ∷ x) (bytes_just (drop 1 (drop 1 text)) h.0 h.1 ∙ sym (regroup_three (with_commas decimal h.0.0) (62 ∷ []) (62 ∷ []) h.0.1))))
         (s.IsText.binary h.0.0) h.2 h.3
     step false eb f =
         let h = as_inv Process (pid_at text) y f in

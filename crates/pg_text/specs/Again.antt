@@ -4,11 +4,11 @@ use Rattle.std.specs.List.{AllByRecursion, prefix_len}
 use Rattle.pg_term.specs.declared.term.Term.{Term}
 use Rattle.pg_term.specs.Depth.{depth}
 use Rattle.pg_text.specs.Reading.{begins, term_at}
-use Rattle.pg_text.specs.Writing.{term_text, is_word}
+use Rattle.pg_text.specs.Writing.{term_text, is_word_byte}
 
 -- a text that no letter, digit, `_` or `@` begins
 abbrev pub NoWord : List ℕ → Type 0
-NoWord text = prefix_len is_word text ≡ 0
+NoWord text = prefix_len is_word_byte text ≡ 0
 
 -- This text is read as the term, wherever that does not nest too deep and no character of a word follows; it is not empty, and no
 -- closing bracket begins it.

@@ -16,7 +16,7 @@ use Rattle.pg_text.specs.declared.reading.quoted.Hex.{Hex}
 use Rattle.pg_text.specs.declared.reading.quoted.Quoted.{Quoted}
 use Rattle.pg_text.specs.declared.reading.quoted.Quoted.TheVariants.{Close, Character, Within, Bad}
 use Rattle.pg_text.specs.declared.reading.TheConstants.{MAX_DEPTH}
-use Rattle.pg_text.specs.Writing.{is_word, is_bare, begins_lower}
+use Rattle.pg_text.specs.Writing.{is_word_byte, needs_no_quotes, begins_lower}
 
 -- what is read at the front, and what follows it; nothing where no such value stands there
 abbrev pub Read : Type 0 → Type 0
@@ -43,12 +43,12 @@ behind c text next = if begins c text then next (drop 1 text) else None
 -- ---- numbers
 
 -- digits without a leading zero
-abbrev pub is_plain : List ℕ → Bool
-is_plain [] = false
-is_plain (d ∷ ds) = not (d == 48) || (length ds == 0)
+abbrev pub is_plain_number : List ℕ → Bool
+is_plain_number [] = false
+is_plain_number (d ∷ ds) = not (d == 48) || (length ds == 0)
 
 abbrev pub numeral_of : ℕ → List ℕ → List ℕ → Read ℕ
-numeral_of most digits rest = if is_plain digits && nat_le (digits_value 10 digits) most then Some (digits_value 10 digits, rest) else None
+numeral_of most digits rest = if is_plain_number digits && nat_le (digits_value 10 digits) most then Some (digits_value 10 digits, rest) else None
 
 -- a number of at most so much, in decimal
 unfoldable pub numeral_at : ℕ → List ℕ → Read ℕ
@@ -125,10 +125,10 @@ short cs rest = if nat_lt 255 (length cs) then None else Some (cs, rest)
 
 -- and stands in quotes only where it cannot stand bare
 abbrev pub unless_bare : List ℕ → List ℕ → Read (List ℕ)
-unless_bare cs rest = if is_bare cs then None else short cs rest
+unless_bare cs rest = if needs_no_quotes cs then None else short cs rest
 
 abbrev pub bare_at : List ℕ → Read (List ℕ)
-bare_at text = short (take (prefix_len is_word text) text) (drop (prefix_len is_word text) text)
+bare_at text = short (take (prefix_len is_word_byte text) text) (drop (prefix_len is_word_byte text) text)
 
 unfoldable pub atom_at : List ℕ → Read (List ℕ)
 atom_at text =

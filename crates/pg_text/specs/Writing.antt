@@ -15,16 +15,16 @@ use Rattle.pg_term.specs.RefParts.{RefParts}
 -- ---- atoms
 
 -- a letter, a digit, `_` or `@`
-abbrev pub is_word : ℕ → Bool
-is_word c = is_ascii_alphanumeric c || (c == 95) || (c == 64)
+abbrev pub is_word_byte : ℕ → Bool
+is_word_byte c = is_ascii_alphanumeric c || (c == 95) || (c == 64)
 
 -- the atom stands without quotes: a letter from a to z, and then letters, digits, `_` and `@`
 abbrev pub begins_lower : List ℕ → Bool
 begins_lower [] = false
 begins_lower (c ∷ cs) = is_ascii_lowercase c
 
-abbrev pub is_bare : List ℕ → Bool
-is_bare cs = begins_lower cs && list_all is_word cs
+abbrev pub needs_no_quotes : List ℕ → Bool
+needs_no_quotes cs = begins_lower cs && list_all is_word_byte cs
 
 -- the hexadecimal digits of a number below 256, in lower case, with no leading zero
 abbrev pub hex_text : ℕ → List ℕ
@@ -39,7 +39,7 @@ abbrev pub quoted_text : ℕ → List ℕ
 quoted_text c = if (c == 39) || (c == 92) then 92 ∷ c ∷ [] else if nat_lt c 32 || (c == 127) then escape_text c else c ∷ []
 
 unfoldable pub atom_text : List ℕ → List ℕ
-atom_text cs = if is_bare cs then cs else 39 ∷ flat_map quoted_text cs ++ 39 ∷ []
+atom_text cs = if needs_no_quotes cs then cs else 39 ∷ flat_map quoted_text cs ++ 39 ∷ []
 
 -- ---- pids, references, binaries
 
@@ -70,9 +70,9 @@ abbrev pub more_text : {A : Type 0} → (A → List ℕ) → List A → List ℕ
 more_text text xs = flat_map (λ x. 44 ∷ text x) xs
 
 -- with commas between them
-abbrev pub listed : {A : Type 0} → (A → List ℕ) → List A → List ℕ
-listed text [] = []
-listed text (x ∷ xs) = text x ++ more_text text xs
+abbrev pub with_commas : {A : Type 0} → (A → List ℕ) → List A → List ℕ
+with_commas text [] = []
+with_commas text (x ∷ xs) = text x ++ more_text text xs
 
 -- what stands before the element at a place
 abbrev pub comma_text : ℕ → List ℕ
@@ -80,7 +80,7 @@ comma_text at = if at == 0 then [] else 44 ∷ []
 
 -- `<<1,2>>`
 abbrev pub binary_text : List ℕ → List ℕ
-binary_text bytes = 60 ∷ 60 ∷ listed decimal bytes ++ 62 ∷ [] ++ 62 ∷ []
+binary_text bytes = 60 ∷ 60 ∷ with_commas decimal bytes ++ 62 ∷ [] ++ 62 ∷ []
 
 abbrev pub between_text : ℕ → List ℕ → ℕ → List ℕ
 between_text first inside last = first ∷ inside ++ last ∷ []
@@ -93,15 +93,15 @@ term_step (Term-F.Int n) = signed_decimal n
 term_step (Term-F.Atom a) = atom_text a
 term_step (Term-F.Ref r) = reference_text r
 term_step (Term-F.Pid p) = pid_text p
-term_step (Term-F.Tuple parts) = between_text 123 (listed (λ part. part) parts) 125
-term_step (Term-F.List parts) = between_text 91 (listed (λ part. part) parts) 93
+term_step (Term-F.Tuple parts) = between_text 123 (with_commas (λ part. part) parts) 125
+term_step (Term-F.List parts) = between_text 91 (with_commas (λ part. part) parts) 93
 term_step (Term-F.Binary bytes) = binary_text bytes
 
 abbrev pub term_text : Term → List ℕ
 term_text = fold-Term (List ℕ) term_step
 
 abbrev pub terms_text : List Term → List ℕ
-terms_text ts = listed (λ part. part) (map term_text ts)
+terms_text ts = with_commas (λ part. part) (map term_text ts)
 
 -- ---- updates, as their tuples
 
@@ -120,5 +120,5 @@ update_text (Leave name pid) = membership_text (codes "{leave,") name pid
 -- ---- what a text becomes
 
 -- the bytes grew at their end by these characters
-pub record Adds (text before after : List ℕ) : Type 0 where
+pub record GrowsBy (text before after : List ℕ) : Type 0 where
   pub all : after ≡ before ++ encode_utf8_all text

@@ -6,11 +6,11 @@ ghost use Rattle.std.specs.Fmt.{signed_decimal};
 ghost use Rattle.std.specs.List.{flat_map};
 ghost use Rattle.std.specs.Str.{chars};
 ghost use Rattle.pg_text.specs.Again.{ReadsBack, ReadBack};
-ghost use Rattle.pg_text.specs.Writing.{Adds, is_word as counts_as_word, is_bare as stands_bare};
+ghost use Rattle.pg_text.specs.Writing.{GrowsBy, is_word_byte as counts_as_word, needs_no_quotes as stands_bare};
 ghost use Rattle.pg_text.specs.Writing.{begins_lower, atom_text, pid_text, part_text, reference_text};
 ghost use Rattle.pg_text.specs.Writing.{binary_text, term_text, terms_text, change_text, membership_text};
 ghost use Rattle.pg_text.specs.Writing.{update_text, escape_text, quoted_text, hex_text, creation_text};
-ghost use Rattle.pg_text.specs.Writing.{between_text, more_text, listed, comma_text};
+ghost use Rattle.pg_text.specs.Writing.{between_text, more_text, with_commas, comma_text};
 
 use crate::again::{atom_again, binary_again, integer_again, pid_again, reference_again};
 use itoa::Buffer;
@@ -20,7 +20,7 @@ use std::alloc::AllocError;
 
 // A character.
 fn put(character: char, out: &mut String) -> Result<(), AllocError>
-    ensures { OnOk result (Adds (character ∷ []) (string_bytes out.old) (string_bytes out.new)) }
+    ensures { OnOk result (GrowsBy (character ∷ []) (string_bytes out.old) (string_bytes out.new)) }
 {
     out.push(character)
 }
@@ -28,7 +28,7 @@ fn put(character: char, out: &mut String) -> Result<(), AllocError>
 // A text as it is.
 #[tactic(auto, using(crate::proofs::Adding::adds_chars))]
 fn put_text(text: &str, out: &mut String) -> Result<(), AllocError>
-    ensures { OnOk result (Adds (chars text.now) (string_bytes out.old) (string_bytes out.new)) }
+    ensures { OnOk result (GrowsBy (chars text.now) (string_bytes out.old) (string_bytes out.new)) }
 {
     out.push_str(text)
 }
@@ -36,14 +36,14 @@ fn put_text(text: &str, out: &mut String) -> Result<(), AllocError>
 // An integer in decimal, with a minus where it is below 0.
 #[tactic(auto, using(crate::proofs::Adding::adds_signed))]
 fn write_integer(number: i64, out: &mut String) -> Result<(), AllocError>
-    ensures { OnOk result (Adds (signed_decimal number) (string_bytes out.old) (string_bytes out.new)) }
+    ensures { OnOk result (GrowsBy (signed_decimal number) (string_bytes out.old) (string_bytes out.new)) }
 {
     out.push_str(Buffer::new().format(number))
 }
 
 #[tactic(auto, using(crate::proofs::Adding::adds_decimal))]
 fn write_number(number: u32, out: &mut String) -> Result<(), AllocError>
-    ensures { OnOk result (Adds (decimal number) (string_bytes out.old) (string_bytes out.new)) }
+    ensures { OnOk result (GrowsBy (decimal number) (string_bytes out.old) (string_bytes out.new)) }
 {
     out.push_str(Buffer::new().format(number))
 }
@@ -87,7 +87,7 @@ fn hex_digit(digit: u32) -> char
 // The hexadecimal digits of a number below 256.
 fn write_hex(code: u32, out: &mut String) -> Result<(), AllocError>
     requires { code < 256 }
-    ensures { OnOk result (Adds (hex_text code) (string_bytes out.old) (string_bytes out.new)) }
+    ensures { OnOk result (GrowsBy (hex_text code) (string_bytes out.old) (string_bytes out.new)) }
 {
     if code >= 16 {
         put(hex_digit(code / 16), out)?;
@@ -98,7 +98,7 @@ fn write_hex(code: u32, out: &mut String) -> Result<(), AllocError>
 // `\x{H}`, of a character below 256.
 fn write_escape(character: char, out: &mut String) -> Result<(), AllocError>
     requires { character < 256 }
-    ensures { OnOk result (Adds (escape_text character) (string_bytes out.old) (string_bytes out.new)) }
+    ensures { OnOk result (GrowsBy (escape_text character) (string_bytes out.old) (string_bytes out.new)) }
 {
     put('\\', out)?;
     put('x', out)?;
@@ -108,7 +108,7 @@ fn write_escape(character: char, out: &mut String) -> Result<(), AllocError>
 }
 
 fn write_quoted(character: char, out: &mut String) -> Result<(), AllocError>
-    ensures { OnOk result (Adds (quoted_text character) (string_bytes out.old) (string_bytes out.new)) }
+    ensures { OnOk result (GrowsBy (quoted_text character) (string_bytes out.old) (string_bytes out.new)) }
 {
     if character == '\'' || character == '\\' {
         put('\\', out)?;
@@ -123,7 +123,7 @@ fn write_quoted(character: char, out: &mut String) -> Result<(), AllocError>
 // The characters of an atom within its quotes.
 #[tactic(auto, using(crate::proofs::Adding::adds_each))]
 fn write_all_quoted(text: &str, out: &mut String) -> Result<(), AllocError>
-    ensures { OnOk result (Adds (flat_map quoted_text (chars text.now)) (string_bytes out.old) (string_bytes out.new)) }
+    ensures { OnOk result (GrowsBy (flat_map quoted_text (chars text.now)) (string_bytes out.old) (string_bytes out.new)) }
 {
     for character in text.chars() {
         write_quoted(character, out)?;
@@ -138,7 +138,7 @@ fn write_all_quoted(text: &str, out: &mut String) -> Result<(), AllocError>
 /// Cost: memory where `out` has no room for the text.
 #[tactic(auto, unfolding(crate::specs::Writing::atom_text))]
 pub fn write_atom(atom: &Atom, out: &mut String) -> Result<(), AllocError>
-    ensures { OnOk result (Adds (atom_text atom.now) (string_bytes out.old) (string_bytes out.new)) }
+    ensures { OnOk result (GrowsBy (atom_text atom.now) (string_bytes out.old) (string_bytes out.new)) }
 {
     let text = atom.as_str();
     if is_bare(text) {
@@ -151,7 +151,7 @@ pub fn write_atom(atom: &Atom, out: &mut String) -> Result<(), AllocError>
 
 // A number, and what is before it.
 fn write_part(before: char, number: u32, out: &mut String) -> Result<(), AllocError>
-    ensures { OnOk result (Adds (part_text before number) (string_bytes out.old) (string_bytes out.new)) }
+    ensures { OnOk result (GrowsBy (part_text before number) (string_bytes out.old) (string_bytes out.new)) }
 {
     put(before, out)?;
     write_number(number, out)
@@ -159,7 +159,7 @@ fn write_part(before: char, number: u32, out: &mut String) -> Result<(), AllocEr
 
 // The creation of a pid is written where it is not 1.
 fn write_creation(creation: u32, out: &mut String) -> Result<(), AllocError>
-    ensures { OnOk result (Adds (creation_text creation) (string_bytes out.old) (string_bytes out.new)) }
+    ensures { OnOk result (GrowsBy (creation_text creation) (string_bytes out.old) (string_bytes out.new)) }
 {
     if creation == 1 {
         return Ok(());
@@ -173,7 +173,7 @@ fn write_creation(creation: u32, out: &mut String) -> Result<(), AllocError>
 ///
 /// Cost: memory where `out` has no room for the text.
 pub fn write_pid(pid: &Pid, out: &mut String) -> Result<(), AllocError>
-    ensures { OnOk result (Adds (pid_text pid.now) (string_bytes out.old) (string_bytes out.new)) }
+    ensures { OnOk result (GrowsBy (pid_text pid.now) (string_bytes out.old) (string_bytes out.new)) }
 {
     put('<', out)?;
     write_atom(&pid.node, out)?;
@@ -186,7 +186,7 @@ pub fn write_pid(pid: &Pid, out: &mut String) -> Result<(), AllocError>
 // The words of a reference, each after a dot.
 #[tactic(auto, using(crate::proofs::Adding::adds_each))]
 fn write_words(words: &[u32], out: &mut String) -> Result<(), AllocError>
-    ensures { OnOk result (Adds (flat_map (part_text 46) words.now) (string_bytes out.old) (string_bytes out.new)) }
+    ensures { OnOk result (GrowsBy (flat_map (part_text 46) words.now) (string_bytes out.old) (string_bytes out.new)) }
 {
     for word in words {
         write_part('.', *word, out)?;
@@ -196,7 +196,7 @@ fn write_words(words: &[u32], out: &mut String) -> Result<(), AllocError>
 
 // `#<NODE/CREATION.W..>`
 fn write_reference(reference: &Reference, out: &mut String) -> Result<(), AllocError>
-    ensures { OnOk result (Adds (reference_text reference.now) (string_bytes out.old) (string_bytes out.new)) }
+    ensures { OnOk result (GrowsBy (reference_text reference.now) (string_bytes out.old) (string_bytes out.new)) }
 {
     put('#', out)?;
     put('<', out)?;
@@ -209,7 +209,7 @@ fn write_reference(reference: &Reference, out: &mut String) -> Result<(), AllocE
 // Bytes, each after a comma.
 #[tactic(auto, using(crate::proofs::Adding::adds_each))]
 fn write_more_bytes(bytes: &[u8], out: &mut String) -> Result<(), AllocError>
-    ensures { OnOk result (Adds (more_text decimal bytes.now) (string_bytes out.old) (string_bytes out.new)) }
+    ensures { OnOk result (GrowsBy (more_text decimal bytes.now) (string_bytes out.old) (string_bytes out.new)) }
 {
     for byte in bytes {
         write_part(',', *byte as u32, out)?;
@@ -219,7 +219,7 @@ fn write_more_bytes(bytes: &[u8], out: &mut String) -> Result<(), AllocError>
 
 // Bytes with commas between them.
 fn write_bytes(bytes: &[u8], out: &mut String) -> Result<(), AllocError>
-    ensures { OnOk result (Adds (listed decimal bytes.now) (string_bytes out.old) (string_bytes out.new)) }
+    ensures { OnOk result (GrowsBy (with_commas decimal bytes.now) (string_bytes out.old) (string_bytes out.new)) }
 {
     if let [first, more @ ..] = bytes {
         write_number(*first as u32, out)?;
@@ -230,7 +230,7 @@ fn write_bytes(bytes: &[u8], out: &mut String) -> Result<(), AllocError>
 
 // `<<1,2>>`
 fn write_binary(content: &[u8], out: &mut String) -> Result<(), AllocError>
-    ensures { OnOk result (Adds (binary_text content.now) (string_bytes out.old) (string_bytes out.new)) }
+    ensures { OnOk result (GrowsBy (binary_text content.now) (string_bytes out.old) (string_bytes out.new)) }
 {
     put('<', out)?;
     put('<', out)?;
@@ -246,7 +246,7 @@ fn write_binary(content: &[u8], out: &mut String) -> Result<(), AllocError>
 /// Cost: memory where `out` has no room for the text; one walk over the term.
 #[cycle(write)]
 pub fn write_term(term: &Term, out: &mut String) -> Result<(), AllocError>
-    ensures text { OnOk result (Adds (term_text term.now) (string_bytes out.old) (string_bytes out.new)) }
+    ensures text { OnOk result (GrowsBy (term_text term.now) (string_bytes out.old) (string_bytes out.new)) }
     ensures again { OnOk result (ReadsBack term.now) }
 {
     match term {
@@ -283,7 +283,7 @@ fn write_between(
     last: char,
     out: &mut String,
 ) -> Result<(), AllocError>
-    ensures text { OnOk result (Adds (between_text first (terms_text terms.now) last) (string_bytes out.old) (string_bytes out.new)) }
+    ensures text { OnOk result (GrowsBy (between_text first (terms_text terms.now) last) (string_bytes out.old) (string_bytes out.new)) }
     ensures again { OnOk result (ReadBack terms.now) }
 {
     put(first, out)?;
@@ -294,7 +294,7 @@ fn write_between(
 // Terms with commas between them.
 #[cycle(write)]
 fn write_all(terms: &[Term], out: &mut String) -> Result<(), AllocError>
-    ensures text { OnOk result (Adds (terms_text terms.now) (string_bytes out.old) (string_bytes out.new)) }
+    ensures text { OnOk result (GrowsBy (terms_text terms.now) (string_bytes out.old) (string_bytes out.new)) }
     ensures again { OnOk result (ReadBack terms.now) }
 {
     for (at, term) in terms.iter().enumerate() {
@@ -306,7 +306,7 @@ fn write_all(terms: &[Term], out: &mut String) -> Result<(), AllocError>
 
 // What is before the element at a place.
 fn write_comma(at: usize, out: &mut String) -> Result<(), AllocError>
-    ensures { OnOk result (Adds (comma_text at) (string_bytes out.old) (string_bytes out.new)) }
+    ensures { OnOk result (GrowsBy (comma_text at) (string_bytes out.old) (string_bytes out.new)) }
 {
     if at == 0 {
         return Ok(());
@@ -320,7 +320,7 @@ fn write_comma(at: usize, out: &mut String) -> Result<(), AllocError>
 ///
 /// Cost: memory where `out` has no room for the text.
 pub fn write_update(update: &Update, out: &mut String) -> Result<(), AllocError>
-    ensures { OnOk result (Adds (update_text update.now) (string_bytes out.old) (string_bytes out.new)) }
+    ensures { OnOk result (GrowsBy (update_text update.now) (string_bytes out.old) (string_bytes out.new)) }
 {
     match update {
         Update::Create(name) => write_change("{create,", name, out),
@@ -331,7 +331,7 @@ pub fn write_update(update: &Update, out: &mut String) -> Result<(), AllocError>
 }
 
 fn write_change(head: &str, name: &Term, out: &mut String) -> Result<(), AllocError>
-    ensures { OnOk result (Adds (change_text (chars head.now) name.now) (string_bytes out.old) (string_bytes out.new)) }
+    ensures { OnOk result (GrowsBy (change_text (chars head.now) name.now) (string_bytes out.old) (string_bytes out.new)) }
 {
     put_text(head, out)?;
     write_term(name, out)?;
@@ -339,7 +339,7 @@ fn write_change(head: &str, name: &Term, out: &mut String) -> Result<(), AllocEr
 }
 
 fn write_membership(head: &str, name: &Term, pid: &Pid, out: &mut String) -> Result<(), AllocError>
-    ensures { OnOk result (Adds (membership_text (chars head.now) name.now pid.now) (string_bytes out.old) (string_bytes out.new)) }
+    ensures { OnOk result (GrowsBy (membership_text (chars head.now) name.now pid.now) (string_bytes out.old) (string_bytes out.new)) }
 {
     put_text(head, out)?;
     write_term(name, out)?;

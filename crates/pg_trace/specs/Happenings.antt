@@ -28,13 +28,13 @@ shown_if None = []
 shown_if (Some event) = shown event
 
 -- the packet that was sent, if it is there
-abbrev pub sent : Option Letter → List Happening
-sent None = []
-sent (Some letter) = Sent letter.from letter.to letter.topic (string_bytes letter.text) ∷ []
+abbrev pub sent_happenings : Option Letter → List Happening
+sent_happenings None = []
+sent_happenings (Some letter) = Sent letter.from letter.to letter.topic (string_bytes letter.text) ∷ []
 
-abbrev pub noted : Option ℕ → List Happening
-noted None = []
-noted (Some node) = Noted node ∷ []
+abbrev pub note_happenings : Option ℕ → List Happening
+note_happenings None = []
+note_happenings (Some node) = Noted node ∷ []
 
 -- the node at which something happened that is told there
 abbrev pub noted_at : Seen → Option ℕ
@@ -48,6 +48,6 @@ noted_at seen = None
 -- what is shown of what was seen, where these packets were sent; bytes that moved and locks are not shown
 abbrev pub seen_as : List Letter → Seen → List Happening
 seen_as letters (sights.Taken node packet clock) = Taken packet ∷ []
-seen_as letters (sights.Sent packet) = sent (slice_get letters packet)
+seen_as letters (sights.Sent packet) = sent_happenings (slice_get letters packet)
 seen_as letters (sights.Lost node) = Lost node ∷ []
-seen_as letters seen = noted (noted_at seen)
+seen_as letters seen = note_happenings (noted_at seen)

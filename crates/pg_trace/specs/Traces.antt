@@ -3,7 +3,7 @@ use Rattle.std.specs.Prelude.{◌≡◌, ℕ, ◌+◌, ◌^◌, ◌-◌, min, ma
 use Rattle.std.specs.Prelude.{None, String, string_bytes, slice_get, codes, decimal, length}
 use Rattle.std.specs.declared.alloc.Global.{Global}
 use Rattle.std.specs.Str.{chars}
-use Rattle.pg_text.specs.Writing.{Adds}
+use Rattle.pg_text.specs.Writing.{GrowsBy}
 use Rattle.pg_lines.specs.declared.rows.Row.{Row}
 use Rattle.pg_lines.specs.declared.rows.Widths.{Widths}
 use Rattle.pg_lines.specs.Rows.{row_line}
@@ -12,8 +12,8 @@ use Rattle.pg_trace.specs.declared.seen.Seen.{Seen}
 use Rattle.pg_trace.specs.declared.seen.Seen.TheVariants.{Put, Pulled, NotThere, Taken, Came, Tried, Sent}
 use Rattle.pg_trace.specs.declared.seen.Seen.TheVariants.{Granted, Freed, Denied, Waits, Answered, LossSeen, Lost}
 
-abbrev pub Names : Type 0
-Names = List (String Global)
+abbrev pub NodeNames : Type 0
+NodeNames = List (String Global)
 
 -- these bytes were appended to a text
 pub record GrewBy (bytes : List ℕ) (old new : String Global) : Type 0 where
@@ -26,7 +26,7 @@ name_in None = codes "?"
 name_in (Some name) = string_bytes name
 
 -- the name of the node at a place, `?` where there is none
-abbrev pub name_of : Names → ℕ → List ℕ
+abbrev pub name_of : NodeNames → ℕ → List ℕ
 name_of names node = name_in (slice_get names node)
 
 abbrev pub sender_of : Option Letter → Option ℕ
@@ -50,7 +50,7 @@ place_of letters (Answered node number text) = Some node
 place_of letters (LossSeen node peer clock) = Some node
 place_of letters (Lost node) = Some node
 
-abbrev pub place_cell : Names → Option ℕ → List ℕ
+abbrev pub place_cell : NodeNames → Option ℕ → List ℕ
 place_cell names None = []
 place_cell names (Some node) = name_of names node
 
@@ -91,15 +91,15 @@ event_cell (Answered node number text) = codes "reply"
 event_cell (LossSeen node peer clock) = codes "see"
 event_cell (Lost node) = codes "lose"
 
-abbrev pub sender_cell : Names → Option Letter → List ℕ
+abbrev pub sender_cell : NodeNames → Option Letter → List ℕ
 sender_cell names None = []
 sender_cell names (Some letter) = codes "from " ++ name_of names letter.from
 
-abbrev pub receiver_cell : Names → Option Letter → List ℕ
+abbrev pub receiver_cell : NodeNames → Option Letter → List ℕ
 receiver_cell names None = []
 receiver_cell names (Some letter) = codes "to " ++ name_of names letter.to
 
-abbrev pub way_cell : Names → List Letter → Seen → List ℕ
+abbrev pub way_cell : NodeNames → List Letter → Seen → List ℕ
 way_cell names letters (Put from to count) = codes "to " ++ name_of names to
 way_cell names letters (Pulled to from count) = codes "from " ++ name_of names from
 way_cell names letters (NotThere node peer) = codes "from " ++ name_of names peer
@@ -155,7 +155,7 @@ pub record IsHead (row : Row) : Type 0 where
   pub what : string_bytes row.what ≡ codes "what"
 
 -- the cells of what was seen while the line of this number was done, among nodes of these names, where these packets were sent
-pub record IsLine (names : Names) (letters : List Letter) (number : ℕ) (seen : Seen) (row : Row) : Type 0 where
+pub record IsLine (names : NodeNames) (letters : List Letter) (number : ℕ) (seen : Seen) (row : Row) : Type 0 where
   pub line : string_bytes row.line ≡ decimal number
   pub node : string_bytes row.node ≡ place_cell names (place_of letters seen)
   pub clock : string_bytes row.clock ≡ clock_cell (clock_of letters seen)
@@ -167,22 +167,22 @@ pub record IsLine (names : Names) (letters : List Letter) (number : ℕ) (seen :
 pub record Appends (widths : Widths) (is_row : Row → Type 0) (old new : List ℕ) : Type 0 where
   pub row : Row
   pub is : is_row row
-  pub adds : Adds (row_line widths row) old new
+  pub adds : GrowsBy (row_line widths row) old new
 
 -- a line for each sight, but none for an answer
-abbrev pub PrintsSight : Widths → Names → List Letter → ℕ → Seen → (old new : List ℕ) → Type 0
+abbrev pub PrintsSight : Widths → NodeNames → List Letter → ℕ → Seen → (old new : List ℕ) → Type 0
 PrintsSight widths names letters line (Answered node number text) old new = new ≡ old
 PrintsSight widths names letters line seen old new = Appends widths (IsLine names letters line seen) old new
 
 -- ---- widths
 
 -- how many characters the longest name has
-abbrev pub widest : Names → ℕ
+abbrev pub widest : NodeNames → ℕ
 widest [] = 0
 widest (name ∷ names) = max (length (chars (string_bytes name))) (widest names)
 
 -- no name and no number of a line is wider than its cells, where this is the greatest number
-abbrev pub widths_of : Names → (last : ℕ) → Widths
+abbrev pub widths_of : NodeNames → (last : ℕ) → Widths
 widths_of names last = record {
   line = max (length (decimal last)) 4;
   node = max (widest names) 4;

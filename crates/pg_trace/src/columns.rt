@@ -2,7 +2,7 @@
 
 ghost use Rattle.std.specs.Prelude.{◌≡◌, ◌++◌, OnOk, codes, decimal, is_ok, true, length, slice_get, string_bytes};
 ghost use Rattle.std.specs.Str.{chars};
-ghost use Rattle.pg_text.specs.Writing.{Adds};
+ghost use Rattle.pg_text.specs.Writing.{GrowsBy};
 ghost use Rattle.pg_lines.specs.Rows.{row_line};
 ghost use Rattle.pg_trace.specs.Traces.{Appends, GrewBy, IsEmpty, IsHead, IsLine, PrintsSight, clock_cell, clock_of};
 ghost use Rattle.pg_trace.specs.Traces.{command_text, event_cell, name_of, place_cell, place_of, receiver_cell};
@@ -88,7 +88,7 @@ impl Columns {
         filled: Result<(), AllocError>,
     ) -> Result<(), AllocError>
         ensures filled { OnOk result (is_ok filled ≡ true) }
-        ensures printed { OnOk result (Adds (row_line self.now.widths row) (string_bytes out.old)
+        ensures printed { OnOk result (GrowsBy (row_line self.now.widths row) (string_bytes out.old)
             (string_bytes out.new)) }
     {
         let printed = match filled {

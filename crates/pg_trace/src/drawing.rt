@@ -2,7 +2,7 @@
 
 ghost use Rattle.std.specs.Prelude.{◌≡◌, ◌++◌, IfOk, OnOk, map, slice_get, string_bytes};
 ghost use Rattle.std.specs.List.{flat_map};
-ghost use Rattle.pg_trace.specs.Happenings.{noted, noted_at, seen_as, sent as sent_as, shown, shown_if};
+ghost use Rattle.pg_trace.specs.Happenings.{note_happenings, noted_at, seen_as, sent_happenings as sent_as, shown, shown_if};
 
 use crate::seen::{Seen, Sight};
 use crate::watch::Watch;
@@ -135,7 +135,7 @@ fn sent(watch: &Watch, packet: usize) -> Result<Option<Event>, AllocError>
 
 /// What happened at one node.
 fn note(alloc: Global, watch: &Watch, seen: &Seen) -> Result<Option<Event>, AllocError>
-    ensures { IfOk result (λ event. shown_if event ≡ noted (noted_at seen.now)) }
+    ensures { IfOk result (λ event. shown_if event ≡ note_happenings (noted_at seen.now)) }
 {
     match noted_at(seen) {
         Some(node) => {

@@ -14,7 +14,7 @@ use Rattle.pg_ring.specs.MemRing.{RingBytes, Grows, Loses, HasRoomFor, HasUnread
 use Rattle.pg_message.specs.declared.packet.Packet.{Packet}
 use Rattle.pg_machine.specs.Places.{is_pair}
 use Rattle.pg_machine.specs.Machine.{Take, Do}
-use Rattle.pg_frame.specs.Pieces.{put, pull}
+use Rattle.pg_frame.specs.Pieces.{ring_put, pull}
 use Rattle.pg_step.specs.Step.{Action}
 use Rattle.pg_node.specs.declared.node.Node.{Node}
 use Rattle.pg_node_state.specs.declared.state.fault.NodeFault.{NodeFault}
@@ -219,7 +219,7 @@ module _ {T : Type 0} {g : Ghosts T} (nodes : List (Node T g)) (rings : List Rin
   -- bytes were put on the ring
   pub put_moves : (node node2 : Node T g) → node ≡ get_or nodes x node → (count : ℕ) → held_by node2 ≡ held_by node
       → links_of node2 ≡ at_link (peer_place x y) (λ l. without_front l count) (links_of node) → Grows ring (take count (links_of node (peer_place x y)).outbox) ring2
-      → Moves (crossing_in nodes rings) (crossing_in (slice_set nodes x node2) rings2) x y (put count)
+      → Moves (crossing_in nodes rings) (crossing_in (slice_set nodes x node2) rings2) x y (ring_put count)
   put_moves node node2 at count held links grows = record {
     nodes = nodes_same nodes rings x node node2 lx at held;
     here = λ j. record {

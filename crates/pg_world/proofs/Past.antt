@@ -3,14 +3,14 @@ use Rattle.std.proofs.Common.{◌≡◌, ◌≢◌, ℕ, Bool, true, false, List
 use Rattle.pg_frame.specs.Frames.{front_of, too_long}
 use Rattle.pg_message.specs.declared.packet.Packet.{Packet}
 use Rattle.pg_frame.specs.Pieces.{Bytes, ArePackets, AreShort, AreCut, FirstPacket, FirstOfCut}
-use Rattle.pg_frame.specs.Pieces.{frames_of, put, pull, sent as bytes_sent, piece_taken as bytes_taken}
+use Rattle.pg_frame.specs.Pieces.{frames_of, ring_put, pull, sent as bytes_sent, piece_taken as bytes_taken}
 use Rattle.pg_world.specs.Crossings.{written_of, IsOnWay}
 
 -- ---- bytes move
 
 -- from a node that is not lost
-pub way_put : (count : ℕ) → ((packets : List Packet) (bytes : Bytes) → ArePackets written_of packets bytes → ArePackets written_of packets (put count bytes))
-    → (to from : Bool) → from ≡ false → (packets : List Packet) (bytes : Bytes) → IsOnWay to from packets bytes → IsOnWay to from packets (put count bytes)
+pub way_put : (count : ℕ) → ((packets : List Packet) (bytes : Bytes) → ArePackets written_of packets bytes → ArePackets written_of packets (ring_put count bytes))
+    → (to from : Bool) → from ≡ false → (packets : List Packet) (bytes : Bytes) → IsOnWay to from packets bytes → IsOnWay to from packets (ring_put count bytes)
 way_put count keeps true from stays packets bytes are = tt
 way_put count keeps false true stays packets bytes are = absurd (cc)
 way_put count keeps false false stays packets bytes are = keeps packets bytes are

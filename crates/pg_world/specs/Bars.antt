@@ -70,9 +70,9 @@ bar_of crossing lost (steps.Event step) = event_bar crossing lost step
 bar_of crossing lost (steps.Lose i) = loss_bar crossing lost i
 
 -- what is barred is refused so, or memory ran out
-abbrev pub IsHeld : Option Refusal → Result Stepped NodeFault → Type 0
-IsHeld None result = Unit {0}
-IsHeld (Some refusal) result = (result ≡ Err (Refused refusal)) ⊎ (result ≡ Err OutOfMemory)
+abbrev pub RefusesBarred : Option Refusal → Result Stepped NodeFault → Type 0
+RefusesBarred None result = Unit {0}
+RefusesBarred (Some refusal) result = (result ≡ Err (Refused refusal)) ⊎ (result ≡ Err OutOfMemory)
 
 -- a fault is the refusal of what is barred so, or memory ran out
 abbrev pub IsFaultOf : Option Refusal → NodeFault → Type 0

@@ -2,7 +2,7 @@
 use Rattle.std.specs.Prelude.{◌≡◌, ◌≢◌, ◌-◌, ℕ, true, min, length, get_or, slice_get, None, Result, Ok, Err}
 use Rattle.pg_machine.specs.Places.{is_pair}
 use Rattle.pg_machine.specs.Machine.{Event, Take, Do, node_of as place_of}
-use Rattle.pg_frame.specs.Pieces.{Bytes, put, pull}
+use Rattle.pg_frame.specs.Pieces.{Bytes, ring_put, pull}
 use Rattle.pg_step.specs.Step.{Action, Issue, Retry}
 use Rattle.pg_node_state.specs.declared.state.fault.NodeFault.{NodeFault}
 use Rattle.pg_node.specs.Bytes.{next_packet}
@@ -71,7 +71,7 @@ FrameChanges old new (frames.Lose i keep) result = new ≡ old
 
 -- what a step changes, where each ring has room for so many bytes; a loss leaves all bytes where they are
 abbrev pub StepChanges : ℕ → Crossing → Crossing → Step → Result Stepped NodeFault → Type 0
-StepChanges capacity old new (steps.Put x y max) result = MoveChanges old new x y (put_count capacity max (bytes_at old x y)) put result
+StepChanges capacity old new (steps.Put x y max) result = MoveChanges old new x y (put_count capacity max (bytes_at old x y)) ring_put result
 StepChanges capacity old new (steps.Pull y x max) result = MoveChanges old new x y (pull_count max (bytes_at old x y)) pull result
 StepChanges capacity old new (steps.Event step) result = FrameChanges old new step result
 StepChanges capacity old new (steps.Lose node) result = new ≡ old

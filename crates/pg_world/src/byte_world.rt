@@ -70,7 +70,7 @@ impl<T: GroupTable + Drop> World<T> {
     ghost use Rattle.pg_history.specs.History.{LockFree};
     ghost use Rattle.pg_step.specs.Config.{Config as Configuration};
     ghost use Rattle.pg_step.specs.LossLaws.{LosingFrameWorld};
-    ghost use Rattle.pg_world.specs.Bars.{IsHeld, StepTellsUndrained, bar_of, bytes_formed_after, bytes_lost_after};
+    ghost use Rattle.pg_world.specs.Bars.{RefusesBarred, StepTellsUndrained, bar_of, bytes_formed_after, bytes_lost_after};
     ghost use Rattle.pg_world.specs.BytesLosing.{ShowsLosingBytes, StepLeaves};
     ghost use Rattle.pg_frame_world.specs.Losing.{IsReachedLosing};
     ghost use Rattle.pg_world.specs.ByteWorlds.{account_of, crossing_of, given_of, lost_of, room_of};
@@ -234,7 +234,7 @@ impl<T: GroupTable + Drop> World<T> {
             → ShowsLosingBytes config (crossing_of self.old) (account_of self.old) (lost_of self.old) u
             → StepLeaves config u step.now result (ShowsLosingBytes config (crossing_of self.new) (account_of self.new) (lost_of self.new)) }
         ensures changes { StepChanges (room_of self.old) (crossing_of self.old) (crossing_of self.new) step.now result }
-        ensures barred { IsHeld (bar_of (crossing_of self.old) (lost_of self.old) step.now) result }
+        ensures barred { RefusesBarred (bar_of (crossing_of self.old) (lost_of self.old) step.now) result }
         ensures undrained { StepTellsUndrained (crossing_of self.old) step.now result }
         ensures lost { lost_of self.new ≡ bytes_lost_after step.now result (lost_of self.old) }
         ensures formed { (account_of self.new).formed

@@ -57,19 +57,19 @@ impl<T: GroupTable + Drop> ByteNodes<T> {
     ghost use Rattle.pg_step.specs.Step.{Issue, Retry};
     ghost use Rattle.pg_message.specs.Members.{IsShort};
     ghost use Rattle.pg_node.specs.Bytes.{next_packet};
-    ghost use Rattle.pg_account.specs.Histories.{IsSettled, account_of};
+    ghost use Rattle.pg_account.specs.Histories.{AreInRows, account_of};
     ghost use Rattle.pg_step.specs.LossLaws.{LosingFrameWorld};
     ghost use Rattle.pg_world.specs.BytesLosing.{ShowsLosingBytes, MoveLeaves, EventLeaves, StepLeaves};
     ghost use Rattle.pg_frame_world.specs.Losing.{IsReachedLosing};
     ghost use Rattle.pg_account.specs.Losses.{lost_in, is_lost};
     ghost use Rattle.pg_frame_world.specs.Losing.{SeenAreLost, formed_after, lost_after};
-    ghost use Rattle.pg_world.specs.Bars.{IsHeld, StepTellsUndrained, TellsUndrained, put_bar};
+    ghost use Rattle.pg_world.specs.Bars.{RefusesBarred, StepTellsUndrained, TellsUndrained, put_bar};
     ghost use Rattle.pg_world.specs.Bars.{pull_bar, event_bar, bar_of, bytes_formed_after, bytes_lost_after};
     ghost use Rattle.pg_frame_world.specs.Worlds.{has_port, has_places, TimedFrameWorld};
     ghost use Rattle.pg_account.specs.Histories.{no_account};
     ghost use Rattle.pg_world.specs.Changes.{Moves, put_count, pull_count, MoveChanges};
     ghost use Rattle.pg_world.specs.Changes.{EventChanges, FrameChanges, StepChanges};
-    ghost use Rattle.pg_frame.specs.Pieces.{put, pull};
+    ghost use Rattle.pg_frame.specs.Pieces.{ring_put, pull};
     ghost use Rattle.pg_world.specs.Crossings.{crossing_of, node_of, room_of, idle_crossing, link_at};
     ghost use Rattle.pg_world.specs.Crossings.{bytes_at, IsWelcome, ShowsPast, ShowsBytes};
     ghost use Rattle.pg_world.specs.Crossings.{ShowsBytesPast, EventComesTo, FrameComesTo, StepComesTo};
@@ -131,7 +131,7 @@ impl<T: GroupTable + Drop> ByteNodes<T> {
             → ShowsLosingBytes config (crossing_of self.old) (account_of self.old.histories) (lost_in self.old.losses) u
             → StepLeaves config u step.now result (ShowsLosingBytes config (crossing_of self.new) (account_of self.new.histories) (lost_in self.new.losses)) }
         ensures changes { StepChanges (room_of self.old) (crossing_of self.old) (crossing_of self.new) step.now result }
-        ensures barred { IsHeld (bar_of (crossing_of self.old) (lost_in self.old.losses) step.now) result }
+        ensures barred { RefusesBarred (bar_of (crossing_of self.old) (lost_in self.old.losses) step.now) result }
         ensures undrained { StepTellsUndrained (crossing_of self.old) step.now result }
         ensures lost { lost_in self.new.losses ≡ bytes_lost_after step.now result (lost_in self.old.losses) }
         ensures formed { self.new.histories.formed
@@ -151,10 +151,10 @@ impl<T: GroupTable + Drop> ByteNodes<T> {
         ensures came { (config : Config) (w : TimedFrameWorld)
             → ShowsBytesPast config (lost_in self.old.losses) (crossing_of self.old) (account_of self.old.histories) w
             → MoveLeaves (put_bar (crossing_of self.old) (lost_in self.old.losses) from to) result (ShowsBytesPast config (lost_in self.old.losses) (crossing_of self.new) (account_of self.new.histories) w) }
-        ensures barred { IsHeld (put_bar (crossing_of self.old) (lost_in self.old.losses) from to) result }
+        ensures barred { RefusesBarred (put_bar (crossing_of self.old) (lost_in self.old.losses) from to) result }
         ensures formed { self.new.histories.formed ≡ self.old.histories.formed }
         ensures lost { lost_in self.new.losses ≡ lost_in self.old.losses }
-        ensures changes { MoveChanges (crossing_of self.old) (crossing_of self.new) from to (put_count (room_of self.old) max (bytes_at (crossing_of self.old) from to)) put result }
+        ensures changes { MoveChanges (crossing_of self.old) (crossing_of self.new) from to (put_count (room_of self.old) max (bytes_at (crossing_of self.old) from to)) ring_put result }
         ensures room { room_of self.new ≡ room_of self.old }
     {
         if !self.has_pair(from, to) {
@@ -174,7 +174,7 @@ impl<T: GroupTable + Drop> ByteNodes<T> {
         ensures account { account_of self.new.histories ≡ account_of self.old.histories }
         ensures lost { lost_in self.new.losses ≡ lost_in self.old.losses }
         ensures many { result ≡ put_count (room_of self.old) max (bytes_at (crossing_of self.old) from to) }
-        ensures moves { Moves (crossing_of self.old) (crossing_of self.new) from to (put result) }
+        ensures moves { Moves (crossing_of self.old) (crossing_of self.new) from to (ring_put result) }
         ensures room { room_of self.new ≡ room_of self.old }
     {
         moving_keeps_packets::<Packet>();
@@ -190,7 +190,7 @@ impl<T: GroupTable + Drop> ByteNodes<T> {
         ensures came { (config : Config) (w : TimedFrameWorld) → SeenAreLost config w (lost_in self.old.losses)
             → ShowsBytesPast config (lost_in self.old.losses) (crossing_of self.old) (account_of self.old.histories) w
             → MoveLeaves (pull_bar (crossing_of self.old) (lost_in self.old.losses) to from) result (ShowsBytesPast config (lost_in self.old.losses) (crossing_of self.new) (account_of self.new.histories) w) }
-        ensures barred { IsHeld (pull_bar (crossing_of self.old) (lost_in self.old.losses) to from) result }
+        ensures barred { RefusesBarred (pull_bar (crossing_of self.old) (lost_in self.old.losses) to from) result }
         ensures formed { self.new.histories.formed ≡ self.old.histories.formed }
         ensures lost { lost_in self.new.losses ≡ lost_in self.old.losses }
         ensures changes { MoveChanges (crossing_of self.old) (crossing_of self.new) from to (pull_count max (bytes_at (crossing_of self.old) from to)) pull result }
@@ -236,7 +236,7 @@ impl<T: GroupTable + Drop> ByteNodes<T> {
             → ShowsLosingBytes config (crossing_of self.old) (account_of self.old.histories) (lost_in self.old.losses) u
             → EventLeaves config u event.now result (ShowsLosingBytes config (crossing_of self.new) (account_of self.new.histories) (lost_in self.new.losses)) }
         ensures changes { FrameChanges (crossing_of self.old) (crossing_of self.new) event.now result }
-        ensures barred { IsHeld (event_bar (crossing_of self.old) (lost_in self.old.losses) event.now) result }
+        ensures barred { RefusesBarred (event_bar (crossing_of self.old) (lost_in self.old.losses) event.now) result }
         ensures undrained { TellsUndrained (crossing_of self.old) event.now result }
         ensures lost { lost_in self.new.losses ≡ lost_after event.now result (lost_in self.old.losses) }
         ensures formed { self.new.histories.formed
@@ -305,7 +305,7 @@ impl<T: GroupTable + Drop> ByteNodes<T> {
 
     /// A node takes the first packet of a peer, where the whole of its frame has come.
     fn take(&mut self, node: usize, peer: usize) -> Result<Stepped, NodeFault>
-        requires settled { IsSettled self.old.histories }
+        requires settled { AreInRows self.old.histories }
         requires pair { is_pair (length (crossing_of self.old).nodes) node peer ≡ true }
         ensures event { (config : Config) (lost : List ℕ) (w : TimedFrameWorld) → is_lost lost node ≡ false → (w.node node).state.lost (name_at config peer) ≡ false → IsWelcome config w node peer
             → ShowsBytesPast config lost (crossing_of self.old) (account_of self.old.histories) w
@@ -335,7 +335,7 @@ impl<T: GroupTable + Drop> ByteNodes<T> {
         peer: usize,
         next: &Option<Packet>,
     ) -> Result<Stepped, NodeFault>
-        requires settled { IsSettled self.old.histories }
+        requires settled { AreInRows self.old.histories }
         requires pair { is_pair (length (crossing_of self.old).nodes) node peer ≡ true }
         requires few { (packet : Packet) → next.now ≡ Some packet → IsShort (2 ^ 32) packet.message }
         requires front { next_packet (link_at (crossing_of self.old) node peer) ≡ Ok next.now }
@@ -355,7 +355,7 @@ impl<T: GroupTable + Drop> ByteNodes<T> {
 
     /// A node takes the packet that it has read of a peer.
     fn take_read(&mut self, node: usize, peer: usize, packet: &Packet) -> Result<Stepped, NodeFault>
-        requires settled { IsSettled self.old.histories }
+        requires settled { AreInRows self.old.histories }
         requires pair { is_pair (length (crossing_of self.old).nodes) node peer ≡ true }
         requires few { IsShort (2 ^ 32) packet.now.message }
         requires front { next_packet (link_at (crossing_of self.old) node peer) ≡ Ok (Some packet.now) }
@@ -388,7 +388,7 @@ impl<T: GroupTable + Drop> ByteNodes<T> {
 
     /// A command comes in at a port of a node.
     fn command(&mut self, node: usize, port: u16, command: &Command) -> Result<Stepped, NodeFault>
-        requires settled { IsSettled self.old.histories }
+        requires settled { AreInRows self.old.histories }
         requires port { has_port (crossing_of self.old).nodes node port ≡ true }
         ensures event { (config : Config) (lost : List ℕ) (w : TimedFrameWorld) → is_lost lost node ≡ false
             → ShowsBytesPast config lost (crossing_of self.old) (account_of self.old.histories) w
@@ -412,7 +412,7 @@ impl<T: GroupTable + Drop> ByteNodes<T> {
 
     /// A node tries a command again that waits.
     fn retry(&mut self, node: usize, op: OpId) -> Result<Stepped, NodeFault>
-        requires settled { IsSettled self.old.histories }
+        requires settled { AreInRows self.old.histories }
         requires port { has_port (crossing_of self.old).nodes node op.port ≡ true }
         ensures event { (config : Config) (lost : List ℕ) (w : TimedFrameWorld) → is_lost lost node ≡ false
             → ShowsBytesPast config lost (crossing_of self.old) (account_of self.old.histories) w

@@ -9,7 +9,7 @@ ghost use Rattle.pg_term.specs.declared.term.Term.{Term};
 ghost use Rattle.pg_group.specs.Value.{count_in};
 ghost use Rattle.pg_ends.specs.Numbers.{ended_among};
 ghost use Rattle.pg_ends.specs.declared.processes.TheConstants.{MAX_PROCESSES};
-ghost use Rattle.pg_node_state.specs.Ports.{counts_in, answers_in};
+ghost use Rattle.pg_node_state.specs.Ports.{port_commands, answers_in};
 
 use crate::state::NodeState;
 use crate::state::opening::opening;
@@ -277,7 +277,7 @@ pub fn started<T: GroupTable + Drop>(
 /// Ports at which no command came in.
 fn idle_ports(alloc: Global, ports: u16) -> Result<Vec<Port>, AllocError>
     ensures len { IfOk result (λ made. length made.items ≡ ports) }
-    ensures counts { IfOk result (λ made. counts_in made.items ≡ (λ port. 0)) }
+    ensures counts { IfOk result (λ made. port_commands made.items ≡ (λ port. 0)) }
     ensures answers { IfOk result (λ made. answers_in made.items ≡ (λ port. [])) }
 {
     let mut made = Vec::with_capacity(alloc, usize::from(ports))?;

@@ -13,7 +13,7 @@ ghost use Rattle.std.specs.Prelude.{◌≡◌, ◌<◌, ◌+◌, ◌^◌, ◌++�
 ghost use Rattle.std.specs.Prelude.{length, vec_len, vec_capacity, OnOk, OnErr};
 ghost use Rattle.pg_group.specs.Functions.{upd};
 ghost use Rattle.pg_node_state.specs.Issued.{counted_at, HasRoomAt};
-ghost use Rattle.pg_node_state.specs.Ports.{counts_in, answers_in};
+ghost use Rattle.pg_node_state.specs.Ports.{port_commands, answers_in};
 
 /// Makes room for one more answer at a port.
 ///
@@ -21,7 +21,7 @@ ghost use Rattle.pg_node_state.specs.Ports.{counts_in, answers_in};
 pub(crate) fn reserve_answer(ports: &mut Vec<Port>, port: u16) -> Result<(), AllocError>
     requires place { port < length ports.old.items }
     ensures len { length ports.new.items ≡ length ports.old.items }
-    ensures counts { counts_in ports.new.items ≡ counts_in ports.old.items }
+    ensures counts { port_commands ports.new.items ≡ port_commands ports.old.items }
     ensures answers { answers_in ports.new.items ≡ answers_in ports.old.items }
     ensures ok { OnOk result (HasRoomAt ports.new.items port) }
 {
@@ -33,11 +33,11 @@ pub(crate) fn reserve_answer(ports: &mut Vec<Port>, port: u16) -> Result<(), All
 pub(crate) fn give(ports: &mut Vec<Port>, port: u16, reply: Reply)
     requires place { port < length ports.old.items }
     requires room { HasRoomAt ports.old.items port }
-    requires few { counts_in ports.old.items port + 1 < 2 ^ 32 }
+    requires few { port_commands ports.old.items port + 1 < 2 ^ 32 }
     ensures len { length ports.new.items ≡ length ports.old.items }
-    ensures counts { counts_in ports.new.items ≡ counted_at port (counts_in ports.old.items) }
+    ensures counts { port_commands ports.new.items ≡ counted_at port (port_commands ports.old.items) }
     ensures answers { answers_in ports.new.items ≡ upd nat_eq (answers_in ports.old.items) port
-        (answers_in ports.old.items port ++ record { number = counts_in ports.old.items port + 1; reply = reply } ∷ []) }
+        (answers_in ports.old.items port ++ record { number = port_commands ports.old.items port + 1; reply = reply } ∷ []) }
 {
     let entry = &mut ports[usize::from(port)];
     entry.count += 1;
@@ -47,9 +47,9 @@ pub(crate) fn give(ports: &mut Vec<Port>, port: u16, reply: Reply)
 /// Counts the next command of a port. It takes no memory.
 pub(crate) fn count(ports: &mut Vec<Port>, port: u16)
     requires place { port < length ports.old.items }
-    requires few { counts_in ports.old.items port + 1 < 2 ^ 32 }
+    requires few { port_commands ports.old.items port + 1 < 2 ^ 32 }
     ensures len { length ports.new.items ≡ length ports.old.items }
-    ensures counts { counts_in ports.new.items ≡ counted_at port (counts_in ports.old.items) }
+    ensures counts { port_commands ports.new.items ≡ counted_at port (port_commands ports.old.items) }
     ensures answers { answers_in ports.new.items ≡ answers_in ports.old.items }
 {
     let entry = &mut ports[usize::from(port)];
@@ -59,9 +59,9 @@ pub(crate) fn count(ports: &mut Vec<Port>, port: u16)
 /// Of a port counts one command fewer, which was counted. It takes no memory.
 pub(crate) fn uncount(ports: &mut Vec<Port>, port: u16)
     requires place { port < length ports.old.items }
-    requires some { 0 < counts_in ports.old.items port }
+    requires some { 0 < port_commands ports.old.items port }
     ensures len { length ports.new.items ≡ length ports.old.items }
-    ensures counts { (counts : ℕ → ℕ) → counts_in ports.old.items ≡ counted_at port counts → counts_in ports.new.items ≡ counts }
+    ensures counts { (counts : ℕ → ℕ) → port_commands ports.old.items ≡ counted_at port counts → port_commands ports.new.items ≡ counts }
     ensures answers { answers_in ports.new.items ≡ answers_in ports.old.items }
 {
     let entry = &mut ports[usize::from(port)];
@@ -71,8 +71,8 @@ pub(crate) fn uncount(ports: &mut Vec<Port>, port: u16)
 /// The next command of a port. It takes no memory.
 pub(crate) fn next_op(ports: &Vec<Port>, port: u16) -> OpId
     requires place { port < length ports.now.items }
-    requires few { counts_in ports.now.items port + 1 < 2 ^ 32 }
-    ensures { result ≡ record { port = port; number = counts_in ports.now.items port + 1 } }
+    requires few { port_commands ports.now.items port + 1 < 2 ^ 32 }
+    ensures { result ≡ record { port = port; number = port_commands ports.now.items port + 1 } }
 {
     let entry = &ports[usize::from(port)];
     OpId {
@@ -87,7 +87,7 @@ pub(crate) fn keep_reserved(ports: &mut Vec<Port>, op: OpId, reply: Reply)
     requires room { HasRoomAt ports.old.items op.port }
     ensures kept { answers_in ports.new.items ≡ upd nat_eq (answers_in ports.old.items) op.port
         (answers_in ports.old.items op.port ++ record { number = op.number; reply = reply } ∷ []) }
-    ensures counts { counts_in ports.new.items ≡ counts_in ports.old.items }
+    ensures counts { port_commands ports.new.items ≡ port_commands ports.old.items }
     ensures len { length ports.new.items ≡ length ports.old.items }
 {
     let port = &mut ports[usize::from(op.port)];

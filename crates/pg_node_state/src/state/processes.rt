@@ -9,7 +9,7 @@ ghost use Rattle.pg_ends.specs.declared.processes.TheConstants.{MAX_PROCESSES};
 ghost use Rattle.pg_message.specs.declared.packet.TheConstants.{MAX_STAMP};
 ghost use Rattle.pg_step.specs.declared.answer.Reply.TheVariants as replies;
 ghost use Rattle.pg_node_state.specs.Issued.{counted_at};
-ghost use Rattle.pg_node_state.specs.Ports.{counts_in, answers_in};
+ghost use Rattle.pg_node_state.specs.Ports.{port_commands, answers_in};
 
 use crate::state::orders::Order;
 use crate::state::port::{give, reserve_answer};
@@ -92,15 +92,15 @@ fn end_at<T: GroupTable + Drop>(
     pid: &Pid,
 ) -> Result<(), AllocError>
     requires place { port < length ports.old.items }
-    requires few { counts_in ports.old.items port + 1 < 2 ^ 32 }
+    requires few { port_commands ports.old.items port + 1 < 2 ^ 32 }
     ensures ended { OnOk result (ended_of ended.new ≡ upd same_pid (ended_of ended.old) pid.now true) }
     ensures dropped { OnOk result (T.contents table.new ≡ without (T.contents table.old) pid.now) }
-    ensures counts { OnOk result (counts_in ports.new.items ≡ counted_at port (counts_in ports.old.items)) }
+    ensures counts { OnOk result (port_commands ports.new.items ≡ counted_at port (port_commands ports.old.items)) }
     ensures answers { OnOk result (answers_in ports.new.items ≡ upd nat_eq (answers_in ports.old.items) port
-        (answers_in ports.old.items port ++ record { number = counts_in ports.old.items port + 1; reply = replies.Ok } ∷ [])) }
+        (answers_in ports.old.items port ++ record { number = port_commands ports.old.items port + 1; reply = replies.Ok } ∷ [])) }
     ensures err_ended { OnErr result (ended_of ended.new ≡ ended_of ended.old) }
     ensures err_table { OnErr result (T.contents table.new ≡ T.contents table.old) }
-    ensures err_counts { OnErr result (counts_in ports.new.items ≡ counts_in ports.old.items) }
+    ensures err_counts { OnErr result (port_commands ports.new.items ≡ port_commands ports.old.items) }
     ensures err_answers { OnErr result (answers_in ports.new.items ≡ answers_in ports.old.items) }
     ensures len { length ports.new.items ≡ length ports.old.items }
 {

@@ -5,7 +5,7 @@ ghost use Rattle.pg_group.specs.Ended.{ended_of};
 ghost use Rattle.pg_lock.specs.Locks.{locks_of};
 ghost use Rattle.pg_ends.specs.Processes.{made_of};
 ghost use Rattle.pg_opens.specs.Opens as opens;
-ghost use Rattle.pg_node_state.specs.Ports.{counts_in, answers_in};
+ghost use Rattle.pg_node_state.specs.Ports.{port_commands, answers_in};
 ghost use Rattle.pg_node_state.specs.Same.{AreSamePorts, AreSameNodes, AreAlike, AreSameBeside};
 
 use crate::state::{NodeState, Port};
@@ -89,7 +89,7 @@ fn same_ports(ports: &[Port], others: &[Port]) -> bool
 /// Whether as many commands came in at each of as many ports, and the same answers were given.
 fn agree_on_ports(ports: &[Port], others: &[Port]) -> bool
     requires { length ports.now ≡ length others.now }
-    ensures { IsTrue result ↔ (counts_in ports.now ≡ counts_in others.now) × (answers_in ports.now ≡ answers_in others.now) }
+    ensures { IsTrue result ↔ (port_commands ports.now ≡ port_commands others.now) × (answers_in ports.now ≡ answers_in others.now) }
 {
     for place in 0..ports.len() {
         if !same_port(&ports[place], &others[place]) {

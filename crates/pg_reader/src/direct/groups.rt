@@ -7,7 +7,7 @@ ghost use Rattle.pg_term.specs.declared.term.Term.TheVariants as terms;
 ghost use Rattle.pg_term_io.specs.Reading.{items_at, item_at, with_front};
 ghost use Rattle.pg_message.specs.Name.{is_name};
 ghost use Rattle.pg_message.specs.Reading.{is_named_once};
-ghost use Rattle.pg_reader.specs.Standing.{Stands, Counts, EndsWith, number_of};
+ghost use Rattle.pg_reader.specs.Standing.{Stands, IsListHead, EndsWith, number_of};
 ghost use Rattle.pg_message.specs.Writing.{group_term, is_sayable};
 ghost use Rattle.pg_message.specs.declared.message.Message.TheVariants as messages;
 
@@ -69,7 +69,7 @@ fn past_told<'a>(
 /// may be in these bytes.
 fn count_at(bytes: &[u8], least: usize) -> Result<(u32, &[u8]), Detour>
     requires some { 0 < least }
-    ensures { IfOk result (λ x. Counts x.0 bytes.now x.1.now) }
+    ensures { IfOk result (λ x. IsListHead x.0 bytes.now x.1.now) }
 {
     let rest = behind(bytes, &[108])?;
     let Some((digits, rest)) = rest.split_first_chunk::<4>() else {

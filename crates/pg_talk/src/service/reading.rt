@@ -60,7 +60,7 @@ impl<S: Source + Drop> Reading<S> {
     ghost use Rattle.std.specs.Io.KnownBytes.{IsAtEnd};
     ghost use Rattle.pg_frame.specs.Frames.{front_of};
     ghost use Rattle.pg_ring.specs.Slots.{SameSlotOut, given};
-    ghost use Rattle.pg_talk.specs.Readings.{asks};
+    ghost use Rattle.pg_talk.specs.Readings.{requests_in};
     ghost use Rattle.pg_talk.specs.ReadingThread.{EndsAt, GoesOn, IsWaiting, TakesFront};
 
     /// Reads the input to its end, and gives on what comes in.
@@ -170,7 +170,7 @@ impl<S: Source + Drop> Reading<S> {
 
     /// One request fewer is wanted, if the input is one.
     fn count(&mut self, input: &Input)
-        ensures { self.new ≡ record self.old { requests = self.old.requests - asks input.now } }
+        ensures { self.new ≡ record self.old { requests = self.old.requests - requests_in input.now } }
     {
         if let Input::Ask { .. } = input {
             self.requests = self.requests.saturating_sub(1);

@@ -112,8 +112,8 @@ impl Serving {
     ghost use Rattle.pg_requests.specs.declared.input.Input.TheVariants.{Ask, Lose};
     ghost use Rattle.pg_cluster.specs.Running.{clients_in};
     ghost use Rattle.pg_ring.specs.Slots.{SameSlotIn, taken};
-    ghost use Rattle.pg_talk.specs.Servings.{Advances, Comes, ServingGoes, IsOver, LosesNode, RepliesLost};
-    ghost use Rattle.pg_talk.specs.Servings.{RepliesNext, Rests, Takes, TellsBad, asked_at, desks_of};
+    ghost use Rattle.pg_talk.specs.Servings.{Advances, CameSince, ServingGoes, IsOver, LosesNode, RepliesLost};
+    ghost use Rattle.pg_talk.specs.Servings.{RepliesNext, WritesNothing, ServesOne, TellsBad, asked_at, desks_of};
     ghost use Rattle.pg_talk.specs.Servings.{is_known_lost, kept_in, lost_at, nodes_of, running_of, view_of};
 
     /// One to which nothing came. It takes no memory.
@@ -246,7 +246,7 @@ impl Serving {
         ensures view { view_of self.new ≡ view_of self.old }
         ensures kept { self.new.kept ≡ None }
         ensures same { SameSlotIn inlet.old inlet.new }
-        ensures came { Comes (taken inlet.old) (kept_in self.old.kept) (taken inlet.new) (kept_in result) }
+        ensures came { CameSince (taken inlet.old) (kept_in self.old.kept) (taken inlet.new) (kept_in result) }
     {
         match self.kept.take() {
             Some(input) => Some(input),
@@ -280,7 +280,7 @@ impl Serving {
         input: Input,
         writer: &mut W,
     ) -> Result<(), ServiceFault>
-        ensures { OnOk result (Takes input self.old self.new (W.contents writer.old) (W.contents writer.new)) }
+        ensures { OnOk result (ServesOne input self.old self.new (W.contents writer.old) (W.contents writer.new)) }
     {
         match input {
             Input::Ask { client, command } => self.take_request(client, command, writer),
@@ -304,7 +304,7 @@ impl Serving {
         command: Command,
         writer: &mut W,
     ) -> Result<(), ServiceFault>
-        ensures { OnOk result (Takes (Ask client command) self.old self.new (W.contents writer.old) (W.contents writer.new)) }
+        ensures { OnOk result (ServesOne (Ask client command) self.old self.new (W.contents writer.old) (W.contents writer.new)) }
     {
         if client >= self.desks.len() {
             drop(command);
@@ -324,7 +324,7 @@ impl Serving {
         node: usize,
         writer: &mut W,
     ) -> Result<(), ServiceFault>
-        ensures { OnOk result (Takes (Lose node) self.old self.new (W.contents writer.old) (W.contents writer.new)) }
+        ensures { OnOk result (ServesOne (Lose node) self.old self.new (W.contents writer.old) (W.contents writer.new)) }
     {
         match self.running.lose(rt, node) {
             Ok(()) => self.tell_lost(node, writer),
@@ -449,7 +449,7 @@ impl Serving {
         requires client { client < length (clients_in (running_of self.old)) }
         requires idle { asked_at client (desks_of self.old) ≡ false }
         requires there { lost_at client self.old ≡ false }
-        ensures { OnOk result (Rests self.old self.new) }
+        ensures { OnOk result (WritesNothing self.old self.new) }
     {
         let Some(command) = self.desks[client].next() else {
             return Ok(false);

@@ -4,7 +4,7 @@ ghost use Rattle.std.specs.Prelude.{◌≡◌, ◌<◌, ◌∷◌, ℕ, List, le
 ghost use Rattle.pg_term.specs.declared.term.Term.{Term};
 ghost use Rattle.pg_term_io.specs.declared.tag.TheConstants.{STRING_EXT};
 ghost use Rattle.std.specs.Int.{w16};
-ghost use Rattle.pg_term_io.specs.Lists.{list_from, Continues, IsWithin, next_from, text_next, ShowsNext};
+ghost use Rattle.pg_term_io.specs.Lists.{list_from, Continues, IsInList, next_from, text_next, ShowsNext};
 ghost use Rattle.pg_term_io.specs.Reading.{number_at, tail_at};
 
 use crate::element::NextElement;
@@ -24,7 +24,7 @@ pub fn next_element(levels: u8, count: u32, bytes: &[u8]) -> NextElement<'_>
     // Of a list, what it says of its elements.
     ensures next { (elements : List Term) (rest : List ℕ)
         → list_from levels count bytes.now ≡ Ok (elements, rest) → Continues result elements rest }
-    ensures within { IsWithin levels bytes.now result }
+    ensures within { IsInList levels bytes.now result }
 {
     if count > 0 {
         return NextElement::Item(levels, count - 1, bytes);
@@ -54,7 +54,7 @@ fn text_end(bytes: &[u8]) -> NextElement<'_>
     ensures next { (room : ℕ) (elements : List Term) (rest : List ℕ)
         → tail_at room (STRING_EXT ∷ bytes.now) ≡ Ok (elements, rest) → Continues result elements rest }
     ensures within { (room : ℕ) (around : List ℕ) → length bytes.now < length around
-        → IsWithin room around result }
+        → IsInList room around result }
 {
     match u16_at(bytes) {
         Ok((count, rest)) => {

@@ -4,7 +4,7 @@ ghost use Rattle.std.specs.Prelude.{◌≡◌, ◌<◌, ◌≤◌, ◌∷◌, []
 ghost use Rattle.std.specs.List.{prefix_len};
 ghost use Rattle.std.specs.Str.{chars};
 ghost use Rattle.pg_text.specs.Reading.{atom_at as atom_read, bare_at as bare_read, quoted_at as quoted_read, short};
-ghost use Rattle.pg_text.specs.Writing.{is_word as counts_as_word, begins_lower};
+ghost use Rattle.pg_text.specs.Writing.{is_word_byte as counts_as_word, begins_lower};
 ghost use Rattle.pg_text.specs.declared.fault.TextFault.TheVariants.{BadText, OutOfMemory};
 ghost use Rattle.pg_text.specs.declared.reading.quoted.Place.TheVariants.{Plain};
 

@@ -6,7 +6,7 @@ ghost use Rattle.std.specs.Char.{is_ascii_digit, digit_value};
 ghost use Rattle.std.specs.List.{prefix_len};
 ghost use Rattle.std.specs.Str.Parse.{AllDigits, digits_value};
 ghost use Rattle.pg_text.specs.Reading.{numeral_at as numeral_read, number_at as number_read};
-ghost use Rattle.pg_text.specs.Reading.{integer_at as integer_read, is_plain as has_no_leading_zero};
+ghost use Rattle.pg_text.specs.Reading.{integer_at as integer_read, is_plain_number as has_no_leading_zero};
 ghost use Rattle.pg_text.specs.declared.fault.TextFault.TheVariants.{BadText};
 
 use crate::fault::TextFault;

@@ -24,7 +24,7 @@ use Rattle.pg_step.specs.Step.{TimedTurn, at_clock}
 use Rattle.pg_node_state.specs.declared.state.done.Done.{Done}
 use Rattle.pg_node_state.specs.declared.state.fault.NodeFault.{NodeFault}
 use Rattle.pg_node_state.specs.declared.state.fault.NodeFault.TheVariants.{Refused}
-use Rattle.pg_node.specs.Bytes.{is_drained, is_whole}
+use Rattle.pg_node.specs.Bytes.{is_drained, has_frame}
 use Rattle.pg_node.specs.Links.{Link}
 use Rattle.pg_node.specs.Nodes.{step_lose}
 use Rattle.pg_node_state.specs.States.{Comes, Happens, step_see_loss}
@@ -54,8 +54,8 @@ use Rattle.pg_frame_world.proofs.Turning.{pair_is}
 -- ---- a loss is seen
 
 -- without bytes on the ring, and without a whole frame that came, no packet of a lost node is on the way
-none_whole : (r : Result (Option (List ℕ)) TooLong) (body : List ℕ) → r ≡ Ok (Some body) → not (is_whole r) ≡ true → ⊥
-none_whole r body is whole = let no : not (is_whole (Ok (Some body))) ≡ true = subst (λ x. not (is_whole x) ≡ true) is whole in absurd (cc)
+none_whole : (r : Result (Option (List ℕ)) TooLong) (body : List ℕ) → r ≡ Ok (Some body) → not (has_frame r) ≡ true → ⊥
+none_whole r body is whole = let no : not (has_frame (Ok (Some body))) ≡ true = subst (λ x. not (has_frame x) ≡ true) is whole in absurd (cc)
 
 no_bytes : (ring : List ℕ) → has_bytes ring ≡ false → ring ≡ []
 no_bytes [] e = refl
@@ -64,14 +64,14 @@ no_bytes (b ∷ ring) e = absurd (cc)
 abbrev ReadsWhole : Type 0
 ReadsWhole = (first : Packet) (others : List Packet) (bytes : Bytes) → AreShort written_of (first ∷ others) → AreCut written_of (first ∷ others) bytes → bytes.ring ≡ [] → front_of bytes.came ≡ Ok (Some (written_of first))
 
-none_left : ReadsWhole → (xs : List (Stamped Message)) (bytes : Bytes) → AllByRecursion CanCross (map packet_as xs) → AreCut written_of (map packet_as xs) bytes → bytes.ring ≡ [] → not (is_whole (front_of bytes.came)) ≡ true → xs ≡ []
+none_left : ReadsWhole → (xs : List (Stamped Message)) (bytes : Bytes) → AllByRecursion CanCross (map packet_as xs) → AreCut written_of (map packet_as xs) bytes → bytes.ring ≡ [] → not (has_frame (front_of bytes.came)) ≡ true → xs ≡ []
 none_left law [] bytes cross cut ring whole = refl
 none_left law (x ∷ xs) bytes cross cut ring whole =
     absurd (none_whole (front_of bytes.came) (written_of (packet_as x)) (law (packet_as x) (map packet_as xs) bytes (all_short (packet_as x ∷ map packet_as xs) cross) cut ring) whole)
 
 -- a link that is not damaged is drained where no whole frame came
-sound_drained : (link : Link) → link.damaged ≡ false → is_drained link ≡ not (is_whole (front_of link.unread))
-sound_drained link e = ap (λ b. b || not (is_whole (front_of link.unread))) e
+sound_drained : (link : Link) → link.damaged ≡ false → is_drained link ≡ not (has_frame (front_of link.unread))
+sound_drained link e = ap (λ b. b || not (has_frame (front_of link.unread))) e
 
 module _ (config : Config) (crossing crossing2 : Crossing) (account account2 : Account) (u : LosingFrameWorld) (i p : ℕ) (lost lost2 : List ℕ) (shows : ShowsLosingBytes config crossing account lost u)
     (pair : is_pair (length crossing.nodes) i p ≡ true) (lives : is_cut_off crossing.nodes lost i p ≡ false) where

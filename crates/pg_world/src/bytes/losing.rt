@@ -19,7 +19,7 @@ impl<T: GroupTable + Drop> ByteNodes<T> {
     ghost use Rattle.pg_step.specs.Config.{Config};
     ghost use Rattle.pg_step.specs.LossLaws.{LosingFrameWorld};
     ghost use Rattle.pg_world.specs.BytesLosing.{ShowsLosingBytes, SightComesTo, LossComesTo};
-    ghost use Rattle.pg_world.specs.Bars.{IsFaultOf, IsHeld, TellsUndrained, has_bytes, sight_bar, loss_bar};
+    ghost use Rattle.pg_world.specs.Bars.{IsFaultOf, RefusesBarred, TellsUndrained, has_bytes, sight_bar, loss_bar};
     ghost use Rattle.pg_step.specs.declared.refusal.Refusal.TheVariants.{NotLost};
     ghost use Rattle.pg_node_state.specs.declared.state.fault.NodeFault.TheVariants.{Refused};
     ghost use Rattle.pg_world.specs.Changes.{SightChanges};
@@ -98,7 +98,7 @@ impl<T: GroupTable + Drop> ByteNodes<T> {
         ensures changes { SightChanges (crossing_of self.old) (crossing_of self.new) node result }
         ensures account { account_of self.new.histories ≡ account_of self.old.histories }
         ensures none { is_lost (lost_in self.old.losses) peer ≡ false → result ≡ Err (Refused NotLost) }
-        ensures barred { IsHeld (sight_bar (crossing_of self.old) (lost_in self.old.losses) node peer) result }
+        ensures barred { RefusesBarred (sight_bar (crossing_of self.old) (lost_in self.old.losses) node peer) result }
         ensures undrained { TellsUndrained (crossing_of self.old) (SeeLoss node peer) result }
         ensures lost { lost_in self.new.losses ≡ lost_in self.old.losses }
         ensures losing { (config : Config) (u : LosingFrameWorld) → ShowsLosingBytes config (crossing_of self.old) (account_of self.old.histories) (lost_in self.old.losses) u
@@ -160,7 +160,7 @@ impl<T: GroupTable + Drop> ByteNodes<T> {
     pub(crate) fn lose(&mut self, node: usize) -> Result<Stepped, NodeFault>
         ensures same { crossing_of self.new ≡ crossing_of self.old }
         ensures account { account_of self.new.histories ≡ account_with result (crossing_of self.old).nodes (lost_in self.old.losses) (account_of self.old.histories) }
-        ensures barred { IsHeld (loss_bar (crossing_of self.old) (lost_in self.old.losses) node) result }
+        ensures barred { RefusesBarred (loss_bar (crossing_of self.old) (lost_in self.old.losses) node) result }
         ensures fault { IfErr result (IsFaultOf (loss_bar (crossing_of self.old) (lost_in self.old.losses) node)) }
         ensures lost { lost_in self.new.losses ≡ lost_with node result (lost_in self.old.losses) }
         ensures losing { (config : Config) (u : LosingFrameWorld) → ShowsLosingBytes config (crossing_of self.old) (account_of self.old.histories) (lost_in self.old.losses) u

@@ -2,7 +2,7 @@ use Rattle.std.proofs.Common.{Some, ◌+◌, ◌++◌, ◌∷◌, ◌&&◌, cond
 use Rattle.pg_term.specs.declared.term.Term.{Term}
 use Rattle.pg_term.specs.Same.{same_term}
 use Rattle.pg_account.specs.declared.row.Row.{Row}
-use Rattle.pg_account.specs.Histories.{as_entry, as_marked, entries_in, entries_of, counts_in, marks_in, marks_of}
+use Rattle.pg_account.specs.Histories.{as_entry, as_marked, entries_in, entries_of, counts_in, marked_entries_in, marked_entries_of}
 use Rattle.pg_account.proofs.Rowed.{more_listed, more_counts}
 use Rattle.pg_account.proofs.rows.begin.Goals as goal
 
@@ -21,5 +21,5 @@ returns-in-Some-clause-counts c = λ i name.
 pub returns-in-Some-clause-marks : goal.returns-in-Some-clause-marks
 returns-in-Some-clause-marks c = λ i name.
     more_listed c.args.rows.now (c.get_mut.follows.lender c.begin.new.self) c.name.result.now (Some c.in-Some.row.now) c.begin.new.self (sym c.in-Some.ensures.value)
-    ((c.get_mut.follows.holds c.begin.new.self).3 (search rules)) (λ (row : Row). marks_of row i) (as_marked i c.args.entry ∷ []) (c.begin.ensures.marks i) name
-    ∙ ap (λ (group : Term). marks_in c.args.rows.now i name ++ cond (same_term name group) (as_marked i c.args.entry ∷ []) []) c.name.ensures
+    ((c.get_mut.follows.holds c.begin.new.self).3 (search rules)) (λ (row : Row). marked_entries_of row i) (as_marked i c.args.entry ∷ []) (c.begin.ensures.marks i) name
+    ∙ ap (λ (group : Term). marked_entries_in c.args.rows.now i name ++ cond (same_term name group) (as_marked i c.args.entry ∷ []) []) c.name.ensures

@@ -1,7 +1,7 @@
 use Rattle.std.proofs.Common.{Some, [], sym, ◌∙◌, rules}
 use Rattle.std.proofs.Math.Path.{fun_ext}
 use Rattle.pg_account.specs.declared.row.Row.{Row}
-use Rattle.pg_account.specs.Histories.{entries_of, count_at, marks_of}
+use Rattle.pg_account.specs.Histories.{entries_of, count_at, marked_entries_of}
 use Rattle.pg_account.proofs.Rowed.{kept, found_here, if_ok}
 use Rattle.pg_account.proofs.rows.make_room.Goals as goal
 
@@ -18,7 +18,7 @@ returns-in-Some-clause-counts c =
 pub returns-in-Some-clause-marks : goal.returns-in-Some-clause-marks
 returns-in-Some-clause-marks c =
     fun_ext (λ i. fun_ext (kept c.open_row.new.rows (c.get_mut.follows.lender c.make_room.new.self) c.args.name.now (Some c.in-Some.row.now) c.make_room.new.self (sym c.in-Some.ensures.value)
-    ((c.get_mut.follows.holds c.make_room.new.self).3 (search rules)) (λ (row : Row). marks_of row i) [] (λ j. c.make_room.ensures.marks j i))) ∙ c.open_row.ensures.marks
+    ((c.get_mut.follows.holds c.make_room.new.self).3 (search rules)) (λ (row : Row). marked_entries_of row i) [] (λ j. c.make_room.ensures.marks j i))) ∙ c.open_row.ensures.marks
 
 pub returns-in-Some-clause-room : goal.returns-in-Some-clause-room
 returns-in-Some-clause-room c = if_ok c.make_room.result (λ room. (

@@ -3,7 +3,7 @@ use Rattle.std.proofs.Math.Path.{fun_ext}
 use Rattle.pg_term.specs.declared.term.Term.{Term}
 use Rattle.pg_term.specs.Same.{same_term}
 use Rattle.pg_left.specs.Missed.{marked_after}
-use Rattle.pg_account.specs.Histories.{entries_of, counts_in, marks_in}
+use Rattle.pg_account.specs.Histories.{entries_of, counts_in, marked_entries_in}
 use Rattle.pg_account.proofs.Rowed.{kept, marks_taken, more_counts}
 use Rattle.pg_account.proofs.rows.serve.Goals as goal
 
@@ -22,4 +22,4 @@ pub returns-in-Some-clause-marks : goal.returns-in-Some-clause-marks
 returns-in-Some-clause-marks c = λ i name few.
     marks_taken c.args.rows.now (c.get_mut.follows.lender c.serve.new.self) c.name.result.now (Some c.in-Some.row.now) c.serve.new.self (sym c.in-Some.ensures.value)
     ((c.get_mut.follows.holds c.serve.new.self).3 (search rules)) c.in-Some.row.now c.args.node i refl (c.serve.ensures.marks i few) name
-    ∙ ap (λ (group : Term). marked_after [] (nat_eq c.args.node i && same_term name group) (marks_in c.args.rows.now i name)) c.name.ensures
+    ∙ ap (λ (group : Term). marked_after [] (nat_eq c.args.node i && same_term name group) (marked_entries_in c.args.rows.now i name)) c.name.ensures

@@ -1,7 +1,7 @@
 use Rattle.std.proofs.Common.{◌≡◌, ◌+◌, cond, false, take, ap, sym, ◌∙◌, arith, refl, get_or}
 use Rattle.std.proofs.lemmas.Bool.{eq-eqb, ne_eqb}
 use Rattle.pg_diagram.specs.declared.graph.Spot.{Spot}
-use Rattle.pg_diagram.specs.Graphs.{count_in}
+use Rattle.pg_diagram.specs.Graphs.{worlds_in_row}
 use Rattle.pg_diagram.proofs.Worlds.{count_taken}
 use Rattle.pg_diagram.proofs.graph.count_in.Goals.{then-spots-place, else-spots-place}
 use Rattle.pg_diagram.proofs.graph.count_in.Goals as goal
@@ -21,11 +21,11 @@ loop-place-preserved c =
     let few = c.loop-place.invariant.1 in
     elim c.if-spots-place.branch [
       | then-spots-place w ↦ (
-        w.found-is ∙ ap (λ n. n + 1) same ∙ sym (more ∙ ap (λ b. count_in c.args.row (take c.loop-place.place c.args.spots.now) + cond b 1 0) (eq-eqb row c.args.row w.if-spots-place.true)),
+        w.found-is ∙ ap (λ n. n + 1) same ∙ sym (more ∙ ap (λ b. worlds_in_row c.args.row (take c.loop-place.place c.args.spots.now) + cond b 1 0) (eq-eqb row c.args.row w.if-spots-place.true)),
         omega (arith, few, w.found-is),
       )
       | else-spots-place w ↦ (
-        w.found-is ∙ same ∙ sym (more ∙ ap (λ b. count_in c.args.row (take c.loop-place.place c.args.spots.now) + cond b 1 0) (ne_eqb row c.args.row w.if-spots-place.false) ∙ omega arith),
+        w.found-is ∙ same ∙ sym (more ∙ ap (λ b. worlds_in_row c.args.row (take c.loop-place.place c.args.spots.now) + cond b 1 0) (ne_eqb row c.args.row w.if-spots-place.false) ∙ omega arith),
         omega (arith, few, w.found-is),
       )
     ]
@@ -33,4 +33,4 @@ loop-place-preserved c =
 pub returns : goal.returns
 returns c =
     let done : c.loop-place.place ≡ c.args.count = omega (arith, c.loop-place-test.false, c.loop-place.auto.place-end) in
-    c.loop-place.invariant.0 ∙ ap (λ n. count_in c.args.row (take n c.args.spots.now)) done
+    c.loop-place.invariant.0 ∙ ap (λ n. worlds_in_row c.args.row (take n c.args.spots.now)) done

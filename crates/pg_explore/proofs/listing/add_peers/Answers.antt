@@ -2,7 +2,7 @@ use Rattle.std.proofs.Common.{◌≡◌, ◌≢◌, ◌<◌, ◌≤◌, ℕ, ◌
 use Rattle.std.proofs.Common.{length, map, take, get_or, refl, sym, ap, ap₂, ◌∙◌, inl, inr, subst, arith}
 use Rattle.std.proofs.lemmas.List.{length-map}
 use Rattle.pg_explore.specs.declared.moves.Move.{Move}
-use Rattle.pg_explore.specs.Listings.{Adds, AddsOpen, IsMoveOfPeer}
+use Rattle.pg_explore.specs.Listings.{ListsWanted, AddsOpen, IsMoveOfPeer}
 use Rattle.pg_explore.specs.Moments.{progress_of, sight_of}
 use Rattle.pg_explore.proofs.Listed.{IsOfBelow, one_peer}
 use Rattle.pg_explore.proofs.Opening.{all_peers, no_peer_itself}
@@ -18,7 +18,7 @@ loop-peer-preserved c =
     let peer = c.loop-peer.peer in
     let old = c.args.moves.now.items in
     let mid = c.loop-peer.moves.items in
-    elim c.if-peer-node.branch as (λ _. Adds (IsOfBelow plans most sight node (peer + 1)) old c.if-peer-node.moves.items) [
+    elim c.if-peer-node.branch as (λ _. ListsWanted (IsOfBelow plans most sight node (peer + 1)) old c.if-peer-node.moves.items) [
       | then-peer-node+in_ok-add_peer w ↦ rw w.moves-is (one_peer plans most sight node peer old mid _ c.loop-peer.invariant w.in_ok-add_peer.ensures)
       | else-peer-node w ↦ rw w.moves-is (one_peer plans most sight node peer old mid mid c.loop-peer.invariant
           (subst (λ p. AddsOpen plans most sight (IsMoveOfPeer node p) mid mid) (sym w.if-peer-node.false) (no_peer_itself plans most sight node mid)))

@@ -1,7 +1,7 @@
 use Rattle.std.proofs.Common.{◌≡◌, ◌≢◌, ◌<◌, ◌≤◌, ℕ, ◌+◌, ◌-◌, Bool, true, false, List, [], ◌∷◌, ◌++◌, length}
 use Rattle.std.proofs.Common.{map, take, get_or, max, refl, sym, ap, ap₂, ◌∙◌, inl, inr, subst, arith}
 use Rattle.std.proofs.lemmas.List.{length-map}
-use Rattle.pg_explore.specs.Listings.{Adds, IsThere}
+use Rattle.pg_explore.specs.Listings.{ListsWanted, IsThere}
 use Rattle.pg_explore.specs.Moments.{progress_of, sight_of}
 use Rattle.pg_explore.proofs.Listed.{IsBelow, all_listed, lost_more, one_more}
 use Rattle.pg_explore.proofs.listing.moves_of.Goals as goal
@@ -16,7 +16,7 @@ loop-node-preserved c =
     let most = c.args.limits.retries in
     let sight = sight_of c.args.moment.now in
     let node = c.loop-node.node in
-    elim c.if-not-is_lost.branch as (λ _. Adds (IsBelow plans most sight (node + 1)) [] c.if-not-is_lost.moves.items) [
+    elim c.if-not-is_lost.branch as (λ _. ListsWanted (IsBelow plans most sight (node + 1)) [] c.if-not-is_lost.moves.items) [
       | then-not-is_lost+in_ok-add_moves w ↦ rw w.moves-is (one_more plans most sight node c.loop-node.moves.items _ c.loop-node.invariant w.in_ok-add_moves.ensures)
       | else-not-is_lost w ↦ rw w.moves-is (lost_more plans most sight node c.loop-node.moves.items (λ there. clash (sym there.alive ∙ sym c.is_lost.ensures ∙ w.if-not-is_lost.false)) c.loop-node.invariant)
     ]

@@ -5,7 +5,7 @@ use Rattle.pg_frame_world.specs.FrameWorlds.{traffic_of}
 use Rattle.pg_explore.specs.declared.moves.Move.{Move}
 use Rattle.pg_explore.specs.declared.moves.Move.TheVariants.{Loss}
 use Rattle.pg_explore.specs.Keeping.{AreUpTo}
-use Rattle.pg_explore.specs.Listings.{Adds}
+use Rattle.pg_explore.specs.Listings.{ListsWanted}
 use Rattle.pg_explore.proofs.Opening.{IsLossIn, all_losses, loss_more, no_loss}
 use Rattle.pg_explore.proofs.losses.add_losses.Goals as goal
 
@@ -22,8 +22,8 @@ loop-keep-preserved c =
     let is : keep ≡ get_or keeps i [] =
     c.from_vec.ensures ∙ (c.in_ok-keep.ensures.items ∙ (c.as_slice-in-loop-keep.ensures ∙ get_or_read keeps i c.keep-item.result c.loop-keep-test.true c.keep-item.is [])) in
     let more = ap (λ (k : List ℕ). take i keeps ++ k ∷ []) is ∙ sym (take_more keeps i [] c.loop-keep-test.true) in
-    subst (λ (ks : List (List ℕ)). Adds (IsLossIn node ks) old c.push.new.self.items) more
-    (subst (λ (ms : List Move). Adds (IsLossIn node (take i keeps ++ keep ∷ [])) old ms) (sym c.in_ok-push.ensures.items)
+    subst (λ (ks : List (List ℕ)). ListsWanted (IsLossIn node ks) old c.push.new.self.items) more
+    (subst (λ (ms : List Move). ListsWanted (IsLossIn node (take i keeps ++ keep ∷ [])) old ms) (sym c.in_ok-push.ensures.items)
     (loss_more node (take i keeps) keep old c.loop-keep.moves.items c.loop-keep.invariant))
 
 pub returns : goal.returns
@@ -35,4 +35,4 @@ returns c =
     let lens = c.as_slice.ensures.value ∙ c.in_ok-lens.ensures in
     let up_to = subst (λ (ks : List (List ℕ)). AreUpTo (map length row) ks) (sym c.as_slice-keep-items.ensures.value) (subst (λ (ls : List ℕ). AreUpTo ls c.in_ok-keeps.keeps.items) lens c.in_ok-keeps.ensures) in
     all_losses node row keeps old c.loop-keep.moves.items up_to
-    (subst (λ (ks : List (List ℕ)). Adds (IsLossIn node ks) old c.loop-keep.moves.items) (take_all c.loop-keep.keep-index keeps c.loop-keep-test.false) c.loop-keep.invariant)
+    (subst (λ (ks : List (List ℕ)). ListsWanted (IsLossIn node ks) old c.loop-keep.moves.items) (take_all c.loop-keep.keep-index keeps c.loop-keep-test.false) c.loop-keep.invariant)

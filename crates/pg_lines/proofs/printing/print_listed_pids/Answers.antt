@@ -1,6 +1,6 @@
 use Rattle.std.proofs.Common.{◌≡◌, ℕ, List, [], ◌∷◌, ◌++◌, ◌-◌, take, drop, length}
 use Rattle.std.proofs.lemmas.Result.{on_ok_weaker}
-use Rattle.pg_text.specs.Writing.{Adds, pid_text, term_text}
+use Rattle.pg_text.specs.Writing.{GrowsBy, pid_text, term_text}
 use Rattle.pg_lines.specs.Printing.{more_pids, more_names, listed_pids, listed_names}
 use Rattle.pg_lines.proofs.Adds.{adds_both, adds_as}
 use Rattle.pg_lines.proofs.Lists.{listed_pids_are}

@@ -1,5 +1,5 @@
 use Rattle.std.proofs.Common.{◌≡◌, ℕ, List, [], ◌∷◌, ◌++◌, take, add-one, sym}
-use Rattle.pg_text.specs.Writing.{Adds, pid_text, term_text}
+use Rattle.pg_text.specs.Writing.{GrowsBy, pid_text, term_text}
 use Rattle.pg_lines.specs.Printing.{more_pids, more_names}
 use Rattle.pg_lines.proofs.Adds.{adds_both, adds_as, more_at}
 use Rattle.pg_lines.proofs.printing.print_more_names.Goals as goal

@@ -1,7 +1,7 @@
 use Rattle.std.proofs.Common.{◌≡◌, ℕ, List, [], ◌∷◌, ◌++◌, append_assoc, refl}
 use Rattle.std.specs.Prelude.{codes, decimal}
 use Rattle.std.specs.Str.{chars}
-use Rattle.pg_text.specs.Writing.{Adds, atom_text, pid_text, term_text}
+use Rattle.pg_text.specs.Writing.{GrowsBy, atom_text, pid_text, term_text}
 use Rattle.pg_lines.specs.Printing.{reply_text, refused_text, state_text}
 use Rattle.pg_lines.specs.Printing.{listed_pids, listed_names, more_pids, more_names}
 use Rattle.pg_lines.proofs.Adds.{adds_both, adds_same, adds_as}

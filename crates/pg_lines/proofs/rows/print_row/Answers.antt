@@ -1,14 +1,14 @@
 use Rattle.std.proofs.Common.{◌≡◌, ℕ, List, [], ◌∷◌, ◌++◌, subst}
 use Rattle.std.specs.Prelude.{codes, string_bytes}
 use Rattle.std.specs.Str.{chars}
-use Rattle.pg_text.specs.Writing.{Adds}
+use Rattle.pg_text.specs.Writing.{GrowsBy}
 use Rattle.pg_lines.specs.Rows.{left_cell, right_cell}
 use Rattle.pg_lines.proofs.Adds.{adds_both}
 use Rattle.pg_lines.proofs.rows.print_row.Goals as goal
 
 -- a cell of the same text
-cell : (f : List ℕ → List ℕ) (x y : List ℕ) {a b : List ℕ} → x ≡ y → Adds (f (chars x)) a b → Adds (f (chars y)) a b
-cell f x y {a} {b} e h = subst (λ t. Adds (f (chars t)) a b) e h
+cell : (f : List ℕ → List ℕ) (x y : List ℕ) {a b : List ℕ} → x ≡ y → GrowsBy (f (chars x)) a b → GrowsBy (f (chars y)) a b
+cell f x y {a} {b} e h = subst (λ t. GrowsBy (f (chars t)) a b) e h
 
 pub returns : goal.returns
 unfolding chars

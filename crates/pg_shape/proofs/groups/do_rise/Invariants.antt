@@ -3,14 +3,14 @@ use Rattle.pg_term.specs.declared.term.Term.{Term}
 use Rattle.pg_term.specs.Order.{kind_of}
 use Rattle.pg_term_io.specs.Reading.{item_at}
 use Rattle.pg_message.specs.Reading.{group_of}
-use Rattle.pg_shape.specs.Lists.{Leaves}
+use Rattle.pg_shape.specs.Lists.{EndsAlike}
 use Rattle.pg_shape.specs.Shape.{listed_of}
 use Rattle.pg_shape.proofs.groups.do_rise.Given as goal
 
 abbrev pub invariant-elements : goal.invariant-elements
 invariant-elements l = record {
   shallow : l.room ≤ 64;
-  left : (t : Term) (rest : List ℕ) → item_at l.levels l.bytes ≡ Ok (t, rest) → kind_of t ≡ 5 → Leaves group_of l.room l.count l.left (listed_of t) rest;
+  left : (t : Term) (rest : List ℕ) → item_at l.levels l.bytes ≡ Ok (t, rest) → kind_of t ≡ 5 → EndsAlike group_of l.room l.count l.left (listed_of t) rest;
 }
 
 abbrev pub decreases-elements : goal.decreases-elements

@@ -2,7 +2,7 @@ use Rattle.std.proofs.Common.{◌≡◌, ℕ, suc, ◌-◌, List, ◌++◌, leng
 use Rattle.std.proofs.Common.{length-drop, sym, ap, subst, ◌∙◌, arith}
 use Rattle.pg_term_io.specs.Reading.{item_at}
 use Rattle.pg_message.specs.Parts.{pid_of}
-use Rattle.pg_shape.specs.Lists.{Leaves}
+use Rattle.pg_shape.specs.Lists.{EndsAlike}
 use Rattle.pg_shape.proofs.Alike.{named, one_alike}
 use Rattle.pg_shape.proofs.pids.past_alike.Goals as goal
 
@@ -15,8 +15,8 @@ loop-others-preserved c =
       pids = λ room t end e levels whole rest before.
           let first = named head.text t end room head.numbers (sym (ap (item_at room) head.first) ∙ e) in
           let count : c.loop-others.others ≡ suc (c.loop-others.others - 1) = omega (arith, c.loop-others-test.true) in
-          let now = subst (λ (n : ℕ). Leaves pid_of levels n c.loop-others.left.now whole rest) count (c.loop-others.invariant.pids room t end e levels whole rest before) in
-          subst (λ (x : List ℕ). Leaves pid_of levels (c.loop-others.others - 1) x whole rest) (sym left.3)
+          let now = subst (λ (n : ℕ). EndsAlike pid_of levels n c.loop-others.left.now whole rest) count (c.loop-others.invariant.pids room t end e levels whole rest before) in
+          subst (λ (x : List ℕ). EndsAlike pid_of levels (c.loop-others.others - 1) x whole rest) (sym left.3)
           (one_alike head.text first.pid.node first.node left.0 left.2 levels (c.loop-others.others - 1) c.loop-others.left.now whole rest begins now);
       shorter = omega (arith, c.loop-others.invariant.shorter, ap length left.1, length-append c.in-Some.head.now left.0, ap length left.3, length-drop 12 left.0);
     }

@@ -3,12 +3,12 @@ use Rattle.pg_term.specs.declared.pid.Pid.{Pid}
 use Rattle.pg_term.specs.declared.term.Term.{Term}
 use Rattle.pg_term_io.specs.Reading.{item_at}
 use Rattle.pg_message.specs.Parts.{pid_of}
-use Rattle.pg_shape.specs.Lists.{Leaves}
+use Rattle.pg_shape.specs.Lists.{EndsAlike}
 use Rattle.pg_shape.proofs.pids.past_alike.Given as goal
 
 abbrev pub invariant-loop-others : goal.invariant-loop-others
 invariant-loop-others l = record {
-  pids : (room : ℕ) (t : Term) (end : List ℕ) → item_at room l.first ≡ Ok (t, end) → (levels : ℕ) (whole : Option (List Pid)) (rest : List ℕ) → Leaves pid_of levels l.count l.bytes whole rest → Leaves pid_of levels l.others l.left whole rest;
+  pids : (room : ℕ) (t : Term) (end : List ℕ) → item_at room l.first ≡ Ok (t, end) → (levels : ℕ) (whole : Option (List Pid)) (rest : List ℕ) → EndsAlike pid_of levels l.count l.bytes whole rest → EndsAlike pid_of levels l.others l.left whole rest;
   shorter : length l.left ≤ length l.bytes;
 }
 

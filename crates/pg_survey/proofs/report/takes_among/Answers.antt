@@ -1,7 +1,7 @@
 use Rattle.std.proofs.Common.{◌≡◌, List, ℕ, ◌∷◌, [], ◌++◌, None, Option, get_or, take, sym, subst}
 use Rattle.std.proofs.lemmas.List.{take_all, take_more}
 use Rattle.pg_tally.specs.declared.takes.Takes.{Takes}
-use Rattle.pg_survey.specs.Findings.{AreAmong, joined}
+use Rattle.pg_survey.specs.Findings.{AreAmong, joined_takes}
 use Rattle.pg_survey.proofs.Joining.{join_step}
 use Rattle.pg_survey.proofs.report.takes_among.Goals as goal
 

@@ -1,7 +1,7 @@
 use Rattle.std.proofs.Common.{◌<◌, length, ◌∙◌, arith}
 use Rattle.pg_cluster.specs.ClientsLaws.{all_same_on}
 use Rattle.pg_cluster.specs.Running.{clients_in}
-use Rattle.pg_talk.specs.Asking.{Keeps, is_first}
+use Rattle.pg_talk.specs.Asking.{HasRest, is_first}
 use Rattle.pg_talk.proofs.Asked.{keep_after}
 use Rattle.pg_talk.proofs.conversation.speak_all.Goals as goal
 

@@ -2,7 +2,7 @@ use Rattle.std.proofs.Common.{◌≡◌, ◌<◌, ◌+◌, ◌++◌, ◌∷◌, 
 use Rattle.std.proofs.Common.{get_or, sym, ap, subst, ◌∙◌, arith, length-append}
 use Rattle.pg_run.specs.Ports.{IsSilent}
 use Rattle.pg_run.specs.declared.port.Client.{Client}
-use Rattle.pg_talk.specs.Asking.{Keeps, is_first}
+use Rattle.pg_talk.specs.Asking.{HasRest, is_first}
 use Rattle.pg_talk.specs.declared.speaker.Speaker.{Speaker}
 use Rattle.pg_talk.proofs.Asked.{begin_push}
 use Rattle.pg_talk.proofs.conversation.speakers.Goals as goal
@@ -14,8 +14,8 @@ loop-place-preserved c =
     let was = c.loop-place.invariant in
     let rounds = c.args.rounds in (
       ap length c.in_ok-push.ensures.items ∙ length-append speakers (next ∷ []) ∙ ap (λ n. n + 1) was.0,
-      subst (λ (xs : List Speaker). (i : ℕ) (s : Speaker) (client : Client) → i < length xs → IsSilent client → Keeps (is_first i) rounds (get_or xs i s) client) (sym c.in_ok-push.ensures.items)
-          (begin_push rounds speakers next was.1 (λ client silent. subst (λ k. Keeps (is_first k) rounds next client) (sym was.0) (c.speaker_at.ensures client silent))),
+      subst (λ (xs : List Speaker). (i : ℕ) (s : Speaker) (client : Client) → i < length xs → IsSilent client → HasRest (is_first i) rounds (get_or xs i s) client) (sym c.in_ok-push.ensures.items)
+          (begin_push rounds speakers next was.1 (λ client silent. subst (λ k. HasRest (is_first k) rounds next client) (sym was.0) (c.speaker_at.ensures client silent))),
     )
 
 pub returns : goal.returns

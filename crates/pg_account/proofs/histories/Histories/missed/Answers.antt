@@ -5,7 +5,7 @@ use Rattle.std.specs.Option.{option_copied, option_to_list}
 use Rattle.pg_left.specs.Missed.{missed_of}
 use Rattle.pg_history.specs.WithLosses.{Marked}
 use Rattle.pg_account.specs.declared.entry.Entry.{Entry}
-use Rattle.pg_account.specs.Histories.{as_entry, as_marked, is_among, last_marks, marks_in}
+use Rattle.pg_account.specs.Histories.{as_entry, as_marked, is_among, last_marks, marked_entries_in}
 use Rattle.pg_account.proofs.Accounts.{missed_both}
 use Rattle.pg_account.proofs.histories.Histories.missed.Goals.{in-Some+in_ok-add_missed, in_default}
 use Rattle.pg_account.proofs.histories.Histories.missed.Goals as goal
@@ -14,7 +14,7 @@ pub returns : goal.returns
 returns c =
     let seen = is_among c.args.seen.now in
     let node = c.args.node in
-    let rows = marks_in c.args.self.now.rows node c.args.name.now in
+    let rows = marked_entries_in c.args.self.now.rows node c.args.name.now in
     let last = last_marks c.args.self.now.last node c.args.name.now in
     let first : map as_entry c.add_each_missed.new.missed.items ≡ missed_of seen rows =
     c.in_ok-add_each_missed.ensures ∙ (ap (λ (xs : List Entry). map as_entry xs ++ missed_of seen (map (as_marked node) c.entries.result.now)) c.new-missed.ensures.items

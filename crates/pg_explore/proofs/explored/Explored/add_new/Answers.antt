@@ -2,7 +2,7 @@ use Rattle.std.proofs.Common.{◌≡◌, ◌≢◌, ◌<◌, ◌≤◌, ℕ, ◌
 use Rattle.std.proofs.Common.{length, map, take, get_or, refl, sym, ap, ap₂, ◌∙◌, inl, inr, subst, arith}
 use Rattle.std.specs.Prelude.{Some}
 use Rattle.pg_explore.specs.declared.explored.Met.{Met}
-use Rattle.pg_explore.specs.Explorations.{AreKept, Grows, IsAlikeAt, IsReached, IsSound, met_of}
+use Rattle.pg_explore.specs.Explorations.{AreBinned, MeetsMore, IsAlikeAt, IsLedTo, IsSound, met_of}
 use Rattle.pg_explore.specs.Moments.{sight_of}
 use Rattle.pg_explore.proofs.Alike.{alike_self}
 use Rattle.pg_explore.proofs.Getting.{get_last}
@@ -18,16 +18,16 @@ returns-in-Ok-add-clause-holds c =
     let met : Met = record { moment = c.args.moment; before = Some (record { place = c.args.place; step = c.in-Ok.step }) } in
     let bins = c.add.new.self.bins in
     let is = c.in-Ok-add.ensures.ok in
-    let kept = subst (λ mets. AreKept bins mets) is (c.add.ensures.kept c.requires.holds.kept) in
+    let kept = subst (λ mets. AreBinned bins mets) is (c.add.ensures.kept c.requires.holds.kept) in
     let step_is = c.in-Ok.ensures in
-    let reached = subst (λ s. IsReached config plans most (met_of old) (length (met_of old)) (sight_of c.args.moment) (Some (record { place = c.args.place; step = s }))) (sym step_is)
+    let reached = subst (λ s. IsLedTo config plans most (met_of old) (length (met_of old)) (sight_of c.args.moment) (Some (record { place = c.args.place; step = s }))) (sym step_is)
     (reached_by config plans most (met_of old) c.args.place c.args.step.now (sight_of c.args.moment) c.requires.place c.requires.can c.requires.leads) in
     subst (λ mets. IsSound config plans most bins mets) (sym is) (sound_push config plans most old.bins bins (met_of old) met c.requires.holds c.requires.of reached c.requires.new kept)
 
 pub returns-in-Ok-add-clause-grows : goal.returns-in-Ok-add-clause-grows
 returns-in-Ok-add-clause-grows c =
     let met : Met = record { moment = c.args.moment; before = Some (record { place = c.args.place; step = c.in-Ok.step }) } in
-    subst (λ mets. Grows (met_of c.args.self.now) mets) (sym c.in-Ok-add.ensures.ok) (grows_push (met_of c.args.self.now) met)
+    subst (λ mets. MeetsMore (met_of c.args.self.now) mets) (sym c.in-Ok-add.ensures.ok) (grows_push (met_of c.args.self.now) met)
 
 pub returns-in-Ok-add-clause-arrived : goal.returns-in-Ok-add-clause-arrived
 returns-in-Ok-add-clause-arrived c =

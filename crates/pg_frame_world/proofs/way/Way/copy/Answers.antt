@@ -1,11 +1,11 @@
 use Rattle.std.proofs.Common.{◌∙◌, List, map, ap, subst, sym}
 use Rattle.pg_message.specs.declared.packet.Packet.{Packet}
 use Rattle.pg_node_state.specs.States.{stamped_of}
-use Rattle.pg_frame_world.specs.Short.{AreShort}
+use Rattle.pg_frame_world.specs.Short.{HaveShortGroups}
 use Rattle.pg_frame_world.proofs.way.Way.copy.Goals as goal
 
 pub invariant_of-result : goal.invariant_of-result
-invariant_of-result c = record { short = subst AreShort (sym (c.from_vec.ensures.items ∙ c.in_ok-packets.ensures)) c.args.self.now.short }
+invariant_of-result c = record { short = subst HaveShortGroups (sym (c.from_vec.ensures.items ∙ c.in_ok-packets.ensures)) c.args.self.now.short }
 
 pub returns : goal.returns
 returns c = ap (λ (packets : List Packet). map stamped_of packets) (c.from_vec.ensures.items ∙ c.in_ok-packets.ensures)

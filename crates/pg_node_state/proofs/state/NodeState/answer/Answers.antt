@@ -1,6 +1,6 @@
 use Rattle.std.proofs.Common.{◌∙◌, ℕ, ap, arith}
 use Rattle.pg_node_state.specs.Issued.{counted_at}
-use Rattle.pg_node_state.specs.Ports.{counts_in, answers_in}
+use Rattle.pg_node_state.specs.Ports.{port_commands, answers_in}
 use Rattle.pg_node_state.specs.States.{names_of, kept_by, sends_in}
 use Rattle.pg_node_state.proofs.Answered.{counts_within, given_later, given_still, counts_still, answered_on}
 use Rattle.pg_node_state.proofs.state.NodeState.answer.Goals as goal
@@ -50,7 +50,7 @@ returns-in-Ok-clause-happens g c response fits =
       answers = (
         c.args.reply,
         fits,
-        answered_on (answers_in old.ports.items) (answers_in c.reserve_answer.new.ports.items) (answers_in c.give.new.ports.items) c.args.port (counts_in old.ports.items) (counts_in c.reserve_answer.new.ports.items) c.args.reply
+        answered_on (answers_in old.ports.items) (answers_in c.reserve_answer.new.ports.items) (answers_in c.give.new.ports.items) c.args.port (port_commands old.ports.items) (port_commands c.reserve_answer.new.ports.items) c.args.reply
             c.reserve_answer.ensures.answers c.reserve_answer.ensures.counts c.give.ensures.answers,
       );
     }

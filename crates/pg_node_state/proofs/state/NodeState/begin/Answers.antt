@@ -7,7 +7,7 @@ use Rattle.pg_ends.specs.Processes.{node_of}
 use Rattle.pg_opens.specs.Opens.{Shows, names_of as opens_names}
 use Rattle.pg_opens.specs.Readings.{update_of}
 use Rattle.pg_step.specs.State.{State}
-use Rattle.pg_node_state.specs.Ports.{merged_in, counts_in}
+use Rattle.pg_node_state.specs.Ports.{merged_in, port_commands}
 use Rattle.pg_node_state.specs.States.{live_of, kept_by}
 use Rattle.pg_node_state.proofs.Kept.{shows, assembled}
 use Rattle.pg_node_state.proofs.Steady.{peers_stay, own_stays, merged_stay, lost_stay, made_stay, given_stay}
@@ -105,4 +105,4 @@ returns-in-Ok-clause-happens g c = λ update first st is.
 pub begun-requires-clause-named : goal.begun-requires-clause-named
 begun-requires-clause-named g c =
     let old = c.args.self.now in
-    gathered_named (length old.ports.items) (counts_in old.ports.items) c.args.number old.given
+    gathered_named (length old.ports.items) (port_commands old.ports.items) c.args.number old.given

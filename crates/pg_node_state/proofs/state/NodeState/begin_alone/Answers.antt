@@ -8,7 +8,7 @@ use Rattle.pg_ends.specs.Processes.{node_of}
 use Rattle.pg_opens.specs.Opens.{Shows, names_of as opens_names, live_of as live_in}
 use Rattle.pg_opens.specs.Readings.{update_of}
 use Rattle.pg_step.specs.State.{State}
-use Rattle.pg_node_state.specs.Ports.{merged_in, counts_in}
+use Rattle.pg_node_state.specs.Ports.{merged_in, port_commands}
 use Rattle.pg_node_state.specs.States.{names_of, live_of, kept_by}
 use Rattle.pg_node_state.proofs.Kept.{shows, assembled}
 use Rattle.pg_node_state.proofs.Steady.{peers_stay, own_stays, merged_stay, lost_stay, made_stay, given_stay}
@@ -122,7 +122,7 @@ invariant_of-self g c =
       within = old.within;
       made = old.made;
       counted = λ port. subst (λ (f : ℕ → ℕ). f port ≤ old.clock) (sym c.reserve_answer.ensures.counts) (old.counted port);
-      given = given_ports (length old.ports.items) (length c.reserve_answer.new.ports.items) (counts_in old.ports.items) (counts_in c.reserve_answer.new.ports.items) c.reserve_answer.ensures.len c.reserve_answer.ensures.counts old.given;
+      given = given_ports (length old.ports.items) (length c.reserve_answer.new.ports.items) (port_commands old.ports.items) (port_commands c.reserve_answer.new.ports.items) c.reserve_answer.ensures.len c.reserve_answer.ensures.counts old.given;
       few = old.few;
     }
 
@@ -136,7 +136,7 @@ invariant_of-self-2 g c =
       within = old.within;
       made = old.made;
       counted = λ port. subst (λ (f : ℕ → ℕ). f port ≤ old.clock) (sym c.reserve_answer.ensures.counts) (old.counted port);
-      given = given_ports (length old.ports.items) (length c.reserve_answer.new.ports.items) (counts_in old.ports.items) (counts_in c.reserve_answer.new.ports.items) c.reserve_answer.ensures.len c.reserve_answer.ensures.counts old.given;
+      given = given_ports (length old.ports.items) (length c.reserve_answer.new.ports.items) (port_commands old.ports.items) (port_commands c.reserve_answer.new.ports.items) c.reserve_answer.ensures.len c.reserve_answer.ensures.counts old.given;
       few = old.few;
     }
 
@@ -150,7 +150,7 @@ invariant_of-self-in-Err-1 g c =
       within = old.within;
       made = old.made;
       counted = λ port. subst (λ (f : ℕ → ℕ). f port ≤ old.clock) (sym c.reserve_answer.ensures.counts) (old.counted port);
-      given = given_ports (length old.ports.items) (length c.reserve_answer.new.ports.items) (counts_in old.ports.items) (counts_in c.reserve_answer.new.ports.items) c.reserve_answer.ensures.len c.reserve_answer.ensures.counts old.given;
+      given = given_ports (length old.ports.items) (length c.reserve_answer.new.ports.items) (port_commands old.ports.items) (port_commands c.reserve_answer.new.ports.items) c.reserve_answer.ensures.len c.reserve_answer.ensures.counts old.given;
       few = λ name pid. subst (λ (t : Table). count_in (t name) pid ≤ 2 ^ 32 + old.clock) (sym c.in-Err.ensures.err) (old.few name pid);
     }
 
@@ -192,7 +192,7 @@ invariant_of-self-in-Ok g c =
       within = c.requires.within;
       made = made_stay old.opens new s3 turned nodes c.args.clock (omega (arith, old.made, c.requires.later));
       counted = λ port. subst (λ (f : ℕ → ℕ). f port ≤ c.args.clock) (sym counts) (omega (arith, old.counted port, c.requires.later));
-      given = given_ports (length old.ports.items) (length c.keep_reserved.new.ports.items) (counts_in old.ports.items) (counts_in c.keep_reserved.new.ports.items) len counts
+      given = given_ports (length old.ports.items) (length c.keep_reserved.new.ports.items) (port_commands old.ports.items) (port_commands c.keep_reserved.new.ports.items) len counts
           (given_stay old.opens new s3 turned nodes
           (given_use changing Spent of_none (given_use number Spent of_none
           (given_use changing (Updating op update number (same_atom (live_of old).own)) (of_update op update number (same_atom (live_of old).own) came)
@@ -250,7 +250,7 @@ returns-in-Ok-clause-happens g c = λ update first st0 is.
         began = c.in_ok-done.ensures.began update (ap update_of is) ∙ sym (ap (λ (t : NodeTurn). t.reported.began) whole);
         odd = c.in_ok-done.ensures.odd ∙ sym (ap (λ (t : NodeTurn). t.reported.odd) whole);
       };
-      state = assembled clock s3 new (contents c.apply.new.self) ((kept_by old).ended) (locks_of c.give_up_own.new.locks) (merged_in (opens_names new) old.formation) ((kept_by old).processes) (counts_in c.keep_reserved.new.ports.items)
+      state = assembled clock s3 new (contents c.apply.new.self) ((kept_by old).ended) (locks_of c.give_up_own.new.locks) (merged_in (opens_names new) old.formation) ((kept_by old).processes) (port_commands c.keep_reserved.new.ports.items)
           turned (c.in-Ok.ensures.ok ∙ ap (λ (u : Change). changed (contents old.table) u (ended_of old.ended)) changes) refl freed
           (merged_stay old.opens new s3 turned nodes old.formation) refl (c.keep_reserved.ensures.counts ∙ c.reserve_answer.ensures.counts)
           ∙ sym (ap (λ (t : NodeTurn). at_time clock t.state) whole);
@@ -261,4 +261,4 @@ returns-in-Ok-clause-happens g c = λ update first st0 is.
 pub begun-requires-clause-named : goal.begun-requires-clause-named
 begun-requires-clause-named g c =
     let old = c.args.self.now in
-    gathered_named (length old.ports.items) (counts_in old.ports.items) c.args.number old.given
+    gathered_named (length old.ports.items) (port_commands old.ports.items) c.args.number old.given

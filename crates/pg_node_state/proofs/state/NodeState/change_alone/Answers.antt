@@ -15,7 +15,7 @@ use Rattle.pg_step.specs.declared.answer.Reply.TheVariants as reply
 use Rattle.pg_step.specs.Nodes.{Node, Nodes, is_peer, greatest}
 use Rattle.pg_step.specs.State.{State}
 use Rattle.pg_step.specs.Turns.{NodeTurn}
-use Rattle.pg_node_state.specs.Ports.{merged_in, counts_in}
+use Rattle.pg_node_state.specs.Ports.{merged_in, port_commands}
 use Rattle.pg_node_state.specs.States.{names_of, live_of, kept_by, sends_in}
 use Rattle.pg_node_state.proofs.Alone.{no_peers}
 use Rattle.pg_node_state.proofs.Attempted.{attempt_ends, lone_turn, lone_sends, lone_locks}
@@ -52,7 +52,7 @@ invariant_of-self g c =
       within = old.within;
       made = old.made;
       counted = λ port. subst (λ (f : ℕ → ℕ). f port ≤ old.clock) (sym c.reserve_answer.ensures.counts) (old.counted port);
-      given = given_ports (length old.ports.items) (length c.reserve_answer.new.ports.items) (counts_in old.ports.items) (counts_in c.reserve_answer.new.ports.items) c.reserve_answer.ensures.len c.reserve_answer.ensures.counts old.given;
+      given = given_ports (length old.ports.items) (length c.reserve_answer.new.ports.items) (port_commands old.ports.items) (port_commands c.reserve_answer.new.ports.items) c.reserve_answer.ensures.len c.reserve_answer.ensures.counts old.given;
       few = old.few;
     }
 
@@ -66,7 +66,7 @@ invariant_of-self-in-Break-branch-2 g c =
       within = old.within;
       made = old.made;
       counted = λ port. subst (λ (f : ℕ → ℕ). f port ≤ old.clock) (sym c.reserve_answer.ensures.counts) (old.counted port);
-      given = given_ports (length old.ports.items) (length c.reserve_answer.new.ports.items) (counts_in old.ports.items) (counts_in c.reserve_answer.new.ports.items) c.reserve_answer.ensures.len c.reserve_answer.ensures.counts old.given;
+      given = given_ports (length old.ports.items) (length c.reserve_answer.new.ports.items) (port_commands old.ports.items) (port_commands c.reserve_answer.new.ports.items) c.reserve_answer.ensures.len c.reserve_answer.ensures.counts old.given;
       few = old.few;
     }
 
@@ -80,7 +80,7 @@ invariant_of-self-in-Err-1 g c =
       within = old.within;
       made = old.made;
       counted = λ port. subst (λ (f : ℕ → ℕ). f port ≤ old.clock) (sym c.reserve_answer.ensures.counts) (old.counted port);
-      given = given_ports (length old.ports.items) (length c.reserve_answer.new.ports.items) (counts_in old.ports.items) (counts_in c.reserve_answer.new.ports.items) c.reserve_answer.ensures.len c.reserve_answer.ensures.counts old.given;
+      given = given_ports (length old.ports.items) (length c.reserve_answer.new.ports.items) (port_commands old.ports.items) (port_commands c.reserve_answer.new.ports.items) c.reserve_answer.ensures.len c.reserve_answer.ensures.counts old.given;
       few = λ name pid. subst (λ (t : Table). count_in (t name) pid ≤ 2 ^ 32 + old.clock) (sym c.in-Err.ensures.err) (old.few name pid);
     }
 
@@ -108,7 +108,7 @@ invariant_of-self-in-Ok g c =
       within = c.requires.within;
       made = made_stay old.opens new s turned nodes c.args.clock (omega (arith, c.requires.made));
       counted = λ port. subst (λ (f : ℕ → ℕ). f port ≤ c.args.clock) (sym counts) (omega (arith, old.counted port, c.requires.later));
-      given = given_ports (length old.ports.items) (length c.keep_reserved.new.ports.items) (counts_in old.ports.items) (counts_in c.keep_reserved.new.ports.items) len counts
+      given = given_ports (length old.ports.items) (length c.keep_reserved.new.ports.items) (port_commands old.ports.items) (port_commands c.keep_reserved.new.ports.items) len counts
           (given_stay old.opens new s turned nodes (alone_given m op update (kept_by old) own apart (waiting_came op update old.given waiting.is) old.given));
       few = few_changed (2 ^ 32 + c.args.clock - 1) (2 ^ 32 + c.args.clock) (g.T.GroupTable.contents old.table) (g.T.GroupTable.contents c.apply.new.self) c.waiting_under-update.result.now (ended_of old.ended)
           (omega arith) (λ name pid. omega (arith, c.requires.few name pid)) c.in-Ok.ensures.ok;
@@ -135,7 +135,7 @@ returns-in-Ok-clause-happens g c = λ update is.
         began = c.in_ok-done.ensures.began update is;
         odd = c.in_ok-done.ensures.odd;
       };
-      state = assembled c.args.clock s new (contents c.apply.new.self) ((kept_by old).ended) (locks_of old.locks) (merged_in (opens_names new) old.formation) ((kept_by old).processes) (counts_in c.keep_reserved.new.ports.items)
+      state = assembled c.args.clock s new (contents c.apply.new.self) ((kept_by old).ended) (locks_of old.locks) (merged_in (opens_names new) old.formation) ((kept_by old).processes) (port_commands c.keep_reserved.new.ports.items)
           turned (c.in-Ok.ensures.ok ∙ ap (λ (u : Change). changed (contents old.table) u (ended_of old.ended)) changes) refl (sym (lone_locks m op update (kept_by old) own apart grants))
           (merged_stay old.opens new s turned c.end_alone.ensures.nodes old.formation) refl (c.keep_reserved.ensures.counts ∙ c.reserve_answer.ensures.counts);
       answers = (reply.Ok, refl, c.keep_reserved.ensures.kept ∙ (λ i. upd nat_eq (answers i) op.port (answers i op.port ++ record { number = op.number; reply = reply.Ok } ∷ [])));

@@ -6,7 +6,7 @@ use Rattle.pg_ends.specs.Processes.{node_of}
 use Rattle.pg_opens.specs.Opens.{Shows, names_of as opens_names}
 use Rattle.pg_opens.specs.Readings.{update_of}
 use Rattle.pg_step.specs.State.{State}
-use Rattle.pg_node_state.specs.Ports.{merged_in, counts_in}
+use Rattle.pg_node_state.specs.Ports.{merged_in, port_commands}
 use Rattle.pg_node_state.specs.States.{live_of, kept_by}
 use Rattle.pg_node_state.proofs.Kept.{shows, assembled}
 use Rattle.pg_node_state.proofs.Steady.{peers_stay, own_stays, merged_stay, lost_stay, made_stay, given_stay}
@@ -44,7 +44,7 @@ invariant_of-self g c =
       within = old.within;
       made = old.made;
       counted = λ port. subst (λ (f : ℕ → ℕ). f port ≤ old.clock) (sym c.reserve_answer.ensures.counts) (old.counted port);
-      given = given_ports (length old.ports.items) (length c.reserve_answer.new.ports.items) (counts_in old.ports.items) (counts_in c.reserve_answer.new.ports.items) c.reserve_answer.ensures.len c.reserve_answer.ensures.counts old.given;
+      given = given_ports (length old.ports.items) (length c.reserve_answer.new.ports.items) (port_commands old.ports.items) (port_commands c.reserve_answer.new.ports.items) c.reserve_answer.ensures.len c.reserve_answer.ensures.counts old.given;
       few = old.few;
     }
 
@@ -58,7 +58,7 @@ invariant_of-self-in-Break-branch-2 g c =
       within = old.within;
       made = old.made;
       counted = λ port. subst (λ (f : ℕ → ℕ). f port ≤ old.clock) (sym c.reserve_answer.ensures.counts) (old.counted port);
-      given = given_ports (length old.ports.items) (length c.reserve_answer.new.ports.items) (counts_in old.ports.items) (counts_in c.reserve_answer.new.ports.items) c.reserve_answer.ensures.len c.reserve_answer.ensures.counts old.given;
+      given = given_ports (length old.ports.items) (length c.reserve_answer.new.ports.items) (port_commands old.ports.items) (port_commands c.reserve_answer.new.ports.items) c.reserve_answer.ensures.len c.reserve_answer.ensures.counts old.given;
       few = old.few;
     }
 
@@ -80,7 +80,7 @@ invariant_of-self-2 g c =
       within = c.requires.within;
       made = made_stay old.opens new s turned nodes c.args.clock (omega (arith, old.made, c.requires.later));
       counted = λ port. subst (λ (f : ℕ → ℕ). f port ≤ c.args.clock) (sym counts) (omega (arith, old.counted port, c.requires.later));
-      given = given_ports (length old.ports.items) (length c.keep_reserved.new.ports.items) (counts_in old.ports.items) (counts_in c.keep_reserved.new.ports.items) len counts
+      given = given_ports (length old.ports.items) (length c.keep_reserved.new.ports.items) (port_commands old.ports.items) (port_commands c.keep_reserved.new.ports.items) len counts
           (given_stay old.opens new s turned nodes (given_use c.args.number Spent of_none (given_use c.args.lock Spent of_none (given_stage c.args.op Closed (of_any came) old.given))));
       few = λ name pid. omega (arith, old.few name pid, c.requires.later);
     }
@@ -96,7 +96,7 @@ returns-clause-happens g c = λ update replied is.
     let answers = c.reserve_answer.ensures.answers in
     record {
       told = record { sends = c.in_ok-done.ensures.sends c.args.op update c.args.lock replied is; began = c.in_ok-done.ensures.began; odd = c.in_ok-done.ensures.odd };
-      state = assembled c.args.clock t new ((kept_by old).table) ((kept_by old).ended) (locks_of c.give_up_own.new.locks) (merged_in (opens_names new) old.formation) ((kept_by old).processes) (counts_in c.keep_reserved.new.ports.items)
+      state = assembled c.args.clock t new ((kept_by old).table) ((kept_by old).ended) (locks_of c.give_up_own.new.locks) (merged_in (opens_names new) old.formation) ((kept_by old).processes) (port_commands c.keep_reserved.new.ports.items)
           turned refl refl (c.give_up_own.ensures ∙ (λ i. given_up (is_holder (locks_of old.locks (name i)) (lock i)) (locks_of old.locks) (name i)))
           (merged_stay old.opens new t turned c.finish.ensures.nodes old.formation) refl (c.keep_reserved.ensures.counts ∙ c.reserve_answer.ensures.counts);
       answers = (reply.Ok, refl, c.keep_reserved.ensures.kept ∙ (λ i. upd nat_eq (answers i) c.args.op.port (answers i c.args.op.port ++ record { number = c.args.op.number; reply = reply.Ok } ∷ [])));
@@ -105,4 +105,4 @@ returns-clause-happens g c = λ update replied is.
 pub ended-requires-clause-named : goal.ended-requires-clause-named
 ended-requires-clause-named g c =
     let old = c.args.self.now in
-    gathered_named (length old.ports.items) (counts_in old.ports.items) c.args.number old.given
+    gathered_named (length old.ports.items) (port_commands old.ports.items) c.args.number old.given

@@ -6,7 +6,7 @@ use Rattle.pg_ends.specs.Processes.{made_of}
 use Rattle.pg_opens.specs.Places.{name_at}
 use Rattle.pg_opens.specs.Opens as opens
 use Rattle.pg_step.specs.Nodes.{Node}
-use Rattle.pg_node_state.specs.Ports.{merged_in, counts_in}
+use Rattle.pg_node_state.specs.Ports.{merged_in, port_commands}
 use Rattle.pg_node_state.specs.States.{names_of, kept_by}
 use Rattle.pg_node_state.proofs.Counts.{few_without_node}
 use Rattle.pg_node_state.proofs.Merged.{merged_set, marks_length, both_set}
@@ -59,6 +59,6 @@ returns-clause-state g c =
         processes = made_of old.processes;
         opened = sym turned.opened i;
         stages = sym turned.stages i;
-        counts = counts_in old.ports.items;
+        counts = port_commands old.ports.items;
       };
     }

@@ -3,7 +3,7 @@ use Rattle.pg_ends.specs.Numbers.{pid_of}
 use Rattle.pg_ends.specs.Processes.{made_of}
 use Rattle.pg_step.specs.declared.answer.Reply.TheVariants.{Made}
 use Rattle.pg_node_state.specs.Issued.{counted_at}
-use Rattle.pg_node_state.specs.Ports.{counts_in, answers_in}
+use Rattle.pg_node_state.specs.Ports.{port_commands, answers_in}
 use Rattle.pg_node_state.specs.States.{names_of, kept_by, sends_in}
 use Rattle.pg_node_state.proofs.Answered.{counts_within, given_later, given_still, counts_still, answered_on}
 use Rattle.pg_node_state.proofs.state.NodeState.make_process.Goals as goal
@@ -67,7 +67,7 @@ returns-clause-happens g c =
       answers = (
         Made c.in-Ok.pid,
         ap Made (c.in-Ok.ensures.pid ∙ ap (λ (node : List ℕ). pid_of node (made_of old.processes + 1)) old.own),
-        answered_on (answers_in old.ports.items) (answers_in c.reserve_answer.new.ports.items) (answers_in c.give.new.ports.items) c.args.port (counts_in old.ports.items) (counts_in c.reserve_answer.new.ports.items) (Made c.in-Ok.pid)
+        answered_on (answers_in old.ports.items) (answers_in c.reserve_answer.new.ports.items) (answers_in c.give.new.ports.items) c.args.port (port_commands old.ports.items) (port_commands c.reserve_answer.new.ports.items) (Made c.in-Ok.pid)
             c.reserve_answer.ensures.answers c.reserve_answer.ensures.counts c.give.ensures.answers,
       );
     }

@@ -20,7 +20,7 @@ use Rattle.pg_step.specs.State.Stage.{Waiting}
 use Rattle.pg_step.specs.Step.{at_clock}
 use Rattle.pg_step.specs.Turns.{NodeTurn}
 use Rattle.pg_node_state.specs.Issued.{counted_at}
-use Rattle.pg_node_state.specs.Ports.{merged_in, counts_in, answers_in, CameIn}
+use Rattle.pg_node_state.specs.Ports.{merged_in, port_commands, answers_in, CameIn}
 use Rattle.pg_node_state.specs.States.{names_of, live_of, kept_by, state_of, answers_of, Happens}
 use Rattle.pg_node_state.proofs.Answered.{counts_within, given_later, next_came, next_closed}
 use Rattle.pg_node_state.proofs.Coming.{on_err}
@@ -67,8 +67,8 @@ add-requires g c =
     record {
       room = c.in_ok-update.ensures.ok;
       closed = ap (λ (op : OpId). stages_of c.prepared.new.opens op) c.next_op-op.ensures
-          ∙ (ap (λ (stages : OpId → Stage). stages (record { port = c.args.port; number = counts_in old.ports.items c.args.port + 1 })) (sym between.stages)
-          ∙ next_closed (length old.ports.items) c.args.port (counts_in old.ports.items) old.given);
+          ∙ (ap (λ (stages : OpId → Stage). stages (record { port = c.args.port; number = port_commands old.ports.items c.args.port + 1 })) (sym between.stages)
+          ∙ next_closed (length old.ports.items) c.args.port (port_commands old.ports.items) old.given);
     }
 
 pub invariant_of-self-2 : goal.invariant_of-self-2
@@ -82,7 +82,7 @@ invariant_of-self-2 g c =
     let nodes = c.add.ensures.nodes ∙ c.prepared.ensures.nodes in
     let turned : Shows new s = c.add.ensures.turned (counted_state port (kept_by old)) (shows_counted c.prepared.new.opens port (kept_by old) (c.prepared.ensures.same (kept_by old) (shows old))) in
     let ports = c.count.new.ports.items in
-    let came : CameIn (length ports) (counts_in ports) op (Some update) = subst (λ (o : OpId). CameIn (length ports) (counts_in ports) o (Some update)) (sym c.next_op-op.ensures) (next_came old.ports.items ports port c.count.ensures.len c.count.ensures.counts update (c.requires.named update c.in_ok-update.ensures.update) c.requires.place) in
+    let came : CameIn (length ports) (port_commands ports) op (Some update) = subst (λ (o : OpId). CameIn (length ports) (port_commands ports) o (Some update)) (sym c.next_op-op.ensures) (next_came old.ports.items ports port c.count.ensures.len c.count.ensures.counts update (c.requires.named update c.in_ok-update.ensures.update) c.requires.place) in
     record {
       peers = peers_stay old.opens new s turned nodes old.formation old.peers;
       own = own_stays old.opens new s turned nodes (node_of old.processes) old.own;
@@ -120,11 +120,11 @@ returns-in-Ok-clause-happens g c = λ update0 asked.
     let new = c.add.new.self in
     let nodes = c.add.ensures.nodes ∙ c.prepared.ensures.nodes in
     let turned : Shows new s = c.add.ensures.turned (counted_state port (kept_by old)) (shows_counted c.prepared.new.opens port (kept_by old) (c.prepared.ensures.same (kept_by old) (shows old))) in
-    let whole = assembled_state s new (kept_by old).table (kept_by old).ended (kept_by old).locks (merged_in (opens_names new) old.formation) (kept_by old).processes (counts_in c.count.new.ports.items)
+    let whole = assembled_state s new (kept_by old).table (kept_by old).ended (kept_by old).locks (merged_in (opens_names new) old.formation) (kept_by old).processes (port_commands c.count.new.ports.items)
     turned refl refl refl (merged_stay old.opens new s turned nodes old.formation) refl c.count.ensures.counts in
     let left = live_stays old.opens new s turned nodes refl in
     let waits = ap (λ (stages : OpId → Stage). stages op) (sym turned.stages) ∙ upd_at same_op (kept_by old).stages op (Waiting update) (op_same op) in
-    let next : OpId = record { port = port; number = counts_in old.ports.items port + 1 } in
+    let next : OpId = record { port = port; number = port_commands old.ports.items port + 1 } in
     let same : update ≡ update0 = update_is update update0 (sym c.in_ok-update.ensures.update ∙ asked) in
     let turns : NodeTurn = attempt (live_of old) next update0 (opened_state port next update0 (kept_by old)) in
     let kept : State = record {
@@ -138,7 +138,7 @@ returns-in-Ok-clause-happens g c = λ update0 asked.
       processes = (kept_by old).processes;
       opened = opened_of new;
       stages = stages_of new;
-      counts = counts_in c.count.new.ports.items;
+      counts = port_commands c.count.new.ports.items;
     } in
     subst (λ (before : ℕ → List Answer). Happens names (at_clock c.args.clock turns) c.in-Ok.done (state_of c.attempt.new.self) before (answers_of c.attempt.new.self)) c.count.ensures.answers
     (happens_as names (opens_names new) c.args.clock turns (attempt (live_in new) op update kept) c.in-Ok.done (state_of c.attempt.new.self) (answers_in c.count.new.ports.items) (answers_of c.attempt.new.self) nodes
@@ -160,10 +160,10 @@ take_back-requires g c =
 pub uncount-requires : goal.uncount-requires
 uncount-requires g c =
     let old = c.args.self.now in
-    let counted : counts_in c.attempt.new.self.ports.items ≡ counted_at c.args.port (counts_in old.ports.items) = ap (λ (x : Timed State). x.state.counts) c.in-Err.ensures.err ∙ c.count.ensures.counts in
+    let counted : port_commands c.attempt.new.self.ports.items ≡ counted_at c.args.port (port_commands old.ports.items) = ap (λ (x : Timed State). x.state.counts) c.in-Err.ensures.err ∙ c.count.ensures.counts in
     record {
       place = subst (λ n. c.args.port < n) (sym (c.attempt.ensures.ports ∙ c.count.ensures.len)) c.requires.place;
-      some = omega (arith, ap (λ (f : ℕ → ℕ). f c.args.port) counted ∙ upd_at nat_eq (counts_in old.ports.items) c.args.port (counts_in old.ports.items c.args.port + 1) (eq-eqb c.args.port c.args.port refl));
+      some = omega (arith, ap (λ (f : ℕ → ℕ). f c.args.port) counted ∙ upd_at nat_eq (port_commands old.ports.items) c.args.port (port_commands old.ports.items c.args.port + 1) (eq-eqb c.args.port c.args.port refl));
     }
 
 pub invariant_of-self-in-Err : goal.invariant_of-self-in-Err
@@ -175,17 +175,17 @@ invariant_of-self-in-Err g c =
     let s : State = opened_state port op update (kept_by old) in
     let new = c.add.new.self in
     let turned : Shows new s = c.add.ensures.turned (counted_state port (kept_by old)) (shows_counted c.prepared.new.opens port (kept_by old) (c.prepared.ensures.same (kept_by old) (shows old))) in
-    let whole = assembled_state s new (kept_by old).table (kept_by old).ended (kept_by old).locks (merged_in (opens_names new) old.formation) (kept_by old).processes (counts_in c.count.new.ports.items)
+    let whole = assembled_state s new (kept_by old).table (kept_by old).ended (kept_by old).locks (merged_in (opens_names new) old.formation) (kept_by old).processes (port_commands c.count.new.ports.items)
     turned refl refl refl (merged_stay old.opens new s turned (c.add.ensures.nodes ∙ c.prepared.ensures.nodes) old.formation) refl c.count.ensures.counts in
     let tried = c.attempt.new.self in
     let final : Opens = c.take_back.new.self in
     let kept : kept_by tried ≡ s = ap (λ (x : Timed State). x.state) c.in-Err.ensures.err ∙ whole in
     let back : Shows final (command_taken_back op (kept_by tried)).state = c.take_back.ensures.turned (kept_by tried) (shows tried) in
-    let closed = ap (λ (o : OpId). (kept_by old).stages o) c.next_op-op.ensures ∙ next_closed (length old.ports.items) port (counts_in old.ports.items) old.given in
+    let closed = ap (λ (o : OpId). (kept_by old).stages o) c.next_op-op.ensures ∙ next_closed (length old.ports.items) port (port_commands old.ports.items) old.given in
     let undone : Shows final (kept_by old) = shows_undone final port op update (kept_by old) closed (subst (λ (t : State). Shows final (command_taken_back op t).state) kept back) in
     let nodes = c.take_back.ensures.nodes in
     let all_nodes : opens_names final ≡ names_of old = nodes ∙ (c.attempt.ensures.names ∙ (c.add.ensures.nodes ∙ c.prepared.ensures.nodes)) in
-    let counts : counts_in c.uncount.new.ports.items ≡ counts_in old.ports.items = c.uncount.ensures.counts (counts_in old.ports.items) (ap (λ (x : Timed State). x.state.counts) c.in-Err.ensures.err ∙ c.count.ensures.counts) in
+    let counts : port_commands c.uncount.new.ports.items ≡ port_commands old.ports.items = c.uncount.ensures.counts (port_commands old.ports.items) (ap (λ (x : Timed State). x.state.counts) c.in-Err.ensures.err ∙ c.count.ensures.counts) in
     let len : length c.uncount.new.ports.items ≡ length old.ports.items = c.uncount.ensures.len ∙ (c.attempt.ensures.ports ∙ c.count.ensures.len) in
     record {
       peers = peers_stay tried.opens final (command_taken_back op (kept_by tried)).state back nodes tried.formation tried.peers;
@@ -194,7 +194,7 @@ invariant_of-self-in-Err g c =
       within = old.within;
       made = made_stay old.opens final (kept_by old) undone all_nodes old.clock old.made;
       counted = λ n. subst (λ (f : ℕ → ℕ). f n ≤ old.clock) (sym counts) (old.counted n);
-      given = given_ports (length old.ports.items) (length c.uncount.new.ports.items) (counts_in old.ports.items) (counts_in c.uncount.new.ports.items) len counts (given_stay old.opens final (kept_by old) undone all_nodes old.given);
+      given = given_ports (length old.ports.items) (length c.uncount.new.ports.items) (port_commands old.ports.items) (port_commands c.uncount.new.ports.items) len counts (given_stay old.opens final (kept_by old) undone all_nodes old.given);
       few = λ name pid. subst (λ (t : Table). count_in (t name) pid ≤ 2 ^ 32 + old.clock) (sym (ap (λ (x : State). x.table) kept)) (old.few name pid);
     }
 
@@ -207,15 +207,15 @@ returns-in-Err-clause-err g c =
     let s : State = opened_state port op update (kept_by old) in
     let new = c.add.new.self in
     let turned : Shows new s = c.add.ensures.turned (counted_state port (kept_by old)) (shows_counted c.prepared.new.opens port (kept_by old) (c.prepared.ensures.same (kept_by old) (shows old))) in
-    let whole = assembled_state s new (kept_by old).table (kept_by old).ended (kept_by old).locks (merged_in (opens_names new) old.formation) (kept_by old).processes (counts_in c.count.new.ports.items)
+    let whole = assembled_state s new (kept_by old).table (kept_by old).ended (kept_by old).locks (merged_in (opens_names new) old.formation) (kept_by old).processes (port_commands c.count.new.ports.items)
     turned refl refl refl (merged_stay old.opens new s turned (c.add.ensures.nodes ∙ c.prepared.ensures.nodes) old.formation) refl c.count.ensures.counts in
     let tried = c.attempt.new.self in
     let final : Opens = c.take_back.new.self in
     let kept : kept_by tried ≡ s = ap (λ (x : Timed State). x.state) c.in-Err.ensures.err ∙ whole in
     let back : Shows final (command_taken_back op (kept_by tried)).state = c.take_back.ensures.turned (kept_by tried) (shows tried) in
-    let closed = ap (λ (o : OpId). (kept_by old).stages o) c.next_op-op.ensures ∙ next_closed (length old.ports.items) port (counts_in old.ports.items) old.given in
+    let closed = ap (λ (o : OpId). (kept_by old).stages o) c.next_op-op.ensures ∙ next_closed (length old.ports.items) port (port_commands old.ports.items) old.given in
     let undone : Shows final (kept_by old) = shows_undone final port op update (kept_by old) closed (subst (λ (t : State). Shows final (command_taken_back op t).state) kept back) in
-    let counts : counts_in c.uncount.new.ports.items ≡ counts_in old.ports.items = c.uncount.ensures.counts (counts_in old.ports.items) (ap (λ (x : Timed State). x.state.counts) c.in-Err.ensures.err ∙ c.count.ensures.counts) in
-    assembled old.clock (kept_by old) final (kept_by tried).table (kept_by tried).ended (kept_by tried).locks (merged_in (opens_names final) tried.formation) (kept_by tried).processes (counts_in c.uncount.new.ports.items)
+    let counts : port_commands c.uncount.new.ports.items ≡ port_commands old.ports.items = c.uncount.ensures.counts (port_commands old.ports.items) (ap (λ (x : Timed State). x.state.counts) c.in-Err.ensures.err ∙ c.count.ensures.counts) in
+    assembled old.clock (kept_by old) final (kept_by tried).table (kept_by tried).ended (kept_by tried).locks (merged_in (opens_names final) tried.formation) (kept_by tried).processes (port_commands c.uncount.new.ports.items)
     undone (ap (λ (x : State). x.table) kept) (ap (λ (x : State). x.ended) kept) (ap (λ (x : State). x.locks) kept)
     (merged_stay tried.opens final (command_taken_back op (kept_by tried)).state back c.take_back.ensures.nodes tried.formation ∙ ap (λ (x : State). x.merged) kept) (ap (λ (x : State). x.processes) kept) counts

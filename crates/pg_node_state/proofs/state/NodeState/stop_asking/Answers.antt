@@ -8,7 +8,7 @@ use Rattle.pg_step.specs.Attempts.{give_up}
 use Rattle.pg_step.specs.State.{State}
 use Rattle.pg_step.specs.State.Use.{Spent}
 use Rattle.pg_step.specs.State.Stage.{Waiting}
-use Rattle.pg_node_state.specs.Ports.{merged_in, counts_in}
+use Rattle.pg_node_state.specs.Ports.{merged_in, port_commands}
 use Rattle.pg_node_state.specs.States.{live_of, kept_by}
 use Rattle.pg_node_state.proofs.Given.{given_use, given_stage, of_none, locking_came, gathered_named}
 use Rattle.pg_node_state.proofs.Kept.{shows, assembled}
@@ -56,4 +56,4 @@ returns-clause-happens g c = λ op update first st is.
 pub freed-requires-clause-named : goal.freed-requires-clause-named
 freed-requires-clause-named g c =
     let old = c.args.self.now in
-    gathered_named (length old.ports.items) (counts_in old.ports.items) c.args.number old.given
+    gathered_named (length old.ports.items) (port_commands old.ports.items) c.args.number old.given

@@ -1,7 +1,7 @@
 use Rattle.std.proofs.Common.{◌++◌, ◌∷◌, [], List, sym, ap, subst, refl, ◌∙◌, arith, take_all}
 use Rattle.pg_step.specs.declared.command.OpId.{OpId}
 use Rattle.pg_node_state.specs.States.{live_of, kept_by}
-use Rattle.pg_node_state.specs.Waiting.{AreWaiting, waiting_of, ops_of}
+use Rattle.pg_node_state.specs.Waiting.{AreWaiting, waiting_among, ops_of}
 use Rattle.pg_node_state.proofs.Kept.{shows}
 use Rattle.pg_node_state.proofs.Waits.{one_waits, none_waits, all_waiting}
 use Rattle.pg_node_state.proofs.state.NodeState.waiting.Goals as goal
@@ -29,4 +29,4 @@ returns g c =
     let s = kept_by node in
     let count = c.has_each_once.ensures.count in
     let e = c.open_count-place-end.ensures in let f = c.loop-place.auto.place-end in let h = c.loop-place-test.false in
-    subst (AreWaiting m s) (sym (c.loop-place.invariant ∙ ap (waiting_of m s) (take_all c.loop-place.place (ops_of node) (omega (arith, count, e, f, h))))) (all_waiting m s node.opens (ops_of node) refl c.has_each_once.ensures)
+    subst (AreWaiting m s) (sym (c.loop-place.invariant ∙ ap (waiting_among m s) (take_all c.loop-place.place (ops_of node) (omega (arith, count, e, f, h))))) (all_waiting m s node.opens (ops_of node) refl c.has_each_once.ensures)

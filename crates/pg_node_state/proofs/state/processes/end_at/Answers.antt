@@ -1,7 +1,7 @@
 use Rattle.std.proofs.Common.{◌<◌, ◌+◌, ◌^◌, ◌∙◌, ℕ, sym, ap, subst}
 use Rattle.pg_step.specs.declared.answer.Reply.TheVariants as reply
 use Rattle.pg_node_state.specs.Issued.{counted_at}
-use Rattle.pg_node_state.specs.Ports.{counts_in, answers_in}
+use Rattle.pg_node_state.specs.Ports.{port_commands, answers_in}
 use Rattle.pg_node_state.proofs.Answered.{answered_on}
 use Rattle.pg_node_state.proofs.state.processes.end_at.Goals as goal
 
@@ -12,5 +12,5 @@ pub returns-clause-counts : goal.returns-clause-counts
 returns-clause-counts g c = c.give.ensures.counts ∙ ap (λ (f : ℕ → ℕ). counted_at c.args.port f) c.reserve_answer.ensures.counts
 
 pub returns-clause-answers : goal.returns-clause-answers
-returns-clause-answers g c = answered_on (answers_in c.args.ports.now.items) (answers_in c.reserve_answer.new.ports.items) (answers_in c.give.new.ports.items) c.args.port (counts_in c.args.ports.now.items) (counts_in c.reserve_answer.new.ports.items) reply.Ok
+returns-clause-answers g c = answered_on (answers_in c.args.ports.now.items) (answers_in c.reserve_answer.new.ports.items) (answers_in c.give.new.ports.items) c.args.port (port_commands c.args.ports.now.items) (port_commands c.reserve_answer.new.ports.items) reply.Ok
     c.reserve_answer.ensures.answers c.reserve_answer.ensures.counts c.give.ensures.answers

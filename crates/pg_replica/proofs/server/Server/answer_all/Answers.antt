@@ -1,5 +1,5 @@
 use Rattle.std.proofs.Common.{refl, subst, ◌∙◌}
-use Rattle.pg_replica.specs.Progress.{Progress}
+use Rattle.pg_replica.specs.Progress.{HasServed}
 use Rattle.pg_replica.specs.Replica.{Pair, pair_of}
 use Rattle.pg_node_state.specs.States.{state_of}
 use Rattle.pg_replica.proofs.Streams.{stay, onward}
@@ -14,7 +14,7 @@ loop-preserved g c =
     let now = c.loop.self in
     let new = c.answer_next.new.self in
     let contents = g.W.Sink.contents in
-    let next = subst (λ (pair : Pair). Progress pair now.deframer.unread new.deframer.unread (state_of now.node) (state_of new.node) (contents c.loop.writer) (contents c.answer_next.new.writer)) c.loop.invariant.0 c.in_ok-answer_next.ensures.progress in (
+    let next = subst (λ (pair : Pair). HasServed pair now.deframer.unread new.deframer.unread (state_of now.node) (state_of new.node) (contents c.loop.writer) (contents c.answer_next.new.writer)) c.loop.invariant.0 c.in_ok-answer_next.ensures.progress in (
       c.answer_next.ensures.pair ∙ c.loop.invariant.0,
       onward (pair_of first.node) first.deframer.unread now.deframer.unread new.deframer.unread (state_of first.node) (state_of now.node) (state_of new.node)
           (contents c.args.writer.now) (contents c.loop.writer) (contents c.answer_next.new.writer) c.loop.invariant.1 next,
@@ -26,6 +26,6 @@ returns-clause-progress g c =
     let now = c.loop.self in
     let new = c.answer_next.new.self in
     let contents = g.W.Sink.contents in
-    let next = subst (λ (pair : Pair). Progress pair now.deframer.unread new.deframer.unread (state_of now.node) (state_of new.node) (contents c.loop.writer) (contents c.answer_next.new.writer)) c.loop.invariant.0 c.in_ok-answer_next.ensures.progress in
+    let next = subst (λ (pair : Pair). HasServed pair now.deframer.unread new.deframer.unread (state_of now.node) (state_of new.node) (contents c.loop.writer) (contents c.answer_next.new.writer)) c.loop.invariant.0 c.in_ok-answer_next.ensures.progress in
     onward (pair_of first.node) first.deframer.unread now.deframer.unread new.deframer.unread (state_of first.node) (state_of now.node) (state_of new.node)
     (contents c.args.writer.now) (contents c.loop.writer) (contents c.answer_next.new.writer) c.loop.invariant.1 next

@@ -1,5 +1,5 @@
 use Rattle.std.proofs.Common.{◌≡◌, length}
-use Rattle.pg_replica.specs.Progress.{Progress}
+use Rattle.pg_replica.specs.Progress.{HasServed}
 use Rattle.pg_replica.specs.Replica.{pair_of}
 use Rattle.pg_node_state.specs.States.{state_of}
 use Rattle.pg_replica.proofs.server.Server.answer_all.Given as goal
@@ -8,7 +8,7 @@ use Rattle.pg_replica.proofs.server.Server.answer_all.Given as goal
 abbrev pub invariant-loop : goal.invariant-loop
 invariant-loop g l =
     (pair_of l.self.node ≡ pair_of l.fn.self.node)
-    × Progress (pair_of l.fn.self.node) l.fn.self.deframer.unread l.self.deframer.unread
+    × HasServed (pair_of l.fn.self.node) l.fn.self.deframer.unread l.self.deframer.unread
     (state_of l.fn.self.node) (state_of l.self.node) (g.W.Sink.contents l.fn.writer) (g.W.Sink.contents l.writer)
 
 abbrev pub decreases-loop : goal.decreases-loop

@@ -4,7 +4,7 @@ use Rattle.std.specs.Option.{option_copied}
 use Rattle.std.proofs.lemmas.Result.{err_from_is_err_and}
 use Rattle.pg_frame.specs.Frames.{front_of}
 use Rattle.pg_frame.proofs.Readings.{front_is_frame}
-use Rattle.pg_replica.specs.Progress.{Progress}
+use Rattle.pg_replica.specs.Progress.{HasServed}
 use Rattle.pg_replica.specs.Replica.{pair_of, AnswersServed, answered}
 use Rattle.pg_node_state.specs.States.{state_of}
 use Rattle.pg_replica.proofs.Served.{refused_cause}
@@ -59,5 +59,5 @@ returns-clause-progress g c =
     let front : front_of unread ≡ Ok (Some body) = sym c.in-Ok-Some.ensures.body ∙ ap (λ o. Ok (option_copied o)) c.in-Ok-Some.field-0-is in
     let answers : AnswersServed (answered pair s body) t [] c.answer.new.out.items = subst (λ (b : List ℕ). AnswersServed (answered pair s body) t b c.answer.new.out.items) c.clear.ensures.items c.in_ok-answer.ensures.ok in
     let wrote = subst (Appends (g.W.Sink.contents c.args.writer.now) (g.W.Sink.contents c.put_whole.new.writer)) c.as_slice.ensures c.in_ok-put_whole.ensures.ok in
-    subst (λ (u : List ℕ). Progress pair unread u s t (g.W.Sink.contents c.args.writer.now) (g.W.Sink.contents c.put_whole.new.writer)) (sym c.next.ensures.unread)
+    subst (λ (u : List ℕ). HasServed pair unread u s t (g.W.Sink.contents c.args.writer.now) (g.W.Sink.contents c.put_whole.new.writer)) (sym c.next.ensures.unread)
     (one pair unread body s t (g.W.Sink.contents c.args.writer.now) (g.W.Sink.contents c.put_whole.new.writer) c.answer.new.out.items front answers wrote)

@@ -3,7 +3,7 @@ use Rattle.std.specs.Prelude.{⊤, Err}
 use Rattle.std.proofs.lemmas.Result.{err_from_is_err_and}
 use Rattle.pg_replica.specs.declared.fault.ServeFault.{ServeFault}
 use Rattle.pg_replica.specs.declared.fault.ServeFault.TheVariants.{ReadFault}
-use Rattle.pg_replica.specs.Progress.{Progress, Stops}
+use Rattle.pg_replica.specs.Progress.{HasServed, Stops}
 use Rattle.pg_replica.specs.Replica.{Pair, State, pair_of, frames_of}
 use Rattle.pg_node_state.specs.States.{state_of}
 use Rattle.pg_replica.proofs.Streams.{appends_kept}
@@ -83,8 +83,8 @@ returns-then-is_err-clause-known g c =
     let t = state_of new in
     let unread = c.answer_all.new.self.deframer.unread in
     let same = c.in_ok-read.ensures.pair ∙ c.loop.invariant.0 in
-    let progress = subst (λ (u : State). Progress (pair_of c.args.self.now.node) c.read.new.self.deframer.unread unread u t (g.W.Sink.contents c.loop.writer) (g.W.Sink.contents c.answer_all.new.writer)) c.in_ok-read.ensures.state
-    (subst (λ (pair : Pair). Progress pair c.read.new.self.deframer.unread unread (state_of c.read.new.self.node) t (g.W.Sink.contents c.loop.writer) (g.W.Sink.contents c.answer_all.new.writer)) same c.in_ok-answer_all.ensures.progress) in
+    let progress = subst (λ (u : State). HasServed (pair_of c.args.self.now.node) c.read.new.self.deframer.unread unread u t (g.W.Sink.contents c.loop.writer) (g.W.Sink.contents c.answer_all.new.writer)) c.in_ok-read.ensures.state
+    (subst (λ (pair : Pair). HasServed pair c.read.new.self.deframer.unread unread (state_of c.read.new.self.node) t (g.W.Sink.contents c.loop.writer) (g.W.Sink.contents c.answer_all.new.writer)) same c.in_ok-answer_all.ensures.progress) in
     let serving =
     goes_on (pair_of c.args.self.now.node) _ (g.R.Source.remaining c.args.reader.now) (g.R.Source.remaining c.loop.reader) c.loop.self.deframer.unread s (g.W.Sink.contents c.args.writer.now) (g.W.Sink.contents c.loop.writer) c.loop.invariant.1
     _ (g.R.Source.remaining c.read.new.reader) c.read.new.self.deframer.unread c.in_ok-read.field-0 c.in_ok-read.ensures.piece (λ pieces. ⊤) tt unread t (g.W.Sink.contents c.answer_all.new.writer) (g.W.Sink.contents c.flush_all.new.self) progress
@@ -100,8 +100,8 @@ loop-preserved g c =
     let unread = c.answer_all.new.self.deframer.unread in
     let same = c.in_ok-read.ensures.pair ∙ c.loop.invariant.0 in
     let got = c.in_ok-read.ensures.piece in
-    let progress = subst (λ (u : State). Progress (pair_of c.args.self.now.node) c.read.new.self.deframer.unread unread u t (g.W.Sink.contents c.loop.writer) (g.W.Sink.contents c.answer_all.new.writer)) c.in_ok-read.ensures.state
-    (subst (λ (pair : Pair). Progress pair c.read.new.self.deframer.unread unread (state_of c.read.new.self.node) t (g.W.Sink.contents c.loop.writer) (g.W.Sink.contents c.answer_all.new.writer)) same c.in_ok-answer_all.ensures.progress) in (
+    let progress = subst (λ (u : State). HasServed (pair_of c.args.self.now.node) c.read.new.self.deframer.unread unread u t (g.W.Sink.contents c.loop.writer) (g.W.Sink.contents c.answer_all.new.writer)) c.in_ok-read.ensures.state
+    (subst (λ (pair : Pair). HasServed pair c.read.new.self.deframer.unread unread (state_of c.read.new.self.node) t (g.W.Sink.contents c.loop.writer) (g.W.Sink.contents c.answer_all.new.writer)) same c.in_ok-answer_all.ensures.progress) in (
       c.answer_all.ensures.pair ∙ same,
       goes_on (pair_of c.args.self.now.node) _ (g.R.Source.remaining c.args.reader.now) (g.R.Source.remaining c.loop.reader) c.loop.self.deframer.unread s (g.W.Sink.contents c.args.writer.now) (g.W.Sink.contents c.loop.writer) c.loop.invariant.1
           _ (g.R.Source.remaining c.read.new.reader) c.read.new.self.deframer.unread c.in_ok-read.field-0 got _

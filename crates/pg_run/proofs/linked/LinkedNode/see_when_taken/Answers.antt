@@ -11,7 +11,7 @@ use Rattle.pg_run.proofs.Following.{follows_itself}
 use Rattle.pg_run.specs.Acts.{Saw}
 use Rattle.pg_run.specs.Events.{ActsOnce}
 use Rattle.pg_run.specs.Follows.{log_of, node_of, peers_of}
-use Rattle.pg_run.specs.Logs.{has_seen}
+use Rattle.pg_run.specs.Logs.{saw_loss}
 use Rattle.pg_run.specs.Tries.{IsWant}
 use Rattle.pg_run.proofs.linked.LinkedNode.see_when_taken.Goals as goal
 
@@ -42,7 +42,7 @@ pub returns-else-count-gt0-clause-logs : goal.returns-else-count-gt0-clause-logs
 returns-else-count-gt0-clause-logs g c =
     let a = c.args.self.now in
     let b = c.pull.new.self in
-    loss_still (has_seen c.see-else-count-gt0.result) (log_of a) (log_of b) (log_of c.see-else-count-gt0.new.self) (logs_none g.L.Link.accepts g.I.Inlet.gives a b c.pull.ensures.follows) c.see-else-count-gt0.ensures.logs
+    loss_still (saw_loss c.see-else-count-gt0.result) (log_of a) (log_of b) (log_of c.see-else-count-gt0.new.self) (logs_none g.L.Link.accepts g.I.Inlet.gives a b c.pull.ensures.follows) c.see-else-count-gt0.ensures.logs
 
 pub returns-else-count-gt0-clause-drained : goal.returns-else-count-gt0-clause-drained
 returns-else-count-gt0-clause-drained g c = λ seen.

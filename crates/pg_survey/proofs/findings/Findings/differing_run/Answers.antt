@@ -3,7 +3,7 @@ use Rattle.std.specs.Global.{Vec}
 use Rattle.pg_tally.specs.declared.runs.Run.{Run}
 use Rattle.pg_tally.specs.declared.ways.Way.{Way}
 use Rattle.pg_tally.specs.Runs.{IsLongest}
-use Rattle.pg_survey.specs.Findings.{IsWhereMarked, marks_in}
+use Rattle.pg_survey.specs.Findings.{IsWhereMarked, differing_marks}
 use Rattle.pg_survey.proofs.Joining.{where_found}
 use Rattle.pg_survey.proofs.findings.Findings.differing_run.Goals as goal
 

@@ -3,7 +3,7 @@ use Rattle.pg_step.specs.declared.refusal.Refusal.{Refusal}
 use Rattle.pg_step.specs.declared.refusal.Refusal.TheVariants.{NoSuchPlace, NodeLost, NotLost, NotDrained}
 use Rattle.pg_step.specs.Faults.{first_that_holds}
 use Rattle.pg_frame_world.specs.declared.step.Stepped.TheVariants.{Happened}
-use Rattle.pg_world.specs.Bars.{IsHeld, sight_bar}
+use Rattle.pg_world.specs.Bars.{RefusesBarred, sight_bar}
 use Rattle.pg_world.specs.Crossings.{crossing_of, link_at, node_of, written_of}
 use Rattle.pg_account.specs.Losses.{lost_in}
 use Rattle.pg_node.specs.Bytes.{closed}
@@ -31,7 +31,7 @@ returns-in-Ok-clause-barred g c =
     let bar : sight_bar crossing lost c.args.node c.args.peer ≡ None = λ j. first_that_holds (
     (not (c.requires.pair j), NoSuchPlace) ∷ (c.requires.lives j, NodeLost) ∷ (not ((sym c.has.ensures ∙ c.if-not-has.false) j), NotLost)
     ∷ ((sym c.has_bytes.ensures ∙ c.if-has_bytes.false) j, NotDrained) ∷ []) in
-    subst (λ (b : Option Refusal). IsHeld b (Ok (Happened c.nothing.result))) (sym bar) tt
+    subst (λ (b : Option Refusal). RefusesBarred b (Ok (Happened c.nothing.result))) (sym bar) tt
 
 pub returns-in-Err-clause-changes : goal.returns-in-Err-clause-changes
 returns-in-Err-clause-changes g c =
@@ -49,7 +49,7 @@ returns-in-Err-clause-barred g c =
     let bar : sight_bar crossing lost c.args.node c.args.peer ≡ None = λ j. first_that_holds (
     (not (c.requires.pair j), NoSuchPlace) ∷ (c.requires.lives j, NodeLost) ∷ (not ((sym c.has.ensures ∙ c.if-not-has.false) j), NotLost)
     ∷ ((sym c.has_bytes.ensures ∙ c.if-has_bytes.false) j, NotDrained) ∷ []) in
-    subst (λ (b : Option Refusal). IsHeld b (Err c.in-Err.fault)) (sym bar) tt
+    subst (λ (b : Option Refusal). RefusesBarred b (Err c.in-Err.fault)) (sym bar) tt
 
 pub returns-then-not-has-clause-losing : goal.returns-then-not-has-clause-losing
 returns-then-not-has-clause-losing g c = λ config u shows.

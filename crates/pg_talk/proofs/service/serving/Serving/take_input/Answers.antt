@@ -1,7 +1,7 @@
 use Rattle.std.proofs.Common.{[], ◌∷◌, ◌++◌, Some, None, refl, subst, sym}
 use Rattle.std.specs.Prelude.{OnOk}
 use Rattle.pg_requests.specs.declared.input.Input.TheVariants.{Bad, Broken, End}
-use Rattle.pg_talk.specs.Servings.{Serves, Takes, view_of}
+use Rattle.pg_talk.specs.Servings.{Serves, ServesOne, view_of}
 use Rattle.pg_talk.proofs.Spoken.{bad_served, end_served}
 use Rattle.pg_talk.proofs.Turns.{on_ok}
 use Rattle.pg_talk.proofs.service.serving.Serving.take_input.Goals as goal
@@ -12,8 +12,8 @@ returns-in-Bad g c =
     let new = c.tell_bad.new.self in
     let before = g.W.Sink.contents c.args.writer.now in
     let after = g.W.Sink.contents c.tell_bad.new.writer in
-    subst (λ input. OnOk c.tell_bad.result (Takes input self new before after)) (sym c.in-Bad.is)
-    (on_ok c.tell_bad.result _ (Takes Bad self new before after) c.tell_bad.ensures (λ bad. record {
+    subst (λ input. OnOk c.tell_bad.result (ServesOne input self new before after)) (sym c.in-Bad.is)
+    (on_ok c.tell_bad.result _ (ServesOne Bad self new before after) c.tell_bad.ensures (λ bad. record {
       kept = bad.kept;
       takes = λ given first inputs s. subst (λ view. Serves given first (inputs ++ Bad ∷ []) view after) (sym bad.view)
           (bad_served given first before inputs (view_of self) s after Bad refl (λ i low. refl) bad.wrote);

@@ -1,6 +1,6 @@
 use Rattle.std.proofs.Common.{arith, [], ◌∷◌, ◌++◌, refl, subst, sym}
 use Rattle.pg_requests.specs.declared.input.Input.TheVariants.{Ask}
-use Rattle.pg_talk.specs.Servings.{Serves, Takes, view_of}
+use Rattle.pg_talk.specs.Servings.{Serves, ServesOne, view_of}
 use Rattle.pg_talk.proofs.Spoken.{request_served, request_to_nobody}
 use Rattle.pg_talk.proofs.Turns.{on_ok}
 use Rattle.pg_talk.proofs.service.serving.Serving.take_request.Goals as goal
@@ -11,7 +11,7 @@ returns-then-client-len g c =
     let new = c.tell_bad.new.self in
     let before = g.W.Sink.contents c.args.writer.now in
     let after = g.W.Sink.contents c.tell_bad.new.writer in
-    on_ok c.tell_bad.result _ (Takes (Ask c.args.client c.args.command) self new before after) c.tell_bad.ensures
+    on_ok c.tell_bad.result _ (ServesOne (Ask c.args.client c.args.command) self new before after) c.tell_bad.ensures
     (λ bad. record {
       kept = bad.kept;
       takes = λ given first inputs s. subst (λ view. Serves given first (inputs ++ Ask c.args.client c.args.command ∷ []) view after) (sym bad.view)
