@@ -49,7 +49,7 @@ pub fn merge_is_one()
 /// and what is in that order is seen so.
 pub fn seen_logs_merge_alike<E, F>()
     ensures clocks { (view : E → F) (log : List (ℕ × E)) → clocks_of (seen_log view log) ≡ clocks_of log }
-    ensures merged_logs { (view : E → F) (logs : ℕ → List (ℕ × E)) (order : List (ℕ × ℕ))
+    ensures merged { (view : E → F) (logs : ℕ → List (ℕ × E)) (order : List (ℕ × ℕ))
         → merged_logs (λ i. seen_log view (logs i)) order ≡ map view (merged_logs logs order) }
 {}
 

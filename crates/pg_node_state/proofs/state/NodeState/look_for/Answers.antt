@@ -33,7 +33,7 @@ returns-clause-state g c =
     assembled old.clock (kept_by old) new (kept_by old).table (kept_by old).ended (kept_by old).locks (merged_in (opens_names new) old.formation) (kept_by old).processes (kept_by old).counts
     turned refl refl refl (merged_stay old.opens new (kept_by old) turned c.look_for.ensures.nodes old.formation) refl refl
 
-pub returns-clause-live : goal.returns-clause-left
+pub returns-clause-live : goal.returns-clause-live
 returns-clause-live g c =
     let old = c.args.self.now in
     live_stays old.opens c.look_for.new.self (kept_by old) (c.look_for.ensures.same (kept_by old) (shows old)) c.look_for.ensures.nodes refl
