@@ -9,11 +9,11 @@ use Rattle.pg_history.specs.WithLosses.{Marked}
 use Rattle.pg_left.specs.Missed.{is_missed, last_applied, missed_of}
 use Rattle.pg_account.specs.declared.entry.Entry.{Entry}
 use Rattle.pg_account.specs.declared.histories.Histories.{Histories}
-use Rattle.pg_account.specs.Histories.{account_of, as_entry, as_marked, counts_in, entries_in}
+use Rattle.pg_account.specs.Histories.{account_of, as_entry, as_marked, tallied_in, entries_in}
 use Rattle.pg_account.specs.Histories.{is_applied_by, last_count, last_entries, last_marks, marked_entries_in}
 
 -- the same where all parts are
-pub same_account : (a b : Histories) → entries_in a.rows ≡ entries_in b.rows → counts_in a.rows ≡ counts_in b.rows → marked_entries_in a.rows ≡ marked_entries_in b.rows → a.last ≡ b.last → a.formed ≡ b.formed
+pub same_account : (a b : Histories) → entries_in a.rows ≡ entries_in b.rows → tallied_in a.rows ≡ tallied_in b.rows → marked_entries_in a.rows ≡ marked_entries_in b.rows → a.last ≡ b.last → a.formed ≡ b.formed
     → account_of a ≡ account_of b
 same_account a b entries counts marks last formed = λ j. record {
   histories = λ name. entries j name ++ of_group name (last_entries (last j));

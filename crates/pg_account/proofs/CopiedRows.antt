@@ -15,7 +15,7 @@ use Rattle.pg_term.proofs.Same.{same_term as term_is}
 use Rattle.pg_history.specs.History.{Entry}
 use Rattle.pg_history.specs.WithLosses.{Marked}
 use Rattle.pg_account.specs.declared.row.Row.{Row}
-use Rattle.pg_account.specs.Histories.{entries_of, entries_in, count_at, counts_in, marked_entries_in, marked_entries_of}
+use Rattle.pg_account.specs.Histories.{entries_of, entries_in, count_at, tallied_in, marked_entries_in, marked_entries_of}
 
 -- ---- numbers
 
@@ -100,7 +100,7 @@ pub entries_copied : (whole done : Rows) (left : List (Term × Row)) → left �
 entries_copied whole done left is copied = fun_ext (λ q. through (List Entry) (λ t. t.0) [] (get term_cmp done q)
     ∙ (ap (λ (o : Option Told). option_map_or (λ (t : Told). t.0) o []) (all_told whole done left is copied q) ∙ sym (through (List Entry) (λ t. t.0) [] (get term_cmp whole q))))
 
-pub counts_copied : (whole done : Rows) (left : List (Term × Row)) → left ≡ [] → RowsCopied whole done left → counts_in done ≡ counts_in whole
+pub counts_copied : (whole done : Rows) (left : List (Term × Row)) → left ≡ [] → RowsCopied whole done left → tallied_in done ≡ tallied_in whole
 counts_copied whole done left is copied = fun_ext (λ i. fun_ext (λ q. through ℕ (λ t. t.1.0 i) 0 (get term_cmp done q)
     ∙ (ap (λ (o : Option Told). option_map_or (λ (t : Told). t.1.0 i) o 0) (all_told whole done left is copied q) ∙ sym (through ℕ (λ t. t.1.0 i) 0 (get term_cmp whole q)))))
 

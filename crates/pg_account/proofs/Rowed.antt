@@ -13,7 +13,7 @@ use Rattle.pg_term.proofs.Same.{same_term as term_is}
 use Rattle.pg_group.specs.Functions.{upd}
 use Rattle.pg_left.specs.Missed.{last_applied, marked_after}
 use Rattle.pg_account.specs.declared.row.Row.{Row}
-use Rattle.pg_account.specs.Histories.{count_at, counts_in, marked_entries_in, marked_entries_of}
+use Rattle.pg_account.specs.Histories.{count_at, tallied_in, marked_entries_in, marked_entries_of}
 
 abbrev Rows : Type 0
 Rows = BTreeMap Term Row
@@ -88,18 +88,18 @@ module _ (m n : Rows) (name : Term) (old : Option Row) (new : Row) (had : get te
       go false false taken d = refl
 
   pub more_counts : (old_row : Row) (node : ℕ) → old ≡ Some old_row → count_at new.tally ≡ upd nat_eq (count_at old_row.tally) node (count_at old_row.tally node + 1)
-      → (i : ℕ) (q : Term) → counts_in n i q ≡ counts_in m i q + cond (nat_eq node i && same_term q name) 1 0
+      → (i : ℕ) (q : Term) → tallied_in n i q ≡ tallied_in m i q + cond (nat_eq node i && same_term q name) 1 0
   unfolding upd
   more_counts old_row node is more i q = read (λ row. count_at row.tally i) 0 q ∙ go (nat_eq node i) (same_term q name) refl (term_is q name)
     where
-      before_is : q ≡ name → count_at old_row.tally i ≡ counts_in m i q
+      before_is : q ≡ name → count_at old_row.tally i ≡ tallied_in m i q
       before_is e = ap (λ o. option_map_or (λ (row : Row). count_at row.tally i) o 0) (sym is) ∙ here (λ row. count_at row.tally i) 0 q e
 
       now_is : (c : Bool) → nat_eq node i ≡ c → count_at new.tally i ≡ cond c (count_at old_row.tally node + 1) (count_at old_row.tally i)
       now_is c e = ap (λ (g : ℕ → ℕ). g i) more ∙ ap (λ b. cond b (count_at old_row.tally node + 1) (count_at old_row.tally i)) e
 
-      go : (c b : Bool) → nat_eq node i ≡ c → (b ≡ true → q ≡ name) → cond b (count_at new.tally i) (counts_in m i q) ≡ counts_in m i q + cond (c && b) 1 0
+      go : (c b : Bool) → nat_eq node i ≡ c → (b ≡ true → q ≡ name) → cond b (count_at new.tally i) (tallied_in m i q) ≡ tallied_in m i q + cond (c && b) 1 0
       go true true e d = now_is true e ∙ ap (λ k. k + 1) (ap (λ k. count_at old_row.tally k) (eqb-true node i e) ∙ before_is (d refl))
-      go false true e d = now_is false e ∙ (before_is (d refl) ∙ none_more (counts_in m i q))
-      go true false e d = none_more (counts_in m i q)
-      go false false e d = none_more (counts_in m i q)
+      go false true e d = now_is false e ∙ (before_is (d refl) ∙ none_more (tallied_in m i q))
+      go true false e d = none_more (tallied_in m i q)
+      go false false e d = none_more (tallied_in m i q)

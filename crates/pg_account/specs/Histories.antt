@@ -63,8 +63,8 @@ HasRowRoom row node = (vec_len row.entries < vec_capacity row.entries) × CanCou
 abbrev pub entries_in : BTreeMap Term Row → Term → List history.Entry
 entries_in rows name = option_map_or entries_of (get term_cmp rows name) []
 
-abbrev pub counts_in : BTreeMap Term Row → ℕ → Term → ℕ
-counts_in rows node name = option_map_or (λ row. count_at row.tally node) (get term_cmp rows name) 0
+abbrev pub tallied_in : BTreeMap Term Row → ℕ → Term → ℕ
+tallied_in rows node name = option_map_or (λ row. count_at row.tally node) (get term_cmp rows name) 0
 
 abbrev pub marked_entries_in : BTreeMap Term Row → ℕ → Term → Marked
 marked_entries_in rows node name = option_map_or (λ row. marked_entries_of row node) (get term_cmp rows name) []
@@ -96,7 +96,7 @@ history_in histories name = entries_in histories.rows name ++ of_group name (las
 
 -- how many updates of a group a node has applied
 abbrev pub applied_in : Histories → ℕ → Term → ℕ
-applied_in histories i name = counts_in histories.rows i name + last_count histories.last i name
+applied_in histories i name = tallied_in histories.rows i name + last_count histories.last i name
 
 -- the history of each group, each update with a mark that says whether a node has applied it
 abbrev pub marked_in : Histories → ℕ → Term → Marked

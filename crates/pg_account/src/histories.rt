@@ -38,7 +38,7 @@ impl Histories {
     ghost use Rattle.pg_account.specs.Histories.{account_of, history_in, applied_in, marked_in, no_account, begun_by, one_of};
     ghost use Rattle.pg_account.specs.Histories.{last_entries, last_count, as_entry, entries_in};
     ghost use Rattle.pg_account.specs.Histories.{account_formed, as_marked, is_among, last_marks};
-    ghost use Rattle.pg_account.specs.Histories.{counts_in, AreInRows, LastHasRow, CanServe};
+    ghost use Rattle.pg_account.specs.Histories.{tallied_in, AreInRows, LastHasRow, CanServe};
 
     /// Nothing has begun.
     ///

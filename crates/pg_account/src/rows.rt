@@ -7,7 +7,7 @@ ghost use Rattle.pg_term.specs.Same.{term_cmp};
 ghost use Rattle.pg_group.specs.Value.{name_of};
 ghost use Rattle.pg_history.specs.History.{is_update_of, of_group};
 ghost use Rattle.pg_left.specs.Missed.{marked_after};
-ghost use Rattle.pg_account.specs.Histories.{as_entry, as_marked, entries_in, counts_in, last_marks, marked_entries_in, one_of, HasRow};
+ghost use Rattle.pg_account.specs.Histories.{as_entry, as_marked, entries_in, tallied_in, last_marks, marked_entries_in, one_of, HasRow};
 
 use crate::entry::Entry;
 use crate::row::Row;
@@ -26,7 +26,7 @@ pub(crate) type Rows = BTreeMap<Term, Row>;
 /// Cost: that of the copies: O(n log n) in the groups that were named.
 pub(crate) fn copy(rows: &Rows, alloc: Global) -> Result<Rows, AllocError>
     ensures entries { IfOk result (λ copy. entries_in copy ≡ entries_in rows.now) }
-    ensures counts { IfOk result (λ copy. counts_in copy ≡ counts_in rows.now) }
+    ensures counts { IfOk result (λ copy. tallied_in copy ≡ tallied_in rows.now) }
     ensures marks { IfOk result (λ copy. marked_entries_in copy ≡ marked_entries_in rows.now) }
 {
     let mut copy = BTreeMap::new(alloc);
@@ -41,7 +41,7 @@ pub(crate) fn copy(rows: &Rows, alloc: Global) -> Result<Rows, AllocError>
 /// Errors: `AllocError`, which changes nothing.
 fn open_row(rows: &mut Rows, alloc: Global, name: &Term) -> Result<(), AllocError>
     ensures entries { entries_in rows.new ≡ entries_in rows.old }
-    ensures counts { counts_in rows.new ≡ counts_in rows.old }
+    ensures counts { tallied_in rows.new ≡ tallied_in rows.old }
     ensures marks { marked_entries_in rows.new ≡ marked_entries_in rows.old }
     ensures there { OnOk result (IsSome (get term_cmp rows.new name.now)) }
 {
@@ -63,7 +63,7 @@ pub(crate) fn make_room(
     node: usize,
 ) -> Result<(), AllocError>
     ensures entries { entries_in rows.new ≡ entries_in rows.old }
-    ensures counts { counts_in rows.new ≡ counts_in rows.old }
+    ensures counts { tallied_in rows.new ≡ tallied_in rows.old }
     ensures marks { marked_entries_in rows.new ≡ marked_entries_in rows.old }
     ensures room { OnOk result (HasRow rows.new name.now node) }
 {
@@ -80,8 +80,8 @@ pub(crate) fn make_room(
 pub(crate) fn serve(rows: &mut Rows, update: &Update, node: usize)
     requires { HasRow rows.old (name_of update.now) node }
     ensures entries { entries_in rows.new ≡ entries_in rows.old }
-    ensures counts { (i : ℕ) (name : Term) → counts_in rows.new i name
-        ≡ counts_in rows.old i name + one_of node i name (Some update.now) }
+    ensures counts { (i : ℕ) (name : Term) → tallied_in rows.new i name
+        ≡ tallied_in rows.old i name + one_of node i name (Some update.now) }
     ensures marks { (i : ℕ) (name : Term) → i < 16 → marked_entries_in rows.new i name
         ≡ marked_after [] (nat_eq node i && is_update_of name (Some update.now)) (marked_entries_in rows.old i name) }
 {
@@ -98,8 +98,8 @@ pub(crate) fn begin(rows: &mut Rows, entry: Entry)
     requires { HasRow rows.old (name_of entry.update) entry.node }
     ensures entries { (name : Term) → entries_in rows.new name
         ≡ entries_in rows.old name ++ of_group name (as_entry entry ∷ []) }
-    ensures counts { (i : ℕ) (name : Term) → counts_in rows.new i name
-        ≡ counts_in rows.old i name + one_of entry.node i name (Some entry.update) }
+    ensures counts { (i : ℕ) (name : Term) → tallied_in rows.new i name
+        ≡ tallied_in rows.old i name + one_of entry.node i name (Some entry.update) }
     ensures marks { (i : ℕ) (name : Term) → marked_entries_in rows.new i name ≡ marked_entries_in rows.old i name ++ last_marks (Some entry) i name }
 {
     match rows.get_mut(entry.update.name()) {
@@ -125,7 +125,7 @@ pub(crate) fn entries<'a>(rows: &'a Rows, name: &Term) -> &'a [Entry]
 ///
 /// Cost: no memory.
 pub(crate) fn count(rows: &Rows, node: usize, name: &Term) -> u64
-    ensures { result ≡ counts_in rows.now node name.now }
+    ensures { result ≡ tallied_in rows.now node name.now }
 {
     match rows.get(name) {
         Some(row) => row.tally.count(node),

@@ -30,7 +30,7 @@ use Rattle.pg_frame_world.specs.Openings.{CantBegin}
 use Rattle.pg_frame_world.specs.Runs.{IsTold, ChangesNothing, LosesNone, Ran, RunsTo, over_packets, number_told}
 use Rattle.pg_starts.specs.Seen.{Seen}
 use Rattle.pg_frame_world.specs.Views.{View}
-use Rattle.pg_frame_world.specs.Worlds.{TimedFrameWorld, ShowsWorld, ShowsNode, ShowsNodes, event_of, told, told_of_first}
+use Rattle.pg_frame_world.specs.Worlds.{TimedFrameWorld, ShowsWorld, ShowsNode, ShowsNodes, event_of, told_event, told_of_first}
 use Rattle.pg_cluster.specs.Judges.{AreShown, Replays, all_made, ran_out}
 use Rattle.pg_cluster.specs.Threads.{NodeOf}
 use Rattle.pg_cluster.specs.Together.{AreOneRun}
@@ -52,7 +52,7 @@ turn_told config clock (Ok made) turn e = (at_clock clock made, go (nat_le clock
     go false is = absurd cc
 
 -- the node tells a turn of an event that happens
-pub turn_is_told : (config : Config) (w u : TimedFrameWorld) (e : Event Action) → happens (frame_machine config) w e ≡ Some u → (turn : TimedTurn) × (told config w e ≡ Some (Ok turn))
+pub turn_is_told : (config : Config) (w u : TimedFrameWorld) (e : Event Action) → happens (frame_machine config) w e ≡ Some u → (turn : TimedTurn) × (told_event config w e ≡ Some (Ok turn))
 turn_is_told config w u (Take i p) happened =
     let t = (took (frame_machine config) w u i p).0 happened in
     let m = nodes_at config i in

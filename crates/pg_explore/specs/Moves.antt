@@ -34,12 +34,12 @@ told_planned config u (Some planned.Loss) = None
 told_planned config u None = None
 
 -- What is told of a step in a world with losses; None where nothing is planned.
-abbrev pub told : Config → LosingFrameWorld → List Plan → List Progress → Move → Option Telling
-told config u plans progress (Take i p) = Some (told_take config u i p)
-told config u plans progress (Next i) = told_planned config u (planned_next plans progress i)
-told config u plans progress (Loss i keep) = Some (told_loss config u i keep)
-told config u plans progress (Retry i op) = Some (told_own config u i (tried_again op))
-told config u plans progress (SeeLoss i p) = Some (told_sight config u i p)
+abbrev pub told_move : Config → LosingFrameWorld → List Plan → List Progress → Move → Option Telling
+told_move config u plans progress (Take i p) = Some (told_take config u i p)
+told_move config u plans progress (Next i) = told_planned config u (planned_next plans progress i)
+told_move config u plans progress (Loss i keep) = Some (told_loss config u i keep)
+told_move config u plans progress (Retry i op) = Some (told_own config u i (tried_again op))
+told_move config u plans progress (SeeLoss i p) = Some (told_sight config u i p)
 
 -- ---- what comes of it
 
@@ -51,7 +51,7 @@ HasHappened config u (Some telling) Shown = (telling.is_idle ≡ false) × Losin
 -- a step led from one moment to another: whatever world of the machine the one shows, its event happens there, and the other shows what it leaves
 pub record MoveLeads (plans : List Plan) (old : Sight) (step : Move) (new : Sight) : Type 0 where
   pub event : (config : Config) (u : LosingFrameWorld) → ShowsLosing config old.view old.lost u
-      → HasHappened config u (told config u plans old.progress step) (ShowsLosing config new.view new.lost)
+      → HasHappened config u (told_move config u plans old.progress step) (ShowsLosing config new.view new.lost)
   pub progress : new.progress ≡ progress_after step old.progress
 
 -- nothing is planned, no packet is on the way, or it is refused
@@ -61,7 +61,7 @@ IsBarred (Some telling) = (telling.is_idle ≡ true) ⊎ ((refusal : Refusal) ×
 
 -- a step does not happen at a moment: whatever world of the machine it shows, it is barred there
 abbrev pub Stays : List Plan → Sight → Move → Type 0
-Stays plans sight step = (config : Config) (u : LosingFrameWorld) → ShowsLosing config sight.view sight.lost u → IsBarred (told config u plans sight.progress step)
+Stays plans sight step = (config : Config) (u : LosingFrameWorld) → ShowsLosing config sight.view sight.lost u → IsBarred (told_move config u plans sight.progress step)
 
 -- what came of a step
 abbrev pub ComesOf : List Plan → Sight → Move → Option Moment → Type 0
@@ -101,4 +101,4 @@ abbrev pub MakesLoss : ℕ → List ℕ → View → List ℕ → View → List 
 MakesLoss i keep old lost new now b = MakesTold (λ config u. Some (told_loss config u i keep)) old lost new now b
 
 abbrev pub Makes : List Plan → List Progress → Move → View → List ℕ → View → List ℕ → Bool → Type 0
-Makes plans progress step old lost new now b = MakesTold (λ config u. told config u plans progress step) old lost new now b
+Makes plans progress step old lost new now b = MakesTold (λ config u. told_move config u plans progress step) old lost new now b

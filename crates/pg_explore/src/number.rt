@@ -2,7 +2,7 @@
 
 ghost use Rattle.std.specs.Prelude.{◌≡◌, ◌<◌, [], fold, get_or, length, map};
 ghost use Rattle.std.specs.Option.{option_copied, option_map_or};
-ghost use Rattle.pg_node_state.specs.States.{stamped_of};
+ghost use Rattle.pg_sends.specs.Sent.{stamped_of};
 ghost use Rattle.pg_frame_world.specs.Alike.{without_clock, without_stamps};
 ghost use Rattle.pg_starts.specs.Seen.{seen_of};
 ghost use Rattle.pg_frame_world.specs.FrameWorlds.{traffic_of};

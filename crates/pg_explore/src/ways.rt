@@ -2,7 +2,7 @@
 
 ghost use Rattle.std.specs.Prelude.{◌≡◌, ◌≢◌, ◌<◌, ◌≤◌, ◌+◌, ◌^◌, [], get_or, length, map};
 ghost use Rattle.pg_frame_world.specs.Views.{peer_place};
-ghost use Rattle.pg_node_state.specs.States.{stamped_of};
+ghost use Rattle.pg_sends.specs.Sent.{stamped_of};
 ghost use Rattle.pg_frame_world.specs.FrameWorlds.{traffic_of};
 ghost use Rattle.pg_explore.specs.Moments.{IsSized};
 

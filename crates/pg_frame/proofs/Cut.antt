@@ -6,7 +6,7 @@ use Rattle.std.proofs.lemmas.List.{append_assoc, append-nil, take-append-drop}
 use Rattle.pg_frame.specs.declared.fault.TooLong.{TooLong}
 use Rattle.pg_frame.specs.Frames.{IsBody, frame, front_of, behind, too_long}
 use Rattle.pg_frame.specs.Laws.{PiecesContinue, TakingLeavesOthers, WrittenIsRead}
-use Rattle.pg_frame.specs.Pieces.{Bytes, all_of, pull, frames_of, ArePackets, AreShort, AreCut, StayWhole, FirstOfCut}
+use Rattle.pg_frame.specs.Pieces.{Bytes, bytes_on_way, pull, frames_of, ArePackets, AreShort, AreCut, StayWhole, FirstOfCut}
 
 pub cut_pulled : {P : Type 0} (write : P → List ℕ) (packets : List P) (b : Bytes) (count : ℕ) → AreCut write packets b → AreCut write packets (pull count b)
 cut_pulled write packets b count cut = record {

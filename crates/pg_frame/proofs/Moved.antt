@@ -3,14 +3,14 @@ use Rattle.std.specs.Prelude.{◌≡◌, ℕ, List, [], ◌∷◌, ◌++◌, tak
 use Rattle.std.proofs.Common.{sym, ap, ◌∙◌}
 use Rattle.std.proofs.lemmas.List.{append_assoc, take-append-drop}
 use Rattle.pg_frame.specs.Frames.{frame}
-use Rattle.pg_frame.specs.Pieces.{Bytes, all_of, ring_put, pull, sent, frames_of, ArePackets}
+use Rattle.pg_frame.specs.Pieces.{Bytes, bytes_on_way, ring_put, pull, put_out, frames_of, ArePackets}
 
-put-keeps : (count : ℕ) (b : Bytes) → all_of (ring_put count b) ≡ all_of b
+put-keeps : (count : ℕ) (b : Bytes) → bytes_on_way (ring_put count b) ≡ bytes_on_way b
 put-keeps count b = ap (λ xs. b.came ++ xs)
     (append_assoc b.ring (take count b.outbox) (drop count b.outbox)
     ∙ ap (λ xs. b.ring ++ xs) (take-append-drop count b.outbox))
 
-pull-keeps : (count : ℕ) (b : Bytes) → all_of (pull count b) ≡ all_of b
+pull-keeps : (count : ℕ) (b : Bytes) → bytes_on_way (pull count b) ≡ bytes_on_way b
 pull-keeps count b = append_assoc b.came (take count b.ring) (drop count b.ring ++ b.outbox)
     ∙ ap (λ xs. b.came ++ xs)
     (sym (append_assoc (take count b.ring) (drop count b.ring) b.outbox)
@@ -28,7 +28,7 @@ frames-append write (x ∷ xs) ys = ap (λ zs. frame (write x) ++ zs) (frames-ap
     ∙ sym (append_assoc (frame (write x)) (frames_of write xs) (frames_of write ys))
 
 pub sent_packets : {P : Type 0} (write : P → List ℕ) (packets others : List P) (b : Bytes) → ArePackets write packets b
-    → ArePackets write (packets ++ others) (sent (frames_of write others) b)
+    → ArePackets write (packets ++ others) (put_out (frames_of write others) b)
 sent_packets write packets others b are =
     let more : List ℕ = frames_of write others in
     ap (λ xs. b.came ++ xs) (sym (append_assoc b.ring b.outbox more))

@@ -5,7 +5,7 @@ use Rattle.std.proofs.Common.{sym, ap, ◌∙◌, subst}
 use Rattle.std.proofs.lemmas.List.{append_assoc, append-nil}
 use Rattle.pg_frame.specs.Frames.{IsBody, frame, front_of, behind, too_long}
 use Rattle.pg_frame.specs.Laws.{PiecesContinue, TakingLeavesOthers, WrittenIsRead}
-use Rattle.pg_frame.specs.Pieces.{Bytes, all_of, frames_of, ArePackets, AreShort, FirstPacket, FirstPackets}
+use Rattle.pg_frame.specs.Pieces.{Bytes, bytes_on_way, frames_of, ArePackets, AreShort, FirstPacket, FirstPackets}
 
 -- the first packet of frames that begin with a body
 record Begins {P : Type 0} (write : P → List ℕ) (packets : List P) (body : List ℕ) : Type 0 where
@@ -61,7 +61,7 @@ lawful_front more read write packets b short are e =
 pub whole_frame : {P : Type 0} (read : WrittenIsRead) (write : P → List ℕ) (x : P) (xs : List P) (b : Bytes)
     → AreShort write (x ∷ xs) → ArePackets write (x ∷ xs) b → b.ring ≡ [] → b.outbox ≡ [] → front_of b.came ≡ Ok (Some (write x))
 whole_frame read write x xs b short are ring outbox =
-    let all : b.came ≡ all_of b = sym (ap (λ ys. b.came ++ (ys ++ b.outbox)) ring ∙ ap (λ ys. b.came ++ ys) outbox ∙ append-nil b.came) in
+    let all : b.came ≡ bytes_on_way b = sym (ap (λ ys. b.came ++ (ys ++ b.outbox)) ring ∙ ap (λ ys. b.came ++ ys) outbox ∙ append-nil b.came) in
     ap front_of (all ∙ are) ∙ read.front (write x) (frames_of write xs) short.0
 
 pub first_packets : {P : Type 0} (read : WrittenIsRead) (write : P → List ℕ) (packets : List P) (bodies : List (List ℕ)) (after : List ℕ)

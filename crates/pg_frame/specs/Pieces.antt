@@ -13,8 +13,8 @@ pub record Bytes : Type 0 where
   pub came : List ℕ
 
 -- in the order in which they are taken
-abbrev pub all_of : Bytes → List ℕ
-all_of bytes = bytes.came ++ (bytes.ring ++ bytes.outbox)
+abbrev pub bytes_on_way : Bytes → List ℕ
+bytes_on_way bytes = bytes.came ++ (bytes.ring ++ bytes.outbox)
 
 -- the frames of packets, one behind the other
 abbrev pub frames_of : {P : Type 0} → (P → List ℕ) → List P → List ℕ
@@ -26,7 +26,7 @@ AreShort write packets = AllByRecursion (λ x. IsBody (write x)) packets
 
 -- the bytes on the way are these packets
 abbrev pub ArePackets : {P : Type 0} → (P → List ℕ) → List P → Bytes → Type 0
-ArePackets write packets bytes = all_of bytes ≡ frames_of write packets
+ArePackets write packets bytes = bytes_on_way bytes ≡ frames_of write packets
 
 -- ---- what moves
 
@@ -39,8 +39,8 @@ abbrev pub pull : ℕ → Bytes → Bytes
 pull count bytes = record bytes { ring = drop count bytes.ring; came = bytes.came ++ take count bytes.ring }
 
 -- more is written
-abbrev pub sent : List ℕ → Bytes → Bytes
-sent more bytes = record bytes { outbox = bytes.outbox ++ more }
+abbrev pub put_out : List ℕ → Bytes → Bytes
+put_out more bytes = record bytes { outbox = bytes.outbox ++ more }
 
 -- the first whole frame that came is taken out
 abbrev pub piece_taken : Bytes → Bytes

@@ -5,7 +5,7 @@
 ghost use Rattle.std.specs.Prelude.{◌≡◌, ◌≢◌, ◌∷◌, ◌++◌, ℕ, List, [], Ok, Err, Some};
 ghost use Rattle.std.specs.List.{AllByRecursion, flat_map};
 ghost use Rattle.pg_frame.specs.Frames.{IsBody, frame, front_of, too_long};
-ghost use Rattle.pg_frame.specs.Pieces.{Bytes, ArePackets, AreShort, frames_of, ring_put, pull, sent, piece_taken};
+ghost use Rattle.pg_frame.specs.Pieces.{Bytes, ArePackets, AreShort, frames_of, ring_put, pull, put_out, piece_taken};
 ghost use Rattle.pg_frame.specs.Pieces.{FirstPacket, FirstPackets, AreCut, StayWhole, FirstOfCut};
 
 use crate::laws::{pieces_continue, taking_leaves_others, written_is_read};
@@ -21,7 +21,7 @@ pub fn moving_keeps_packets<P>()
 /// Frames that are added to the outbox are so many packets more, after those on the way.
 pub fn sending_adds_packets<P>()
     ensures { (write : P → List ℕ) (packets others : List P) (bytes : Bytes)
-        → ArePackets write packets bytes → ArePackets write (packets ++ others) (sent (frames_of write others) bytes) }
+        → ArePackets write packets bytes → ArePackets write (packets ++ others) (put_out (frames_of write others) bytes) }
 {}
 
 /// The first whole frame of what came is the first packet, and without it the others are on the way. No overlong frame comes.

@@ -40,7 +40,7 @@ use Rattle.pg_account.specs.Losses.{is_lost}
 use Rattle.pg_starts.specs.Seen.{Seen}
 use Rattle.pg_frame_world.specs.Views.{View, peer_place}
 use Rattle.pg_frame_world.specs.Worlds.{TimedFrameWorld, ShowsNodes, ShowsNode, ShowsWorld}
-use Rattle.pg_frame_world.specs.Worlds.{ComesTo, has_port, has_places, told, told_of_first}
+use Rattle.pg_frame_world.specs.Worlds.{ComesTo, has_port, has_places, told_event, told_of_first}
 use Rattle.pg_frame_world.proofs.Lossy.{lifted, same_effect, lost_kept}
 use Rattle.pg_frame_world.proofs.Peering.{lt_false, peer_name, named, there_and_back}
 use Rattle.pg_frame_world.proofs.Turning.{pair_is}
@@ -181,16 +181,16 @@ module _ (config : Config) (nodes : List Seen) (w : TimedFrameWorld) (lost : Lis
     pub take_cut : (is_lost lost i || (w.node i).state.lost (name_at config p)) ≡ false
     take_cut = sym (cut_is config nodes w lost shows seen i p take_pair) ∙ lives
 
-    told_first : told config w (Take i p) ≡ told_of_first (nodes_at config i) (name_at config p) (w.node i) (w.wire p i)
+    told_first : told_event config w (Take i p) ≡ told_of_first (nodes_at config i) (name_at config p) (w.node i) (w.wire p i)
     told_first = ap (λ b. cond b (told_of_first (nodes_at config i) (name_at config p) (w.node i) (w.wire p i)) (Some (Err NoSuchPlace))) take_pair
 
     refusal_is : take_refusal config (losing_of config w lost) i p ≡ first_refusal (nodes_at config i) (name_at config p) (w.node i) (map sent_packet (w.wire p i) ++ notices config w lost p i)
     refusal_is = take_barred config nodes w lost shows seen i p true false take_pair take_cut
 
-    pub take_refused_so : (r : Refusal) → told config w (Take i p) ≡ Some (Err r) → take_refusal config (losing_of config w lost) i p ≡ Some r
+    pub take_refused_so : (r : Refusal) → told_event config w (Take i p) ≡ Some (Err r) → take_refusal config (losing_of config w lost) i p ≡ Some r
     take_refused_so r e = refusal_is ∙ first_told (nodes_at config i) (name_at config p) (w.node i) (w.wire p i) (notices config w lost p i) r (sym told_first ∙ e)
 
-    pub take_idle_so : told config w (Take i p) ≡ None → (none_sent (map sent_packet (w.wire p i) ++ notices config w lost p i) ≡ true) × (take_refusal config (losing_of config w lost) i p ≡ None)
+    pub take_idle_so : told_event config w (Take i p) ≡ None → (none_sent (map sent_packet (w.wire p i) ++ notices config w lost p i) ≡ true) × (take_refusal config (losing_of config w lost) i p ≡ None)
     take_idle_so e = let none = only_notices (nodes_at config i) (name_at config p) (w.node i) (w.node p) (w.wire p i) (is_pair (length config) p i && (is_lost lost p && not ((w.node i).state.lost (name_at config p)))) (sym told_first ∙ e) in
         (none.0, refusal_is ∙ none.1)
 
@@ -198,7 +198,7 @@ module _ (config : Config) (nodes : List Seen) (w : TimedFrameWorld) (lost : Lis
     take_busy_so v is_so = let h = happened (frame_machine config) w v (Take i p) is_so in taken_sent p (w.wire p i) (notices config w lost p i) h.input h.given
 
   pub own_refused_so : (i : ℕ) (action : Action) → has_port nodes i (port_of action) ≡ true → is_lost lost i ≡ false
-      → (r : Refusal) → told config w (Do i action) ≡ Some (Err r) → own_refusal config (losing_of config w lost) i action ≡ Some r
+      → (r : Refusal) → told_event config w (Do i action) ≡ Some (Err r) → own_refusal config (losing_of config w lost) i action ≡ Some r
   own_refused_so i action places stays r e =
       let there : (is_place (length config) i && nat_lt (port_of action) (ports_at config i)) ≡ true = sym (port_is config nodes w lost shows i (port_of action)) ∙ places in
       let same : cond (is_place (length config) i) (step_act (nodes_at config i) (ports_at config i) action (w.node i)) (Err NoSuchPlace) ≡ Err r = some_is e in
@@ -221,7 +221,7 @@ module _ (config : Config) (old new : View) (lost lost2 : List ℕ) (w : TimedFr
   }
 
   module _ (e : Event Action) (tells : Telling) (event : tells.event ≡ Step e) (loss : tells.is_loss ≡ false) (stays : is_lost lost (node_of e) ≡ false)
-      (refused : (r : Refusal) → told config w e ≡ Some (Err r) → tells.refusal ≡ Some r) (idle : told config w e ≡ None → (tells.is_idle ≡ true) × (tells.refusal ≡ None))
+      (refused : (r : Refusal) → told_event config w e ≡ Some (Err r) → tells.refusal ≡ Some r) (idle : told_event config w e ≡ None → (tells.is_idle ≡ true) × (tells.refusal ≡ None))
       (busy : (v : TimedFrameWorld) → happens (frame_machine config) w e ≡ Some v → tells.is_idle ≡ false) where
     led : (v : TimedFrameWorld) → happens (frame_machine config) w e ≡ Some v → ShowsWorld config new v → LosingLed config (losing_of config w lost) tells.event (ShowsLosing config new lost2)
     led v is shown =

@@ -7,8 +7,8 @@ use Rattle.pg_message.specs.declared.message.Message.{Message}
 use Rattle.pg_message.specs.declared.packet.Packet.{Packet}
 use Rattle.pg_machine.specs.Clocked.{Stamped}
 use Rattle.pg_step.specs.Nodes.{Node}
-use Rattle.pg_node_state.specs.Sendable.{IsSendable}
-use Rattle.pg_node_state.specs.States.{stamped_of}
+use Rattle.pg_sends.specs.Sendable.{IsSendable}
+use Rattle.pg_sends.specs.Sent.{stamped_of}
 use Rattle.pg_frame_world.specs.Effects.{sum_below}
 use Rattle.pg_frame_world.specs.Views.{peer_place, place_of_peer, packets_to}
 use Rattle.pg_frame_world.proofs.Peering.{own_place, same_place, peer_low, peer_high, low_or_high}

@@ -12,7 +12,7 @@ use Rattle.pg_message.specs.declared.packet.TheConstants.{MAX_STAMP}
 use Rattle.pg_message.specs.Reading.{is_named_once}
 use Rattle.pg_message.specs.Writing.{is_sayable, body_of, length_of, sent, term_of_packet}
 use Rattle.pg_message.proofs.ReadBack.{read_back}
-use Rattle.pg_node_state.specs.Opening.{IsAnnouncement}
+use Rattle.pg_sends.specs.Opening.{IsAnnouncement}
 use Rattle.pg_step.specs.Nodes.{Node}
 use Rattle.pg_term_io.specs.declared.limits.TheConstants.{MAX_LEN}
 use Rattle.pg_term_io.specs.Writing.{written}

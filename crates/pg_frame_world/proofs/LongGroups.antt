@@ -22,7 +22,7 @@ use Rattle.pg_exchange.specs.GroupList.{GroupList, IsSnapshot, announced_table, 
 use Rattle.pg_message.specs.declared.message.Message.TheVariants.{Exchange}
 use Rattle.pg_message.specs.declared.packet.Packet.{Packet}
 use Rattle.pg_message.specs.Writing.{group_term, term_of_packet}
-use Rattle.pg_node_state.specs.Opening.{IsAnnouncement}
+use Rattle.pg_sends.specs.Opening.{IsAnnouncement}
 use Rattle.pg_opens.specs.Places.{name_at}
 use Rattle.pg_opens.proofs.Alike.{both_true}
 use Rattle.pg_opens.proofs.Named.{clash}

@@ -11,7 +11,7 @@ use Rattle.pg_group.proofs.Lists.{member_list_one}
 use Rattle.pg_exchange.specs.GroupList.{GroupList, IsSnapshot, announced_names}
 use Rattle.pg_message.specs.declared.message.Message.TheVariants.{Exchange}
 use Rattle.pg_message.specs.declared.packet.Packet.{Packet}
-use Rattle.pg_node_state.specs.Opening.{IsAnnouncement}
+use Rattle.pg_sends.specs.Opening.{IsAnnouncement}
 use Rattle.pg_opens.specs.Places.{name_at as name_of}
 use Rattle.pg_ring.specs.Capacity.{IsCapacity}
 use Rattle.pg_step.specs.declared.start.Start.{Start}

@@ -12,8 +12,8 @@ use Rattle.pg_step.specs.Config.{Config, names_of, name_at as config_name, nodes
 use Rattle.pg_step.specs.Nodes.{Node, all_of}
 use Rattle.pg_opens.specs.Places.{name_at}
 use Rattle.pg_opens.proofs.Named.{atom_self, names_differ}
-use Rattle.pg_node_state.specs.States.{stamped_of, sends_in}
-use Rattle.pg_node_state.specs.Sendable.{IsSendable}
+use Rattle.pg_sends.specs.Sent.{stamped_of, sends_in}
+use Rattle.pg_sends.specs.Sendable.{IsSendable}
 use Rattle.pg_frame_world.specs.Views.{peer_place, place_of_peer, packets_to}
 
 pub lt_false : (a b : ℕ) → b ≤ a → nat_lt a b ≡ false

@@ -15,10 +15,10 @@ use Rattle.pg_step.specs.Step.{Action, step_take, step_act}
 use Rattle.pg_step.specs.declared.answer.Answer.{Answer}
 use Rattle.pg_step.specs.declared.command.OpId.{OpId}
 use Rattle.pg_opens.specs.Places.{whole_in, name_at as place_name}
-use Rattle.pg_node_state.specs.declared.state.done.Done.{Done}
+use Rattle.pg_sends.specs.declared.done.Done.{Done}
 use Rattle.pg_node_state.specs.declared.state.fault.NodeFault.{NodeFault}
 use Rattle.pg_node_state.specs.States.{Comes}
-use Rattle.pg_node_state.specs.Sendable.{AreSendable}
+use Rattle.pg_sends.specs.Sendable.{AreSendable}
 use Rattle.pg_frame_world.specs.declared.effect.Effect.{Effect}
 use Rattle.pg_frame_world.specs.declared.step.Stepped.TheVariants.{Happened, Nothing}
 use Rattle.pg_account.specs.Histories.{update_asked_by}

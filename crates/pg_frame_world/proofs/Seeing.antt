@@ -19,7 +19,7 @@ use Rattle.pg_step.specs.State.{State}
 use Rattle.pg_step.specs.Step.{CLOCK_LIMIT, TimedTurn, at_clock, timed}
 use Rattle.pg_step.specs.StepLaws.{is_full}
 use Rattle.pg_opens.specs.Places.{name_at as place_name}
-use Rattle.pg_node_state.specs.declared.state.done.Done.{Done}
+use Rattle.pg_sends.specs.declared.done.Done.{Done}
 use Rattle.pg_node_state.specs.declared.state.fault.NodeFault.{NodeFault}
 use Rattle.pg_node_state.specs.declared.state.fault.NodeFault.TheVariants.{Refused, OutOfMemory}
 use Rattle.pg_node_state.specs.declared.state.fault.NodeFault.TheVariants.{Message as BadMessage, TooLong, Damaged}

@@ -14,8 +14,8 @@ use Rattle.pg_message.specs.Members.{IsShort}
 use Rattle.pg_message.specs.Writing.{is_exchange}
 use Rattle.pg_machine.specs.Clocked.{Stamped}
 use Rattle.pg_step.specs.Nodes.{Node}
-use Rattle.pg_node_state.specs.Sendable.{IsSendable, Ascends}
-use Rattle.pg_node_state.specs.States.{stamped_of}
+use Rattle.pg_sends.specs.Sendable.{IsSendable, Ascends}
+use Rattle.pg_sends.specs.Sent.{stamped_of}
 use Rattle.pg_frame_world.specs.declared.way.Way.{Way}
 use Rattle.pg_frame_world.specs.Views.{packets_of, packets_to, HasWayRoom, FitWays}
 use Rattle.pg_frame_world.proofs.Turning.{set_here, set_other}

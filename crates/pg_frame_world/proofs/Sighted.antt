@@ -25,7 +25,7 @@ use Rattle.pg_step.specs.Step.{CLOCK_LIMIT, Action, Retry, TimedTurn, at_clock}
 use Rattle.pg_step.specs.StepLaws.{place_timed}
 use Rattle.pg_step.specs.Turns.{Report, NodeTurn}
 use Rattle.pg_opens.proofs.Named.{atom_self, names_differ}
-use Rattle.pg_node_state.specs.declared.state.done.Done.{Done}
+use Rattle.pg_sends.specs.declared.done.Done.{Done}
 use Rattle.pg_node_state.specs.States.{Happens}
 use Rattle.pg_frame_world.specs.Effects.{sum_below, effect_of, losing_effect_in, no_effect}
 use Rattle.pg_frame_world.specs.Losing.{SeenAreLost, notices, losing_of}

@@ -20,7 +20,8 @@ use Rattle.pg_step.specs.Config.{Config, names_of, name_at, groups_at, first_tab
 use Rattle.pg_step.specs.FrameMachine.{frame_machine}
 use Rattle.pg_opens.specs.Places.{name_at as place_name}
 use Rattle.pg_node_state.specs.declared.state.NodeState.{NodeState}
-use Rattle.pg_node_state.specs.States.{kept_by, stamped_of}
+use Rattle.pg_node_state.specs.States.{kept_by}
+use Rattle.pg_sends.specs.Sent.{stamped_of}
 use Rattle.pg_frame_world.specs.declared.outgoing.Outgoing.{Outgoing}
 use Rattle.pg_starts.specs.Seen.{Seen, seen_of}
 use Rattle.pg_frame_world.specs.Views.{ways_of, fresh_view, traffic_in, peer_place, on_the_way, IsWhole}

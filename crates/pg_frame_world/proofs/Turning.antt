@@ -29,18 +29,19 @@ use Rattle.pg_step.specs.declared.refusal.Refusal.{Refusal}
 use Rattle.pg_step.specs.declared.refusal.Refusal.TheVariants.{NoSuchPlace}
 use Rattle.pg_history.specs.History.{answers_by}
 use Rattle.pg_opens.specs.Places.{whole_in, name_at as place_name}
-use Rattle.pg_node_state.specs.declared.state.done.Done.{Done}
+use Rattle.pg_sends.specs.declared.done.Done.{Done}
 use Rattle.pg_node_state.specs.declared.state.fault.NodeFault.{NodeFault}
 use Rattle.pg_node_state.specs.declared.state.fault.NodeFault.TheVariants.{Refused, OutOfMemory}
 use Rattle.pg_node_state.specs.declared.state.fault.NodeFault.TheVariants.{Message as BadMessage, TooLong, Damaged}
 use Rattle.pg_frame_world.specs.declared.step.Stepped.TheVariants.{Happened as HasHappened}
-use Rattle.pg_node_state.specs.States.{sends_in, Gave, Happens, Comes}
-use Rattle.pg_node_state.specs.Sendable.{AreSendable}
+use Rattle.pg_node_state.specs.States.{Gave, Happens, Comes}
+use Rattle.pg_sends.specs.Sent.{sends_in}
+use Rattle.pg_sends.specs.Sendable.{AreSendable}
 use Rattle.pg_starts.specs.Seen.{Seen}
 use Rattle.pg_frame_world.specs.Effects.{sum_below, op_of, effect_of, effect_by}
 use Rattle.pg_frame_world.specs.Views.{Traffic, peer_place, packets_to}
 use Rattle.pg_frame_world.specs.Worlds.{AreAnswers, ShowsNodes, ShowsNode}
-use Rattle.pg_frame_world.specs.Worlds.{TimedFrameWorld, told, told_of_first, ComesTo}
+use Rattle.pg_frame_world.specs.Worlds.{TimedFrameWorld, told_event, told_of_first, ComesTo}
 use Rattle.pg_frame_world.proofs.Counted.{sum_same, count_to, count_all}
 use Rattle.pg_frame_world.proofs.Peering.{peer_name, named, known, there_and_back, sent_to, sent_home}
 use Rattle.pg_account.specs.Histories.{update_asked_by}
@@ -234,7 +235,7 @@ module _ (config : Config) (nodes : List Seen) (w : TimedFrameWorld) (i : ℕ) (
   own_told : step_act (whole_in node.names) node.ports action node.state ≡ step_act (nodes_at config i) (ports_at config i) action (w.node i)
   own_told = λ j. step_act (whole_in (its.names j)) (its.ports j) action (sym its.state j)
 
-  own_is : told config w (Do i action) ≡ Some (step_act (whole_in node.names) node.ports action node.state)
+  own_is : told_event config w (Do i action) ≡ Some (step_act (whole_in node.names) node.ports action node.state)
   own_is = ap (λ b. Some (cond b (step_act (nodes_at config i) (ports_at config i) action (w.node i)) (Err NoSuchPlace))) its_place ∙ ap Some (sym own_told)
 
   -- it is refused
@@ -242,7 +243,7 @@ module _ (config : Config) (nodes : List Seen) (w : TimedFrameWorld) (i : ℕ) (
       → Comes node.names (step_act (whole_in node.names) node.ports action node.state) (Err fault) s before after → ComesTo config w (Do i action) (Err fault) Shown
   own_refused fault s before after Shown comes = go (step_act (whole_in node.names) node.ports action node.state) fault own_is comes
     where
-      go : (r : Result TimedTurn Refusal) (fault : NodeFault) → told config w (Do i action) ≡ Some r → Comes node.names r (Err fault) s before after → ComesTo config w (Do i action) (Err fault) Shown
+      go : (r : Result TimedTurn Refusal) (fault : NodeFault) → told_event config w (Do i action) ≡ Some r → Comes node.names r (Err fault) s before after → ComesTo config w (Do i action) (Err fault) Shown
       go (Ok t) OutOfMemory is h = tt
       go (Ok t) (Refused refusal) is h = absurd h
       go (Ok t) (BadMessage fault) is h = absurd h
@@ -295,11 +296,11 @@ module _ (config : Config) (nodes : List Seen) (w : TimedFrameWorld) (i p : ℕ)
   pub pair_there : is_pair (length config) i p ≡ true
   pair_there = ap (λ n. is_pair n i p) (sym shows.size) ∙ pair
 
-  take_told : told config w (Take i p) ≡ told_of_first (nodes_at config i) (name_at config p) (w.node i) (w.wire p i)
+  take_told : told_event config w (Take i p) ≡ told_of_first (nodes_at config i) (name_at config p) (w.node i) (w.wire p i)
   take_told = ap (λ b. cond b (told_of_first (nodes_at config i) (name_at config p) (w.node i) (w.wire p i)) (Some (Err NoSuchPlace))) pair_there
 
   -- nothing is on the way
-  pub none_told : w.wire p i ≡ [] → told config w (Take i p) ≡ None
+  pub none_told : w.wire p i ≡ [] → told_event config w (Take i p) ≡ None
   none_told none = take_told ∙ ap (told_of_first (nodes_at config i) (name_at config p) (w.node i)) none
 
   module _ (node : Seen) (here : slice_get nodes i ≡ Some node) (x : Stamped Message) (rest : List (Stamped Message)) (begins : w.wire p i ≡ x ∷ rest) where
@@ -317,7 +318,7 @@ module _ (config : Config) (nodes : List Seen) (w : TimedFrameWorld) (i p : ℕ)
     pub taken_told : step_take (whole_in node.names) (place_name node.names (peer_place i p + 1)) x node.state ≡ step_take (nodes_at config i) (name_at config p) x (w.node i)
     taken_told = λ j. step_take (whole_in (taker.names j)) (peer_is j) x (sym taker.state j)
 
-    take_is : told config w (Take i p) ≡ Some (step_take (whole_in node.names) (place_name node.names (peer_place i p + 1)) x node.state)
+    take_is : told_event config w (Take i p) ≡ Some (step_take (whole_in node.names) (place_name node.names (peer_place i p + 1)) x node.state)
     take_is = take_told ∙ (ap (told_of_first (nodes_at config i) (name_at config p) (w.node i)) begins ∙ ap Some (sym taken_told))
 
     -- it is refused
@@ -326,7 +327,7 @@ module _ (config : Config) (nodes : List Seen) (w : TimedFrameWorld) (i p : ℕ)
         → ComesTo config w (Take i p) (Err fault) Shown
     taken_refused fault s before after Shown comes = go (step_take (whole_in node.names) (place_name node.names (peer_place i p + 1)) x node.state) fault take_is comes
       where
-        go : (r : Result TimedTurn Refusal) (fault : NodeFault) → told config w (Take i p) ≡ Some r → Comes node.names r (Err fault) s before after → ComesTo config w (Take i p) (Err fault) Shown
+        go : (r : Result TimedTurn Refusal) (fault : NodeFault) → told_event config w (Take i p) ≡ Some r → Comes node.names r (Err fault) s before after → ComesTo config w (Take i p) (Err fault) Shown
         go (Ok t) OutOfMemory is h = tt
         go (Ok t) (Refused refusal) is h = absurd h
         go (Ok t) (BadMessage fault) is h = absurd h

@@ -21,7 +21,7 @@ use Rattle.pg_frame_world.specs.declared.step.FrameStep.{FrameStep}
 use Rattle.pg_frame_world.specs.declared.step.FrameStep.TheVariants as steps
 use Rattle.pg_starts.specs.Seen.{Seen}
 use Rattle.pg_frame_world.specs.Worlds.{TimedFrameWorld, ShowsNodes, has_port}
-use Rattle.pg_frame_world.specs.Worlds.{has_places, told, told_of_first, StepComesTo}
+use Rattle.pg_frame_world.specs.Worlds.{has_places, told_event, told_of_first, StepComesTo}
 use Rattle.pg_frame_world.specs.Losing.{is_barred}
 use Rattle.pg_frame_world.proofs.Peering.{lt_false}
 
@@ -30,10 +30,10 @@ no_port m ports (Issue port c) s e = ap (λ b. timed (s.clock + 1) (cond b (Ok (
 no_port m ports (Retry op) s e = ap (λ b. timed (s.clock + 1) (cond b (retry (live_nodes m s.state) op s.state) (Err NoSuchPlace))) e
 
 module _ (config : Config) (nodes : List Seen) (w : TimedFrameWorld) (shows : ShowsNodes config nodes w) where
-  pub acts_nowhere : (i : ℕ) (action : Action) → has_port nodes i (port_of action) ≡ false → told config w (Do i action) ≡ Some (Err NoSuchPlace)
+  pub acts_nowhere : (i : ℕ) (action : Action) → has_port nodes i (port_of action) ≡ false → told_event config w (Do i action) ≡ Some (Err NoSuchPlace)
   acts_nowhere i action none = go (slice_get_cases nodes i).1
     where
-      go : ((x : Seen) × (i < length nodes) × (slice_get nodes i ≡ Some x) × (get_or nodes i x ≡ x)) ⊎ ((length nodes ≤ i) × (slice_get nodes i ≡ None)) → told config w (Do i action) ≡ Some (Err NoSuchPlace)
+      go : ((x : Seen) × (i < length nodes) × (slice_get nodes i ≡ Some x) × (get_or nodes i x ≡ x)) ⊎ ((length nodes ≤ i) × (slice_get nodes i ≡ None)) → told_event config w (Do i action) ≡ Some (Err NoSuchPlace)
       go (inl r) =
           let ports : nat_lt (port_of action) (ports_at config i) ≡ false = ap (λ n. nat_lt (port_of action) n) (sym (shows.each i r.0 r.2).ports)
           ∙ (ap (λ o. option_map_or (λ (node : Seen). nat_lt (port_of action) node.ports) o false) (sym r.2) ∙ none) in
@@ -43,7 +43,7 @@ module _ (config : Config) (nodes : List Seen) (w : TimedFrameWorld) (shows : Sh
       go (inr r) = ap (λ b. Some (cond b (step_act (nodes_at config i) (ports_at config i) action (w.node i)) (Err NoSuchPlace)))
           (lt_false i (length config) (omega (arith, r.0, shows.size)))
 
-  pub taken_nowhere : (i p : ℕ) → is_pair (length nodes) i p ≡ false → told config w (Take i p) ≡ Some (Err NoSuchPlace)
+  pub taken_nowhere : (i p : ℕ) → is_pair (length nodes) i p ≡ false → told_event config w (Take i p) ≡ Some (Err NoSuchPlace)
   taken_nowhere i p none = ap (λ b. cond b (told_of_first (nodes_at config i) (name_at config p) (w.node i) (w.wire p i)) (Some (Err NoSuchPlace)))
       (ap (λ n. is_pair n i p) (sym shows.size) ∙ none)
 

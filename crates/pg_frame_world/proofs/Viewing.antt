@@ -14,7 +14,7 @@ use Rattle.pg_message.specs.declared.packet.Packet.{Packet}
 use Rattle.pg_machine.specs.Clocked.{Stamped}
 use Rattle.pg_node_state.specs.declared.state.NodeState.{NodeState}
 use Rattle.pg_node_state.specs.Issued.{ports_of}
-use Rattle.pg_node_state.specs.Sendable.{AreSendable}
+use Rattle.pg_sends.specs.Sendable.{AreSendable}
 use Rattle.pg_node_state.specs.States.{names_of, state_of, answers_of}
 use Rattle.pg_frame_world.specs.declared.outgoing.Outgoing.{Outgoing}
 use Rattle.pg_starts.specs.Seen.{Seen, seen_of}

@@ -9,7 +9,7 @@ use Rattle.pg_step.specs.FrameMachine.{losing_frame_machine}
 use Rattle.pg_step.specs.LossLaws.{LosingFrameWorld}
 use Rattle.pg_step.specs.Step.{Action}
 use Rattle.pg_step.specs.Turns.{Report}
-use Rattle.pg_node_state.specs.declared.state.done.Done.{Done}
+use Rattle.pg_sends.specs.declared.done.Done.{Done}
 use Rattle.pg_frame_world.specs.declared.effect.Effect.{Effect}
 
 -- the sum of what is counted at each place below

@@ -13,7 +13,7 @@ use Rattle.pg_step.specs.Config.{Config, IsConfig, names_of, groups_at, made_at}
 use Rattle.pg_opens.specs.Places.{name_at}
 use Rattle.pg_node_state.specs.declared.state.fault.NodeFault.{NodeFault}
 use Rattle.pg_node_state.specs.declared.state.fault.NodeFault.TheVariants as faults
-use Rattle.pg_node_state.specs.Opening.{IsAnnouncement}
+use Rattle.pg_sends.specs.Opening.{IsAnnouncement}
 use Rattle.pg_config.specs.declared.fault.WorldFault.{WorldFault}
 use Rattle.pg_config.specs.declared.fault.WorldFault.TheVariants.{TooLong, OutOfMemory}
 use Rattle.pg_config.specs.Configs.{are_names, have_names, refusal_of}

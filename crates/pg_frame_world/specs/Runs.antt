@@ -17,7 +17,7 @@ use Rattle.pg_frame_world.specs.declared.step.FrameStep.{FrameStep}
 use Rattle.pg_frame_world.specs.declared.step.FrameStep.TheVariants as frames
 use Rattle.pg_frame_world.specs.Losing.{loss_refusal, losing_of}
 use Rattle.pg_frame_world.specs.Starts.{Orders}
-use Rattle.pg_frame_world.specs.Worlds.{TimedFrameWorld, event_of, is_loss, told}
+use Rattle.pg_frame_world.specs.Worlds.{TimedFrameWorld, event_of, is_loss, told_event}
 
 -- the number of a step that did nothing, by what is told of its event: 0 where nothing was on the way, that of the refusal where
 -- it is refused, and 10, out of memory, where it could have happened
@@ -35,7 +35,7 @@ pub record Kind (S : Type 0) : Type 1 where
 
 -- An event over packets that did nothing has the number of what is told of it, in the place of which memory may run out.
 abbrev pub IsTold : Config → TimedFrameWorld → Event Action → ℕ → Type 0
-IsTold config w e number = (number ≡ number_told (told config w e)) ⊎ (number ≡ 10)
+IsTold config w e number = (number ≡ number_told (told_event config w e)) ⊎ (number ≡ 10)
 
 -- no loss is seen where no node is lost: a place is not there, the peer is not lost, or memory ran out
 abbrev pub SeesNone : Bool → ℕ → Type 0

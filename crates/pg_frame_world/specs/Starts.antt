@@ -13,8 +13,8 @@ use Rattle.pg_step.specs.declared.start.Start.{Start}
 use Rattle.pg_step.specs.Config.{Config, first_table}
 use Rattle.pg_step.specs.FrameMachine.{frame_machine}
 use Rattle.pg_opens.specs.Places.{name_at}
-use Rattle.pg_node_state.specs.Opening.{IsAnnouncement}
-use Rattle.pg_node_state.specs.States.{stamped_of}
+use Rattle.pg_sends.specs.Opening.{IsAnnouncement}
+use Rattle.pg_sends.specs.Sent.{stamped_of}
 use Rattle.pg_starts.specs.Seen.{Seen}
 use Rattle.pg_frame_world.specs.Fitting.{FitsFrame}
 use Rattle.pg_starts.specs.Seen.{Seen}

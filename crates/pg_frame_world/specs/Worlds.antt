@@ -114,9 +114,9 @@ told_of_first m p s [] = None
 told_of_first m p s (x ∷ rest) = Some (step_take m p x s)
 
 -- What is told of an event: what its node makes of it, or that a place is not there. None where nothing is on the way.
-abbrev pub told : Config → TimedFrameWorld → Event Action → Option (Result TimedTurn Refusal)
-told config w (Take i p) = cond (is_pair (length config) i p) (told_of_first (nodes_at config i) (name_at config p) (w.node i) (w.wire p i)) (Some (Err NoSuchPlace))
-told config w (Do i action) = Some (cond (is_place (length config) i) (step_act (nodes_at config i) (ports_at config i) action (w.node i)) (Err NoSuchPlace))
+abbrev pub told_event : Config → TimedFrameWorld → Event Action → Option (Result TimedTurn Refusal)
+told_event config w (Take i p) = cond (is_pair (length config) i p) (told_of_first (nodes_at config i) (name_at config p) (w.node i) (w.wire p i)) (Some (Err NoSuchPlace))
+told_event config w (Do i action) = Some (cond (is_place (length config) i) (step_act (nodes_at config i) (ports_at config i) action (w.node i)) (Err NoSuchPlace))
 
 -- it happened in the world w, and led to a world that is shown
 abbrev pub EventLed : Config → TimedFrameWorld → Event Action → (TimedFrameWorld → Type 0) → Type 0
@@ -126,10 +126,10 @@ EventLed config w e Shown = (v : TimedFrameWorld) × (happens (frame_machine con
 -- memory ran out; or it was refused as is told.
 abbrev pub ComesTo : Config → TimedFrameWorld → Event Action → Result Stepped NodeFault → (TimedFrameWorld → Type 0) → Type 0
 ComesTo config w e (Ok (Happened effect)) Shown = (effect_in (frame_machine config) w e ≡ Some effect) × EventLed config w e Shown
-ComesTo config w e (Ok Nothing) Shown = told config w e ≡ None
+ComesTo config w e (Ok Nothing) Shown = told_event config w e ≡ None
 ComesTo config w e (Ok stepped) Shown = ⊥
 ComesTo config w e (Err OutOfMemory) Shown = Unit {0}
-ComesTo config w e (Err (Refused refusal)) Shown = told config w e ≡ Some (Err refusal)
+ComesTo config w e (Err (Refused refusal)) Shown = told_event config w e ≡ Some (Err refusal)
 ComesTo config w e (Err fault) Shown = ⊥
 
 -- What came of seeing a loss where no node is lost: it is refused, since a place is not there or the peer is not lost; or memory

@@ -67,7 +67,7 @@ impl<T: GroupTable + Drop> FrameWorld<T> {
     ghost use Rattle.std.specs.Prelude.{IfSome, OnErr, ℕ, length, map, option_map, slice_get};
     ghost use Rattle.std.specs.Option.{is_some, option_copied};
     ghost use Rattle.pg_machine.specs.Places.{is_pair};
-    ghost use Rattle.pg_node_state.specs.States.{stamped_of};
+    ghost use Rattle.pg_sends.specs.Sent.{stamped_of};
     ghost use Rattle.pg_term.specs.declared.term.Term.{Term};
     ghost use Rattle.pg_machine.specs.Clocked.{plain};
     ghost use Rattle.pg_history.specs.History.{LockFree};

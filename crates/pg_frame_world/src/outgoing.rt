@@ -5,7 +5,7 @@ ghost use Rattle.std.specs.Prelude.{drop, take, length, map, replicate, option_m
 ghost use Rattle.std.specs.Option.{option_copied};
 ghost use Rattle.pg_message.specs.declared.packet.Packet.{Packet};
 ghost use Rattle.pg_message.specs.Members.{IsShort};
-ghost use Rattle.pg_node_state.specs.States.{stamped_of};
+ghost use Rattle.pg_sends.specs.Sent.{stamped_of};
 
 use crate::way::Way;
 use pg_group::Update;

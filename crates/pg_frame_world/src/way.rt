@@ -22,7 +22,7 @@ pub(crate) struct Way {
 impl Way {
     ghost use Rattle.pg_frame_world.specs.Views.{packets_of, next_packet_of, HasWayRoom};
     ghost use Rattle.pg_machine.specs.Clocked.{packets_of as unstamped};
-    ghost use Rattle.pg_node_state.specs.States.{stamped_of};
+    ghost use Rattle.pg_sends.specs.Sent.{stamped_of};
 
     /// Nothing is on the way.
     ///

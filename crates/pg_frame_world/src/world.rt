@@ -2,7 +2,7 @@
 
 ghost use Rattle.std.specs.Prelude.{◌≡◌, ◌≢◌, [], true, Ok, IfSome, OnErr, length, map};
 ghost use Rattle.std.specs.Option.{is_some};
-ghost use Rattle.pg_node_state.specs.States.{stamped_of};
+ghost use Rattle.pg_sends.specs.Sent.{stamped_of};
 ghost use Rattle.pg_frame_world.specs.Views.{IsWhole, traffic_in};
 
 mod alike;

@@ -10,7 +10,7 @@ use Rattle.pg_message.specs.declared.packet.Packet.{Packet}
 use Rattle.pg_message.specs.Reading.{packet_spelled}
 use Rattle.pg_machine.specs.Clocked.{Stamped}
 use Rattle.pg_joining.specs.Logs.{packet_from, taken_from}
-use Rattle.pg_node_state.specs.States.{stamped_of}
+use Rattle.pg_sends.specs.Sent.{stamped_of}
 use Rattle.pg_run.specs.Acts.{Act, Given, Took, Saw, Did, Came, IsFrameOf, Standing, AllLead, is_from, frames_taken}
 use Rattle.pg_step.specs.Config.{Config}
 use Rattle.pg_step.specs.Nodes.{Node}

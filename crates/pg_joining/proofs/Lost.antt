@@ -24,7 +24,7 @@ use Rattle.pg_machine.specs.Places.{is_pair, set_at}
 use Rattle.pg_machine.specs.Timely.{KeepsTime}
 use Rattle.pg_message.specs.declared.message.Message.{Message}
 use Rattle.pg_node.specs.declared.node.Node.{Node}
-use Rattle.pg_node_state.specs.Frames.{frames_to}
+use Rattle.pg_sends.specs.Frames.{frames_to}
 use Rattle.pg_node.specs.Nodes.{held_by, links_of}
 use Rattle.pg_ring.specs.Ends.{Receives, Sends}
 use Rattle.pg_node_state.specs.States.{answers_of, state_of}

@@ -17,7 +17,7 @@ use Rattle.pg_node.specs.declared.node.wire.Wire.{Wire}
 use Rattle.pg_node_state.specs.NodeFault.{from_message}
 use Rattle.pg_node.specs.Begun.{BeginsLinked, IsOpened, CantOpen}
 use Rattle.pg_node.specs.Links.{Link, link_of, links_in}
-use Rattle.pg_node_state.specs.Opening.{IsAnnouncement}
+use Rattle.pg_sends.specs.Opening.{IsAnnouncement}
 
 -- what can't be written, by the fault of the writer
 pub cant_write : (packet : Packet) (fault : MessageFault) → Fails fault (body_of packet) → CantOpen packet (from_message fault)

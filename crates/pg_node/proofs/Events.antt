@@ -18,15 +18,16 @@ use Rattle.pg_step.specs.Nodes.{Node as Name, Nodes}
 use Rattle.pg_step.specs.State.{State}
 use Rattle.pg_step.specs.Step.{TimedTurn, step_take}
 use Rattle.pg_node.specs.declared.node.wire.Wire.{Wire}
-use Rattle.pg_node_state.specs.declared.state.done.Done.{Done}
+use Rattle.pg_sends.specs.declared.done.Done.{Done}
 use Rattle.pg_node_state.specs.declared.state.fault.NodeFault.{NodeFault}
 use Rattle.pg_node_state.specs.declared.state.fault.NodeFault.TheVariants.{Refused, OutOfMemory}
 use Rattle.pg_node_state.specs.declared.state.fault.NodeFault.TheVariants.{Message, TooLong, Damaged}
 use Rattle.pg_node.specs.Bytes.{ReadsNext, next_packet, packet_at, packet_in, damages, marked, passed, is_none, is_idle}
-use Rattle.pg_node_state.specs.Frames.{frames_to}
+use Rattle.pg_sends.specs.Frames.{frames_to}
 use Rattle.pg_node.specs.Links.{Link, link_of, links_in, at_link, with_more}
 use Rattle.pg_node.specs.Nodes.{read_next, taken_as, taken_of, step_link, TakesNext, ComesInRoom, sent_out}
-use Rattle.pg_node_state.specs.States.{stamped_of, Comes}
+use Rattle.pg_node_state.specs.States.{Comes}
+use Rattle.pg_sends.specs.Sent.{stamped_of}
 use Rattle.pg_node.proofs.Linked.{one_link}
 
 -- a fault that damages nothing marks nothing

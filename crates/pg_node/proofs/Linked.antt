@@ -14,8 +14,9 @@ use Rattle.pg_message.specs.declared.packet.Packet.{Packet}
 use Rattle.pg_writer.specs.declared.size.TheConstants.{MAX_SMALL_LEN}
 use Rattle.pg_step.specs.Nodes.{Node}
 use Rattle.pg_node.specs.declared.node.wire.Wire.{Wire}
-use Rattle.pg_node_state.specs.Frames.{frame_of, frames_to, IsSmallFrame, AreSmallFrames}
-use Rattle.pg_node_state.specs.Sendable.{FitLinks, IsSendable, Ascends, AreOnePacket}
+use Rattle.pg_writer.specs.Frames.{frame_of}
+use Rattle.pg_sends.specs.Frames.{frames_to, IsSmallFrame, AreSmallFrames}
+use Rattle.pg_sends.specs.Sendable.{FitLinks, IsSendable, Ascends, AreOnePacket}
 use Rattle.pg_node.specs.Links.{Link, link_of, idle_link, part_in, links_in}
 use Rattle.pg_node.specs.Links.{at_link, room_in, with_more, HasFrameRoom, HaveFrameRoom, IsFrame, AreOneFrame}
 

@@ -9,9 +9,9 @@ use Rattle.pg_term_io.specs.Writing.{written}
 use Rattle.pg_step.specs.Nodes.{Node}
 use Rattle.pg_node_state.specs.declared.state.fault.NodeFault.{NodeFault}
 use Rattle.pg_node_state.specs.declared.state.fault.NodeFault.TheVariants.{OutOfMemory, Message}
-use Rattle.pg_node_state.specs.Frames.{frame_of}
+use Rattle.pg_writer.specs.Frames.{frame_of}
 use Rattle.pg_node.specs.Links.{Link, idle_link, with_more}
-use Rattle.pg_node_state.specs.Opening.{IsAnnouncement}
+use Rattle.pg_sends.specs.Opening.{IsAnnouncement}
 
 -- nothing came in, and the frame of a packet goes out, where it is read as it is
 pub record IsOpened (packet : Packet) (link : Link) : Type 0 where

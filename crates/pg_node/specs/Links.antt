@@ -7,7 +7,8 @@ use Rattle.pg_group.specs.Functions.{upd}
 use Rattle.pg_writer.specs.declared.size.TheConstants.{MAX_SMALL_LEN}
 use Rattle.pg_node.specs.declared.node.frame.Frame.{Frame}
 use Rattle.pg_node.specs.declared.node.wire.Wire.{Wire}
-use Rattle.pg_node_state.specs.Frames.{frame_of, IsSmallFrame}
+use Rattle.pg_writer.specs.Frames.{frame_of}
+use Rattle.pg_sends.specs.Frames.{IsSmallFrame}
 
 -- what stands in the link to a peer: the bytes that came in and were not taken, those that go out and were not put, and
 -- whether a fault was told of it

@@ -12,13 +12,14 @@ use Rattle.pg_step.specs.State.{State}
 use Rattle.pg_step.specs.Step.{TimedTurn, step_take}
 use Rattle.pg_node.specs.declared.node.Node.{Node}
 use Rattle.pg_node_state.specs.declared.state.NodeState.{NodeState}
-use Rattle.pg_node_state.specs.declared.state.done.Done.{Done}
+use Rattle.pg_sends.specs.declared.done.Done.{Done}
 use Rattle.pg_node_state.specs.declared.state.fault.NodeFault.{NodeFault}
 use Rattle.pg_node_state.specs.declared.state.fault.NodeFault.TheVariants.{Refused, OutOfMemory, Message}
-use Rattle.pg_node_state.specs.Frames.{frames_to}
+use Rattle.pg_sends.specs.Frames.{frames_to}
 use Rattle.pg_node.specs.Links.{Link, links_in, with_more}
 use Rattle.pg_node.specs.Bytes.{next_packet, is_drained}
-use Rattle.pg_node_state.specs.States.{names_of, kept_by, stamped_of, step_see_loss, Happens, Comes}
+use Rattle.pg_node_state.specs.States.{names_of, kept_by, step_see_loss, Happens, Comes}
+use Rattle.pg_sends.specs.Sent.{stamped_of}
 
 -- the node over packets
 abbrev pub held_by : {T : Type 0} {g : Ghosts T} → Node T g → NodeState T g

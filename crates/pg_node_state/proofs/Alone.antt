@@ -1,6 +1,6 @@
 -- A node of which no peer counts: an update that begins ends at once.
-use Rattle.std.proofs.Common.{◌≡◌, ◌⊎◌, inl, inr, ℕ, suc, ◌+◌, ◌<◌, ◌≤◌, Bool, not, true, false, ◌&&◌}
-use Rattle.std.proofs.Common.{◌||◌, cond, nat_eq, List, [], ◌∷◌, ◌++◌, refl, ap, sym, ◌∙◌, length, arith}
+use Rattle.std.proofs.Common.{◌≡◌, ℕ, ◌+◌, Bool, true, false, ◌&&◌}
+use Rattle.std.proofs.Common.{◌||◌, cond, nat_eq, List, [], ◌∷◌, ◌++◌, refl, ap, sym, ◌∙◌}
 use Rattle.std.specs.List.{list_any, list_all}
 use Rattle.std.proofs.Math.Path.{fun_ext}
 use Rattle.std.proofs.lemmas.Bool.{eq-eqb}
@@ -20,9 +20,7 @@ use Rattle.pg_message.specs.declared.message.Request.TheVariants.{SetLock, Chang
 use Rattle.pg_opens.specs.Outlooks.{turn_by}
 use Rattle.pg_opens.specs.declared.outlook.Outlook.TheVariants.{Begin}
 use Rattle.pg_step.specs.Attempts.{ask, asks, begin, finish, replies_in, own_reference}
-use Rattle.std.proofs.Math.Nat.{eq-or-lt_of_le}
-use Rattle.pg_opens.specs.Places.{name_at, lost_in, live_in}
-use Rattle.pg_opens.proofs.Named.{atom_self, clash, place_cases, any_filtered}
+use Rattle.pg_opens.proofs.Named.{atom_self, clash}
 use Rattle.pg_group.proofs.Changes.{upd_at}
 
 pub no_peers : (m : Nodes) → ((q : Node) → is_peer m q ≡ false) → m.peers ≡ []
@@ -45,52 +43,6 @@ pub ends_at_once : (m : Nodes) (c : ℕ) (op : OpId) (update : Update) (t : Stat
 ends_at_once m c op update t none = ap (λ (used : Use). replies_in m (t.references + 1) used (begin m c op update t).state)
     (upd_at nat_eq (upd nat_eq t.uses c (Owning (name_of update) (t.references + 1))) (t.references + 1) (Updating op update c (same_atom m.own)) (eq-eqb (t.references + 1) (t.references + 1) refl))
     ∙ ap (λ b. cond b (finish m (t.references + 1) op update c (begin m c op update t).state) (becomes (begin m c op update t).state)) (all_replied m none)
-
--- no peer that counts stands at a place below this one
-abbrev pub NobodyBelow : Nodes → List Node → ℕ → Type 0
-NobodyBelow m names place = (k : ℕ) → 0 < k → k < place → is_peer m (name_at names k) ≡ false
-
-pub nobody_yet : (m : Nodes) (names : List Node) → NobodyBelow m names 1
-nobody_yet m names k above l = absurd (none k above l)
-  where
-    none : (k : ℕ) → 0 < k → k < 1 → ⊥
-    none k above l = omega arith
-
-pub nobody_next : (m : Nodes) (names : List Node) (place : ℕ) → is_peer m (name_at names place) ≡ false → NobodyBelow m names place → NobodyBelow m names (place + 1)
-nobody_next m names place here below k above l = go (eq-or-lt_of_le (at_most k place l))
-  where
-    at_most : (k n : ℕ) → k < n + 1 → k ≤ n
-    at_most k n l = omega arith
-
-    go : (k ≡ place) ⊎ (k < place) → is_peer m (name_at names k) ≡ false
-    go (inl e) = ap (λ n. is_peer m (name_at names n)) e ∙ here
-    go (inr h) = below k above h
-
-none_of : (f : Node → Bool) (q : Node) (ns : List Node) → list_any (same_atom q) ns ≡ false → list_any (λ x. f x && same_atom q x) ns ≡ false
-none_of f q [] e = refl
-none_of f q (n ∷ ns) e = both (f n) (same_atom q n) (list_any (same_atom q) ns) e (none_of f q ns)
-  where
-    both : (a b c : Bool) → (b || c) ≡ false → (c ≡ false → list_any (λ x. f x && same_atom q x) ns ≡ false) → ((a && b) || list_any (λ x. f x && same_atom q x) ns) ≡ false
-    both a true c e h = absurd (cc)
-    both true false c e h = h e
-    both false false c e h = h e
-
-pub nobody_counts : (names : List Node) (lost : List Bool) (place : ℕ) → length names ≤ place → NobodyBelow (live_in names lost) names place → (q : Node) → is_peer (live_in names lost) q ≡ false
-nobody_counts [] lost place within below q = refl
-nobody_counts (own ∷ peers) lost place within below q = go (place_cases peers q)
-  where
-    next : (k : ℕ) → k + 1 ≡ suc k
-    next k = omega arith
-
-    above : (k : ℕ) → 0 < k + 1
-    above k = omega arith
-
-    nearer : (k n p : ℕ) → k < n → suc n ≤ p → k + 1 < p
-    nearer k n p l h = omega arith
-
-    go : ((k : ℕ) × (k < length peers) × (q ≡ name_at peers k)) ⊎ (list_any (same_atom q) peers ≡ false) → is_peer (live_in (own ∷ peers) lost) q ≡ false
-    go (inl r) = ap (is_peer (live_in (own ∷ peers) lost)) (r.2 ∙ sym (ap (name_at (own ∷ peers)) (next r.0))) ∙ below (r.0 + 1) (above r.0) (nearer r.0 (length peers) place r.1 within)
-    go (inr e) = any_filtered (λ x. not (lost_in (own ∷ peers) lost x)) (same_atom q) peers ∙ none_of (λ x. not (lost_in (own ∷ peers) lost x)) q peers e
 
 -- ---- where all have granted
 

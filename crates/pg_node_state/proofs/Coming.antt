@@ -18,16 +18,28 @@ use Rattle.pg_step.specs.Losses.{see_loss}
 use Rattle.pg_step.specs.Step.{TimedTurn, CLOCK_LIMIT, taken, at_clock, timed, step_take}
 use Rattle.pg_step.specs.declared.refusal.Refusal.{Refusal}
 use Rattle.pg_step.specs.declared.refusal.Refusal.TheVariants as refusal
-use Rattle.pg_node_state.specs.declared.state.done.Done.{Done}
+use Rattle.pg_sends.specs.declared.done.Done.{Done}
 use Rattle.pg_node_state.specs.declared.state.fault.NodeFault.{NodeFault}
 use Rattle.pg_node_state.specs.declared.state.fault.NodeFault.TheVariants.{Refused, OutOfMemory}
 use Rattle.pg_node_state.specs.declared.state.fault.NodeFault.TheVariants as faults
-use Rattle.pg_node_state.specs.States.{IsReported, Gave, Comes, ComesAt, step_see_loss}
+use Rattle.pg_group.specs.declared.table.GroupTable.{Ghosts}
+use Rattle.pg_node_state.specs.declared.state.NodeState.{NodeState}
+use Rattle.pg_node_state.specs.States.{IsReported, Gave, Comes, ComesAt, Stays, step_see_loss}
+use Rattle.pg_node_state.specs.States.{state_of, answers_of}
 
 -- a clause on errors, of what always holds
 pub on_err : {A E : Type 0} (result : Result A E) (P : Type 0) → P → OnErr result P
 on_err (Ok x) P p = tt
 on_err (Err e) P p = p
+
+-- what stays where a part fails stays whatever its error is made to
+pub stays_too : {T A B E F : Type 0} {g : Ghosts T} {before after : NodeState T g} {e : E} (result : Result B F) → Stays {A = A} before after (Err e) → Stays before after result
+stays_too {before} {after} result h = record {
+  state = on_err result (state_of after ≡ state_of before) h.state;
+  answers = on_err result (answers_of after ≡ answers_of before) h.answers;
+  names = h.names;
+  ports = h.ports;
+}
 
 -- a clause on successes, by another
 pub on_ok : {A E : Type 0} (result : Result A E) (P Q : Type 0) → (P → Q) → OnOk result P → OnOk result Q

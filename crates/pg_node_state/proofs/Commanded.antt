@@ -34,12 +34,12 @@ use Rattle.pg_step.specs.StepLaws.{is_query}
 use Rattle.pg_step.specs.Turns.{NodeTurn}
 use Rattle.pg_step.specs.Commands.{command, fault_of, change_of, change, carried_out, answer}
 use Rattle.pg_step.specs.Step.{Issue, CLOCK_LIMIT, at_clock, timed, step_act}
-use Rattle.pg_node_state.specs.declared.state.done.Done.{Done}
+use Rattle.pg_sends.specs.declared.done.Done.{Done}
 use Rattle.pg_node_state.specs.declared.state.NodeState.{NodeState}
 use Rattle.pg_node_state.specs.Ports.{merged_in}
 use Rattle.pg_node_state.specs.States.{names_of, nodes_of, live_of, kept_by, Happens, Comes}
 use Rattle.pg_node_state.proofs.Formed.{all_left}
-use Rattle.pg_node_state.proofs.Turned.{update_is}
+use Rattle.pg_sends.proofs.Updates.{update_is}
 
 -- a command at a port that is there, within the limit of the clock
 pub command_comes : (m : Nodes) (ports port : ℕ) (c : Command) (s : Timed State) → port < ports → s.clock + 1 ≤ CLOCK_LIMIT

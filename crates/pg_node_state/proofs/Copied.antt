@@ -15,9 +15,10 @@ use Rattle.pg_step.specs.declared.command.OpId.{OpId}
 use Rattle.pg_step.specs.Nodes.{Node}
 use Rattle.pg_step.specs.State.{Use, Stage}
 use Rattle.pg_node_state.specs.declared.state.NodeState.{NodeState}
-use Rattle.pg_node_state.specs.declared.state.port.Port.{Port}
-use Rattle.pg_node_state.specs.Ports.{AreGiven, CameIn, port_commands, merged_in}
-use Rattle.pg_node_state.specs.Same.{AreSamePorts}
+use Rattle.pg_ports.specs.declared.port.Port.{Port}
+use Rattle.pg_node_state.specs.Ports.{AreGiven, CameIn, merged_in}
+use Rattle.pg_ports.specs.Ports.{port_commands}
+use Rattle.pg_ports.specs.Same.{AreSamePorts}
 
 module _ {T : Type 0} {g : Ghosts T} (one : NodeState T g) (opens : Opens) (table : T) (formation : List Bool) (processes : Processes) (ports : List Port)
     (same : AreSame one.opens opens) (contents : g.contents table ≡ g.contents one.table) (marks : formation ≡ one.formation) (node : node_of processes ≡ node_of one.processes) (alike : AreSamePorts one.ports.items ports) where

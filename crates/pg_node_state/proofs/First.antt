@@ -42,16 +42,6 @@ waits_with (Waiting update) e = record { update = update; is = refl }
 waits_with (Asking lock) e = absurd (cc)
 waits_with (Changing update) e = absurd (cc)
 
--- two words of how a command waits
-pub same_update : (u v : Update) → Waiting u ≡ Waiting v → u ≡ v
-same_update u v e = ap (λ (stage : Stage). update_in stage) e
-  where
-    update_in : Stage → Update
-    update_in Closed = u
-    update_in (Waiting update) = update
-    update_in (Asking lock) = u
-    update_in (Changing update) = u
-
 -- a peer is a node
 pub peer_is_node : (m : Nodes) (q : Node) → is_peer m q ≡ true → is_node m q ≡ true
 peer_is_node m q e = go (same_atom q m.own) (is_peer m q) e

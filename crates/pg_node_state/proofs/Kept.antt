@@ -13,7 +13,7 @@ use Rattle.pg_node_state.specs.declared.state.NodeState.{NodeState}
 use Rattle.pg_step.specs.declared.answer.Answer.{Answer}
 use Rattle.pg_step.specs.Turns.{NodeTurn}
 use Rattle.pg_step.specs.Step.{at_clock}
-use Rattle.pg_node_state.specs.declared.state.done.Done.{Done}
+use Rattle.pg_sends.specs.declared.done.Done.{Done}
 use Rattle.pg_node_state.specs.States.{kept_by, Happens}
 
 -- a state that has these open commands, and nothing else

@@ -25,7 +25,7 @@ use Rattle.pg_step.specs.declared.answer.Odd.TheVariants.{Stranger}
 use Rattle.pg_step.specs.declared.answer.Answer.{Answer}
 use Rattle.pg_step.specs.declared.refusal.Refusal.{Refusal}
 use Rattle.pg_step.specs.Turns.{NodeTurn}
-use Rattle.pg_node_state.specs.declared.state.done.Done.{Done}
+use Rattle.pg_sends.specs.declared.done.Done.{Done}
 use Rattle.pg_node_state.specs.declared.state.fault.NodeFault.{NodeFault}
 use Rattle.pg_node_state.specs.States.{ComesAt}
 

@@ -146,13 +146,6 @@ locking_update used found op update first st e is = e ∙ ap update_of is
 pub updating_update : (used : Use) (found : Option Change) (op : OpId) (update : Change) (lock : ℕ) (replied : Node → Bool) → found ≡ update_of used → used ≡ Updating op update lock replied → found ≡ Some update
 updating_update used found op update lock replied e is = e ∙ ap update_of is
 
-pub update_is : (found update : Change) → Some found ≡ Some update → found ≡ update
-update_is found update e = ap (λ (o : Option Change). go o) e
-  where
-    go : Option Change → Change
-    go (Some u) = u
-    go None = found
-
 -- ---- what a counted reply leads to
 
 pub counted_answer : (used : Use) (op : OpId) (update : Change) (first : Node) (st : Node → Status) → used ≡ Locking op update first st → (m : Nodes) (p : Node) (c : ℕ) (said : Said) (s : State)

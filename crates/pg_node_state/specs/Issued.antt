@@ -1,7 +1,6 @@
 -- What comes of a command at the port where it came in.
-use Rattle.std.specs.Prelude.{◌≡◌, ℕ, ◌+◌, ◌<◌, nat_eq, List, length, Some, slice_get, vec_len, vec_capacity}
+use Rattle.std.specs.Prelude.{ℕ, length}
 use Rattle.pg_group.specs.declared.table.GroupTable.{Ghosts}
-use Rattle.pg_group.specs.Functions.{upd}
 use Rattle.pg_group.specs.declared.update.Update.{Update}
 use Rattle.pg_term.specs.Same.{same_atom}
 use Rattle.pg_step.specs.declared.command.OpId.{OpId}
@@ -12,19 +11,10 @@ use Rattle.pg_step.specs.Turns.{NodeTurn, and_then}
 use Rattle.pg_step.specs.Attempts.{new_attempt, ask}
 use Rattle.pg_step.specs.Commands.{count_command, next_op}
 use Rattle.pg_node_state.specs.declared.state.NodeState.{NodeState}
-use Rattle.pg_node_state.specs.declared.state.port.Port.{Port}
 
 -- how many ports a node has
 abbrev pub ports_of : {T : Type 0} {g : Ghosts T} → NodeState T g → ℕ
 ports_of node = length node.ports.items
-
--- one more command came in at a port
-abbrev pub counted_at : ℕ → (ℕ → ℕ) → ℕ → ℕ
-counted_at port counts = upd nat_eq counts port (counts port + 1)
-
--- one more answer at a port needs no memory
-abbrev pub HasRoomAt : List Port → ℕ → Type 0
-HasRoomAt ports port = (p : Port) → slice_get ports port ≡ Some p → vec_len p.answers < vec_capacity p.answers
 
 -- the next command of a port is counted, and this follows for it
 abbrev pub op_issued : ℕ → (OpId → State → NodeTurn) → State → NodeTurn

@@ -1,10 +1,7 @@
-pub mod Frames
+pub mod Clocks
 pub mod Issued
 pub mod NodeFault
-pub mod Opening
-pub mod Orders
 pub mod Ports
 pub mod Same
-pub mod Sendable
 pub mod States
 pub mod Waiting

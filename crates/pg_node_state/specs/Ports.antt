@@ -1,39 +1,18 @@
 -- What a node keeps of its peers and of its ports, by their places.
-use Rattle.std.specs.Prelude.{◌≡◌, ◌<◌, ◌≤◌, ℕ, zero, suc, Bool, true, false, drop, List, [], ◌∷◌, ◌++◌, Option, Some, None}
+use Rattle.std.specs.Prelude.{◌≡◌, ◌<◌, ◌≤◌, ℕ, Bool, true, false, List, Option, Some, None}
 use Rattle.pg_group.specs.declared.update.Update.{Update}
 use Rattle.pg_group.specs.Value.{name_of}
 use Rattle.pg_message.specs.Name.{is_name}
-use Rattle.pg_multicall.specs.Places.{has_of}
-use Rattle.pg_multicall.specs.declared.places.Places.{Places}
-use Rattle.pg_opens.specs.Places.{reads}
-use Rattle.pg_step.specs.declared.answer.Answer.{Answer}
 use Rattle.pg_step.specs.declared.command.OpId.{OpId}
 use Rattle.pg_step.specs.Nodes.{Node}
 use Rattle.pg_step.specs.State.{Use, Stage}
 use Rattle.pg_step.specs.State.Use.{Locking, Updating}
 use Rattle.pg_opens.specs.Readings.{stage_seen, is_closed, waiting_of}
-use Rattle.pg_node_state.specs.declared.state.port.Port.{Port}
+use Rattle.pg_sends.specs.Marked.{is_marked}
 
 -- the peers whose exchange was taken, by the marks of the peers
 abbrev pub merged_in : List Node → List Bool → Node → Bool
-merged_in names marks = reads (λ mark. mark) false (drop 1 names) marks
-
--- the marks of so many peers, of which these are marked
-abbrev pub marks_of : Places → ℕ → List Bool
-marks_of places zero = []
-marks_of places (suc n) = marks_of places n ++ has_of places n ∷ []
-
--- for each port how many commands came in there
-abbrev pub port_commands : List Port → ℕ → ℕ
-port_commands [] port = 0
-port_commands (p ∷ ports) zero = p.count
-port_commands (p ∷ ports) (suc n) = port_commands ports n
-
--- the answers that were given at each port
-abbrev pub answers_in : List Port → ℕ → List Answer
-answers_in [] port = []
-answers_in (p ∷ ports) zero = p.answers.items
-answers_in (p ∷ ports) (suc n) = answers_in ports n
+merged_in names marks = is_marked names marks
 
 -- where an update is told it has a name
 abbrev pub is_named : Option Update → Bool

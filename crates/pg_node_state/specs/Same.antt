@@ -1,26 +1,14 @@
 -- When two nodes are the same in all that is seen of them.
-use Rattle.std.specs.Prelude.{◌≡◌, List, length}
+use Rattle.std.specs.Prelude.{◌≡◌}
 use Rattle.pg_group.specs.declared.table.GroupTable.{Ghosts}
 use Rattle.pg_group.specs.Ended.{ended_of}
 use Rattle.pg_lock.specs.Locks.{locks_of}
 use Rattle.pg_ends.specs.Processes.{made_of}
 use Rattle.pg_opens.specs.Opens.{AreSame}
 use Rattle.pg_node_state.specs.declared.state.NodeState.{NodeState}
-use Rattle.pg_node_state.specs.declared.state.port.Port.{Port}
+use Rattle.pg_ports.specs.Same.{AreSamePorts}
 use Rattle.pg_node_state.specs.Issued.{ports_of}
-use Rattle.pg_node_state.specs.Ports.{port_commands, answers_in}
 use Rattle.pg_node_state.specs.States.{names_of, kept_by, state_of, answers_of}
-
--- as many commands came in, and the same answers were given
-pub record IsSamePort (port other : Port) : Type 0 where
-  pub count : other.count ≡ port.count
-  pub answers : other.answers.items ≡ port.answers.items
-
--- as many ports, where as many commands came in and the same answers were given
-pub record AreSamePorts (ports others : List Port) : Type 0 where
-  pub count : length ports ≡ length others
-  pub counts : port_commands ports ≡ port_commands others
-  pub answers : answers_in ports ≡ answers_in others
 
 -- the same nodes by their names, the same state, and as many ports with the same answers
 pub record AreSameNodes {T : Type 0} {g : Ghosts T} (one other : NodeState T g) : Type 0 where

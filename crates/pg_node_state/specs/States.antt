@@ -1,7 +1,6 @@
 -- What a node's state is seen as, and what an event makes of it.
 use Rattle.std.specs.Prelude.{◌≡◌, ℕ, ◌+◌, ◌++◌, Bool, true, false, not, cond, max}
-use Rattle.std.specs.Prelude.{nat_eq, List, [], ◌∷◌, Option, Some, None, Result, Ok, Err}
-use Rattle.pg_term.specs.Same.{same_atom}
+use Rattle.std.specs.Prelude.{nat_eq, List, [], ◌∷◌, Option, Some, None, Result, Ok, Err, OnErr}
 use Rattle.pg_group.specs.declared.table.GroupTable.{Ghosts}
 use Rattle.pg_group.specs.Ended.{ended_of}
 use Rattle.pg_group.specs.Functions.{upd}
@@ -9,7 +8,6 @@ use Rattle.pg_lock.specs.Locks.{locks_of}
 use Rattle.pg_ends.specs.Processes.{made_of}
 use Rattle.pg_message.specs.declared.message.Message.{Message}
 use Rattle.pg_message.specs.declared.message.Message.TheVariants.{DelLock, Exchange, Reply as Replied}
-use Rattle.pg_message.specs.declared.packet.Packet.{Packet}
 use Rattle.pg_exchange.specs.GroupList.{GroupList}
 use Rattle.pg_machine.specs.Clocked.{Timed, Stamped}
 use Rattle.pg_multicall.specs.Gathered.{what_of}
@@ -30,10 +28,13 @@ use Rattle.pg_step.specs.Step.{TimedTurn, at_clock, timed}
 use Rattle.pg_step.specs.declared.refusal.Refusal.{Refusal}
 use Rattle.pg_step.specs.declared.refusal.Refusal.TheVariants.{NodeLost}
 use Rattle.pg_node_state.specs.declared.state.NodeState.{NodeState}
-use Rattle.pg_node_state.specs.declared.state.done.Done.{Done}
+use Rattle.pg_sends.specs.declared.done.Done.{Done}
 use Rattle.pg_node_state.specs.declared.state.fault.NodeFault.{NodeFault}
 use Rattle.pg_node_state.specs.declared.state.fault.NodeFault.TheVariants.{Refused, OutOfMemory}
-use Rattle.pg_node_state.specs.Ports.{merged_in, port_commands, answers_in}
+use Rattle.pg_node_state.specs.Ports.{merged_in}
+use Rattle.pg_ports.specs.Ports.{port_commands, answers_in}
+use Rattle.pg_sends.specs.Sent.{sends_in}
+use Rattle.pg_node_state.specs.Issued.{ports_of}
 
 -- ---- the state
 
@@ -72,17 +73,9 @@ answers_of node = answers_in node.ports.items
 
 -- ---- what an event makes of it
 
-abbrev pub stamped_of : Packet → Stamped Message
-stamped_of packet = record { stamp = packet.stamp; packet = packet.message }
-
 -- the groups that a node announces
 abbrev pub announced_at : ℕ → Node → GroupList → Stamped Message
 announced_at stamp node groups = record { stamp = stamp; packet = Exchange node groups }
-
--- the packets to each node, where each goes to a peer by its place among the peers
-abbrev pub sends_in : List Node → List (ℕ × Packet) → Node → List (Stamped Message)
-sends_in names [] q = []
-sends_in names (sent ∷ others) q = cond (same_atom (name_at names (sent.0 + 1)) q) (stamped_of sent.1 ∷ []) [] ++ sends_in names others q
 
 -- what the loss of a peer leads to, whose clock was this at last
 abbrev pub step_see_loss : Node → ℕ → Timed State → Result TimedTurn Refusal
@@ -118,6 +111,15 @@ Comes names (Err refusal) result s before after = result ≡ Err (Refused refusa
 abbrev pub ComesAt : ℕ → List Node → Result NodeTurn Refusal → Result Done NodeFault → Timed State → (ℕ → List Answer) → (ℕ → List Answer) → Type 0
 ComesAt clock names (Ok t) result s before after = Comes names (Ok (at_clock clock t)) result s before after
 ComesAt clock names (Err refusal) result s before after = Comes names (Err refusal) result s before after
+
+-- ---- what stays
+
+-- an event that fails changes nothing, and none changes the names of the nodes or how many ports there are
+pub record Stays {T A E : Type 0} {g : Ghosts T} (before after : NodeState T g) (result : Result A E) : Type 0 where
+  pub state : OnErr result (state_of after ≡ state_of before)
+  pub answers : OnErr result (answers_of after ≡ answers_of before)
+  pub names : names_of after ≡ names_of before
+  pub ports : ports_of after ≡ ports_of before
 
 -- ---- memory
 

@@ -4,8 +4,7 @@
 //! sent. Begin with `src/state.rt` and `specs/States.antt`; docs/STEP.md says what each event does.
 #![tactic(auto)]
 
-mod frames;
 mod state;
 
-pub use frames::write_small;
-pub use state::{Done, NodeConfig, NodeFault, NodeState, started};
+pub use pg_sends::{Done, write_small};
+pub use state::{NodeConfig, NodeFault, NodeState, started};

@@ -9,37 +9,30 @@ ghost use Rattle.pg_message.specs.declared.packet.TheConstants.{MAX_STAMP};
 ghost use Rattle.pg_step.specs.Nodes.{Node};
 ghost use Rattle.pg_opens.specs.Opens.{names_of as open_names, lost_of, references_of, uses_of, stages_of};
 ghost use Rattle.pg_opens.specs.Places.{name_at};
-ghost use Rattle.pg_node_state.specs.Ports.{merged_in, port_commands, CameIn, AreGiven};
+ghost use Rattle.pg_node_state.specs.Ports.{merged_in, CameIn, AreGiven};
+ghost use Rattle.pg_ports.specs.Ports.{port_commands};
 
 mod answers;
 mod attempts;
-mod calls;
 mod changes;
 mod command;
 mod copies;
-mod done;
 mod fault;
 mod first;
 mod fresh;
 mod made;
 mod numbered;
 mod opening;
-mod orders;
-mod own;
 mod peers;
-mod port;
 mod processes;
-mod queries;
 mod refusals;
 mod replies;
 mod retry;
 mod same;
-mod sends;
 mod take;
 mod turns;
 mod undertake;
 
-pub use done::Done;
 pub use fault::NodeFault;
 pub use made::{NodeConfig, started};
 use pg_ends::Processes;
@@ -47,7 +40,7 @@ use pg_exchange::Formation;
 use pg_group::{Ended, GroupTable};
 use pg_lock::LockTable;
 use pg_opens::Opens;
-pub(crate) use port::Port;
+use pg_ports::Port;
 use std::alloc::Global;
 
 /// A node of a set over packets.

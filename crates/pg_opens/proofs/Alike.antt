@@ -18,15 +18,15 @@ use Rattle.pg_step.specs.declared.command.OpId.{OpId}
 use Rattle.pg_step.specs.Nodes.{Node}
 use Rattle.pg_step.specs.Attempts.{same_op}
 use Rattle.pg_step.specs.State.Use.{Owning, Updating}
-use Rattle.pg_opens.specs.declared.mark.Mark.{Mark}
-use Rattle.pg_opens.specs.declared.mark.Mark.TheVariants as mark
+use Rattle.pg_marks.specs.declared.mark.Mark.{Mark}
+use Rattle.pg_marks.specs.declared.mark.Mark.TheVariants as mark
+use Rattle.pg_marks.specs.Marks.{status_of, has_yes, all_below, same_mark, same_test, same_marks, same_replies}
 use Rattle.pg_opens.specs.declared.command.Phase.{Phase}
 use Rattle.pg_opens.specs.declared.command.Phase.TheVariants as phase
 use Rattle.pg_opens.specs.declared.command.OpenCommand.{OpenCommand}
-use Rattle.pg_opens.specs.Places.{all_below}
-use Rattle.pg_opens.specs.Marks.{status_of, has_yes, replies}
+use Rattle.pg_opens.specs.Named.{replies}
 use Rattle.pg_opens.specs.Commands.{use_in, use_at, stage_in, stage_at}
-use Rattle.pg_opens.specs.Twins.{same_update, same_mark, same_test, same_marks, same_replies, is_alike, is_twin}
+use Rattle.pg_opens.specs.Twins.{same_update, is_alike, is_twin}
 use Rattle.pg_opens.proofs.Named.{clash, by_places, reads_at, reads_nobody}
 use Rattle.pg_opens.proofs.Followed.{op_is}
 

@@ -9,15 +9,16 @@ use Rattle.pg_term.specs.Same.{same_atom}
 use Rattle.pg_step.specs.Nodes.{Node, every, is_node, is_peer}
 use Rattle.pg_step.specs.State.Status.{Unasked, Asked}
 use Rattle.pg_step.specs.Attempts.{is_unasked, asks, own_verdict, with_asked}
-use Rattle.pg_opens.specs.declared.mark.Mark.{Mark}
-use Rattle.pg_opens.specs.declared.mark.Mark.TheVariants as mark
-use Rattle.pg_opens.specs.declared.mark.Asked.{Asked as Whom}
-use Rattle.pg_opens.specs.declared.mark.Asked.TheVariants.{Nobody, One, All}
-use Rattle.pg_opens.specs.Places.{name_at, all_below, lost_in, live_in, ArePlaces}
-use Rattle.pg_opens.specs.declared.mark.Wanted.{Wanted}
-use Rattle.pg_opens.specs.declared.mark.Wanted.TheVariants.{Granted}
-use Rattle.pg_opens.specs.Marks.{status_of, statuses, has_yes, replies, asked_mark, is_wanted}
-use Rattle.pg_opens.specs.Marks.{whom, has_place, mark_at, asked_in, passes, all_marks}
+use Rattle.pg_marks.specs.declared.mark.Mark.{Mark}
+use Rattle.pg_marks.specs.declared.mark.Mark.TheVariants as mark
+use Rattle.pg_marks.specs.declared.mark.Asked.{Asked as Whom}
+use Rattle.pg_marks.specs.declared.mark.Asked.TheVariants.{Nobody, One, All}
+use Rattle.pg_marks.specs.declared.mark.Wanted.{Wanted}
+use Rattle.pg_marks.specs.declared.mark.Wanted.TheVariants.{Granted}
+use Rattle.pg_marks.specs.Marks.{status_of, has_yes, asked_mark, passes, is_wanted}
+use Rattle.pg_marks.specs.Marks.{mark_at, asked_in, all_below, all_marks}
+use Rattle.pg_opens.specs.Places.{name_at, lost_in, live_in, ArePlaces}
+use Rattle.pg_opens.specs.Named.{statuses, replies, whom, has_place}
 use Rattle.pg_opens.proofs.Named.{clash, atom_self, atom_other, names_differ, reads_at, reads_nobody}
 use Rattle.pg_opens.proofs.Named.{by_places, all_below_same, all_names, all_filtered, any_filtered}
 

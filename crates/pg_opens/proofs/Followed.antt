@@ -21,16 +21,16 @@ use Rattle.pg_step.specs.State.Stage.{Closed, Waiting, Changing}
 use Rattle.pg_step.specs.Peers.{would_grant}
 use Rattle.pg_step.specs.Attempts.{same_op, new_attempt, ask, with_asked}
 use Rattle.pg_step.specs.Attempts.{count_answer, give_up, begin, finish, own_verdict}
-use Rattle.pg_opens.specs.declared.mark.Mark.{Mark}
-use Rattle.pg_opens.specs.declared.mark.Mark.TheVariants as mark
-use Rattle.pg_opens.specs.declared.mark.Asked.{Asked as Whom}
+use Rattle.pg_marks.specs.declared.mark.Mark.{Mark}
+use Rattle.pg_marks.specs.declared.mark.Mark.TheVariants as mark
+use Rattle.pg_marks.specs.declared.mark.Asked.{Asked as Whom}
+use Rattle.pg_marks.specs.Marks.{status_of, has_yes, verdict_mark, mark_at, first_mark}
 use Rattle.pg_opens.specs.declared.command.Phase.{Phase}
 use Rattle.pg_opens.specs.declared.command.Phase.TheVariants as phase
 use Rattle.pg_opens.specs.declared.command.OpenCommand.{OpenCommand}
 use Rattle.pg_opens.specs.Layers.{over, or_as, seek, others}
 use Rattle.pg_opens.specs.Places.{name_at, lost_in, live_in, ArePlaces}
-use Rattle.pg_opens.specs.Marks.{status_of, statuses, has_yes, replies}
-use Rattle.pg_opens.specs.Marks.{verdict_mark, whom, has_place, mark_at, first_mark}
+use Rattle.pg_opens.specs.Named.{statuses, replies, whom, has_place}
 use Rattle.pg_opens.specs.Commands.{use_in, use_at, has_in, stage_in, stage_at}
 use Rattle.pg_opens.specs.Commands.{unused, uses_in, stages_in, AreKnown, Turns}
 use Rattle.pg_opens.specs.declared.command.Stage.TheVariants as seen

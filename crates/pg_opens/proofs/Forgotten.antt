@@ -17,14 +17,15 @@ use Rattle.pg_step.specs.State.Use.{Fresh, Spent, Locking, Owning, Updating}
 use Rattle.pg_step.specs.State.Stage.{Closed}
 use Rattle.pg_step.specs.Attempts.{same_op}
 use Rattle.pg_step.specs.Losses.{forgets, see_loss}
-use Rattle.pg_opens.specs.declared.mark.Mark.{Mark}
-use Rattle.pg_opens.specs.declared.mark.Mark.TheVariants as mark
+use Rattle.pg_marks.specs.declared.mark.Mark.{Mark}
+use Rattle.pg_marks.specs.declared.mark.Mark.TheVariants as mark
+use Rattle.pg_marks.specs.Marks.{status_of, has_yes}
 use Rattle.pg_opens.specs.declared.command.Phase.{Phase}
 use Rattle.pg_opens.specs.declared.command.Phase.TheVariants as phase
 use Rattle.pg_opens.specs.declared.command.OpenCommand.{OpenCommand}
 use Rattle.pg_opens.specs.Layers.{over, or_as, seek, answers}
 use Rattle.pg_opens.specs.Places.{name_at, lost_in, ArePlaces}
-use Rattle.pg_opens.specs.Marks.{status_of, statuses, has_yes, replies}
+use Rattle.pg_opens.specs.Named.{statuses, replies}
 use Rattle.pg_opens.specs.Commands.{use_in, use_at, stage_in, stage_at, is_made}
 use Rattle.pg_opens.specs.Commands.{unused, first_in, AreKnown, Turns, Forgets}
 use Rattle.pg_opens.specs.Opens.{Says}

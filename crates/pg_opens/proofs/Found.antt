@@ -19,23 +19,24 @@ use Rattle.pg_step.specs.State.Use.{Fresh, Locking, Owning, Updating, Spent}
 use Rattle.pg_step.specs.State.Stage.{Closed, Waiting, Asking, Changing}
 use Rattle.pg_step.specs.Attempts.{same_op, gathered, is_complete, waits, lock_entry, is_yes}
 use Rattle.pg_step.specs.Attempts.{round_of, none_denied, none_missing, all_granted, with_asked}
-use Rattle.pg_opens.specs.declared.mark.Mark.{Mark}
-use Rattle.pg_opens.specs.declared.mark.Mark.TheVariants as mark
-use Rattle.pg_opens.specs.declared.mark.Asked.TheVariants.{Nobody, All}
-use Rattle.pg_opens.specs.declared.mark.Wanted.TheVariants.{Answered, NotDenied, Granted}
+use Rattle.pg_marks.specs.declared.mark.Mark.{Mark}
+use Rattle.pg_marks.specs.declared.mark.Mark.TheVariants as mark
+use Rattle.pg_marks.specs.declared.mark.Asked.TheVariants.{Nobody, All}
+use Rattle.pg_marks.specs.declared.mark.Wanted.TheVariants.{Answered, NotDenied, Granted}
+use Rattle.pg_marks.specs.Marks.{status_of, has_yes, lock_heard, all_marks}
 use Rattle.pg_opens.specs.declared.command.Phase.{Phase}
 use Rattle.pg_opens.specs.declared.command.Phase.TheVariants as phase
 use Rattle.pg_opens.specs.declared.command.OpenCommand.{OpenCommand}
 use Rattle.pg_opens.specs.declared.command.Gathering.TheVariants.{Nothing}
 use Rattle.pg_opens.specs.Layers.{over, or_as, seek, answers, others}
 use Rattle.pg_opens.specs.Places.{name_at, live_in, ArePlaces}
-use Rattle.pg_opens.specs.Marks.{status_of, statuses, has_yes, replies, all_marks}
+use Rattle.pg_opens.specs.Named.{statuses, replies}
 use Rattle.pg_opens.specs.Commands.{use_in, use_at, has_in, stage_in, stage_at, is_made}
 use Rattle.pg_opens.specs.Commands.{unused, uses_in, stages_in, first_in, AreKnown}
 use Rattle.pg_opens.specs.declared.command.Stage.TheVariants as seen
 use Rattle.pg_opens.specs.Readings.{is_closed, is_lock, is_update, is_updating, update_of, update_in}
 use Rattle.pg_opens.specs.Readings.{waiting_of, waiting_in, waits_by, gathering_of, gathering_in}
-use Rattle.pg_opens.specs.Readings.{stage_seen, stage_seen_in, lock_heard, heard_in, complete_in, is_locking}
+use Rattle.pg_opens.specs.Readings.{stage_seen, stage_seen_in, heard_in, complete_in, is_locking}
 use Rattle.pg_opens.specs.Outlooks.{outlook_of, outlook_by, outlook_in, round_in}
 use Rattle.pg_opens.proofs.Layered.{quiet_is, quiet_both}
 use Rattle.pg_opens.proofs.Named.{clash}

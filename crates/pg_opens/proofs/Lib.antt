@@ -7,7 +7,6 @@ pub mod Forgotten
 pub mod Found
 pub mod Going
 pub mod Greatest
-pub mod Kept
 pub mod Layered
 pub mod Listed
 pub mod Named

@@ -8,11 +8,12 @@ use Rattle.pg_step.specs.Nodes.{Node, is_peer}
 use Rattle.pg_step.specs.State.{Status}
 use Rattle.pg_step.specs.State.Use.{Locking}
 use Rattle.pg_step.specs.Attempts.{asks}
-use Rattle.pg_opens.specs.declared.mark.Mark.TheVariants as mark
-use Rattle.pg_opens.specs.declared.mark.Asked.{Asked as Whom}
+use Rattle.pg_marks.specs.declared.mark.Mark.TheVariants as mark
+use Rattle.pg_marks.specs.declared.mark.Asked.{Asked as Whom}
+use Rattle.pg_marks.specs.Marks.{asked_in}
 use Rattle.pg_opens.specs.declared.command.OpenCommand.{OpenCommand}
 use Rattle.pg_opens.specs.Places.{name_at, lost_in, live_in, ArePlaces}
-use Rattle.pg_opens.specs.Marks.{whom, has_place, asked_in}
+use Rattle.pg_opens.specs.Named.{whom, has_place}
 use Rattle.pg_opens.specs.Commands.{uses_in, AreKnown}
 use Rattle.pg_opens.proofs.Asking.{own_here, asked_at, peer_left}
 use Rattle.pg_opens.proofs.Found.{Stands}

@@ -16,18 +16,18 @@ use Rattle.pg_step.specs.State.{Status, Use}
 use Rattle.pg_step.specs.State.Use.{Locking, Owning, Updating}
 use Rattle.pg_step.specs.State.Stage.{Closed}
 use Rattle.pg_step.specs.Attempts.{same_op}
-use Rattle.pg_opens.specs.declared.mark.Mark.TheVariants as mark
+use Rattle.pg_marks.specs.declared.mark.Mark.TheVariants as mark
+use Rattle.pg_marks.specs.Marks.{has_yes, same_mark, same_test, same_marks, same_replies}
 use Rattle.pg_opens.specs.declared.command.Phase.{Phase}
 use Rattle.pg_opens.specs.declared.command.Phase.TheVariants as phase
 use Rattle.pg_opens.specs.declared.command.OpenCommand.{OpenCommand}
 use Rattle.pg_opens.specs.declared.opens.Opens.{Opens}
 use Rattle.pg_opens.specs.Layers.{over, or_as, seek, answers, others}
 use Rattle.pg_opens.specs.Places.{name_at, lost_in, ArePlaces}
-use Rattle.pg_opens.specs.Marks.{statuses, has_yes, replies}
+use Rattle.pg_opens.specs.Named.{statuses, replies}
 use Rattle.pg_opens.specs.Commands.{use_at, stage_in, stage_at, unused, uses_in, stages_in, first_in, AreKnown}
 use Rattle.pg_opens.specs.Opens.{lost_of, AreSame}
-use Rattle.pg_opens.specs.Twins.{same_update, same_mark, same_test, same_marks}
-use Rattle.pg_opens.specs.Twins.{same_replies, is_alike, is_twin, have_twins, same_commands}
+use Rattle.pg_opens.specs.Twins.{same_update, is_alike, is_twin, have_twins, same_commands}
 use Rattle.pg_opens.proofs.Layered.{quiet_is}
 use Rattle.pg_opens.proofs.Named.{clash, atom_same}
 use Rattle.pg_opens.proofs.Asking.{lost_at, same_at, status_at, reply_at}

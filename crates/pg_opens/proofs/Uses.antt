@@ -13,13 +13,13 @@ use Rattle.pg_step.specs.State.{Use, Stage}
 use Rattle.pg_step.specs.State.Use.{Fresh, Locking, Owning, Updating, Spent}
 use Rattle.pg_step.specs.State.Stage.{Closed}
 use Rattle.pg_step.specs.Attempts.{same_op}
-use Rattle.pg_opens.specs.declared.mark.Mark.{Mark}
+use Rattle.pg_marks.specs.declared.mark.Mark.{Mark}
 use Rattle.pg_opens.specs.declared.command.Phase.{Phase}
 use Rattle.pg_opens.specs.declared.command.Phase.TheVariants as phase
 use Rattle.pg_opens.specs.declared.command.OpenCommand.{OpenCommand}
 use Rattle.pg_opens.specs.Layers.{over, or_as, seek, answers, others}
 use Rattle.pg_opens.specs.Places.{name_at}
-use Rattle.pg_opens.specs.Marks.{statuses, replies}
+use Rattle.pg_opens.specs.Named.{statuses, replies}
 use Rattle.pg_opens.specs.Commands.{use_in, use_at, has_in, stage_in, stage_at, is_made}
 use Rattle.pg_opens.specs.Commands.{unused, uses_in, stages_in, first_in, AreKnown, Turns}
 use Rattle.pg_opens.proofs.Layered.{quiet_is, quiet_left, quiet_right, quiet_both, pull, pull_set, set_apart}

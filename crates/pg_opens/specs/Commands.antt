@@ -9,14 +9,14 @@ use Rattle.pg_step.specs.State.{Use, Stage}
 use Rattle.pg_step.specs.State.Use.{Fresh, Locking, Owning, Updating, Spent}
 use Rattle.pg_step.specs.State.Stage.{Closed, Waiting, Asking, Changing}
 use Rattle.pg_step.specs.Attempts.{same_op}
-use Rattle.pg_opens.specs.declared.mark.Mark.{Mark}
-use Rattle.pg_opens.specs.declared.mark.Mark.TheVariants as mark
+use Rattle.pg_marks.specs.declared.mark.Mark.{Mark}
+use Rattle.pg_marks.specs.declared.mark.Mark.TheVariants as mark
 use Rattle.pg_opens.specs.declared.command.Phase.{Phase}
 use Rattle.pg_opens.specs.declared.command.Phase.TheVariants as phase
 use Rattle.pg_opens.specs.declared.command.OpenCommand.{OpenCommand}
 use Rattle.pg_opens.specs.Layers.{seek, or_as, answers, AllAlone}
 use Rattle.pg_opens.specs.Places.{name_at}
-use Rattle.pg_opens.specs.Marks.{statuses, replies}
+use Rattle.pg_opens.specs.Named.{statuses, replies}
 
 -- what a command in this phase uses a reference for
 abbrev pub use_in : List Node → OpId → Update → Phase → List Mark → ℕ → Option Use

@@ -1,7 +1,6 @@
 pub mod Commands
-pub mod Kept
 pub mod Layers
-pub mod Marks
+pub mod Named
 pub mod Opens
 pub mod Outlooks
 pub mod Places

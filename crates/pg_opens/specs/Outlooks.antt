@@ -11,13 +11,13 @@ use Rattle.pg_step.specs.State.Use.{Locking}
 use Rattle.pg_step.specs.Turns.{NodeTurn, becomes, and_then}
 use Rattle.pg_step.specs.Attempts.{none_missing, none_denied, all_granted, round_of}
 use Rattle.pg_step.specs.Attempts.{with_asked, ask, give_up, begin, replies_in}
-use Rattle.pg_opens.specs.declared.mark.Mark.{Mark}
-use Rattle.pg_opens.specs.declared.mark.Mark.TheVariants as mark
-use Rattle.pg_opens.specs.declared.mark.Asked.TheVariants.{Nobody, All}
-use Rattle.pg_opens.specs.declared.mark.Wanted.TheVariants.{Answered, NotDenied, Granted}
+use Rattle.pg_marks.specs.declared.mark.Mark.{Mark}
+use Rattle.pg_marks.specs.declared.mark.Mark.TheVariants as mark
+use Rattle.pg_marks.specs.declared.mark.Asked.TheVariants.{Nobody, All}
+use Rattle.pg_marks.specs.declared.mark.Wanted.TheVariants.{Answered, NotDenied, Granted}
+use Rattle.pg_marks.specs.Marks.{has_yes, all_marks}
 use Rattle.pg_opens.specs.declared.command.Phase.{Phase}
 use Rattle.pg_opens.specs.declared.command.Phase.TheVariants as phase
-use Rattle.pg_opens.specs.Marks.{has_yes, all_marks}
 use Rattle.pg_opens.specs.declared.outlook.Outlook.{Outlook}
 use Rattle.pg_opens.specs.declared.outlook.Outlook.TheVariants.{Wait, GiveUp, Ask, Begin}
 

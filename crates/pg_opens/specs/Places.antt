@@ -1,6 +1,5 @@
 -- What a list says of nodes that another list names, place by place.
-use Rattle.std.specs.Prelude.{◌≡◌, ℕ, ◌<◌, ◌≤◌, suc, zero, Bool, true, false, not}
-use Rattle.std.specs.Prelude.{◌&&◌, cond, length, get_or, drop, List, [], ◌∷◌}
+use Rattle.std.specs.Prelude.{◌≡◌, ℕ, ◌<◌, ◌≤◌, Bool, false, not, cond, length, get_or, drop, List, [], ◌∷◌}
 use Rattle.std.specs.List.{filter}
 use Rattle.pg_term.specs.Same.{same_atom}
 use Rattle.pg_step.specs.Nodes.{Node, Nodes}
@@ -13,11 +12,6 @@ abbrev pub reads : {A B : Type 0} → (A → B) → B → List Node → List A �
 reads view default [] xs q = default
 reads view default (n ∷ ns) [] q = default
 reads view default (n ∷ ns) (x ∷ xs) q = cond (same_atom n q) (view x) (reads view default ns xs q)
-
--- whether each place below n passes a test
-abbrev pub all_below : ℕ → (ℕ → Bool) → Bool
-all_below zero test = true
-all_below (suc n) test = test n && all_below n test
 
 -- whose loss was seen
 abbrev pub lost_in : List Node → List Bool → Node → Bool

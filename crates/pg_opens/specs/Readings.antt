@@ -1,24 +1,22 @@
 -- What is read of the open commands.
 use Rattle.std.specs.Prelude.{ℕ, Bool, true, false, ◌&&◌, ◌==◌, cond, nat_eq, List, Option, Some, None}
 use Rattle.pg_group.specs.declared.update.Update.{Update}
-use Rattle.pg_multicall.specs.Gathered.{what_of}
 use Rattle.pg_multicall.specs.declared.gather.Taken.{Taken}
 use Rattle.pg_multicall.specs.declared.gather.Taken.TheVariants.{Counted, Stranger, Double}
 use Rattle.pg_step.specs.declared.command.OpId.{OpId}
 use Rattle.pg_step.specs.State.{Use, Stage}
 use Rattle.pg_step.specs.State.Use.{Locking, Updating}
 use Rattle.pg_step.specs.State.Stage.{Closed, Waiting, Asking, Changing}
-use Rattle.pg_step.specs.Attempts.{lock_entry}
-use Rattle.pg_opens.specs.declared.mark.Mark.{Mark}
+use Rattle.pg_marks.specs.declared.mark.Mark.{Mark}
+use Rattle.pg_marks.specs.declared.mark.Asked.TheVariants.{Nobody}
+use Rattle.pg_marks.specs.declared.mark.Wanted.TheVariants.{Answered, Granted}
+use Rattle.pg_marks.specs.Marks.{has_yes, lock_heard, all_marks}
 use Rattle.pg_opens.specs.declared.command.Phase.{Phase}
 use Rattle.pg_opens.specs.declared.command.Phase.TheVariants as phase
 use Rattle.pg_opens.specs.declared.command.Gathering.{Gathering}
 use Rattle.pg_opens.specs.declared.command.Gathering.TheVariants as gathering
 use Rattle.pg_opens.specs.declared.command.Stage.{Stage as SeenStage}
 use Rattle.pg_opens.specs.declared.command.Stage.TheVariants as seen
-use Rattle.pg_opens.specs.Marks.{status_of, has_yes, all_marks}
-use Rattle.pg_opens.specs.declared.mark.Asked.TheVariants.{Nobody}
-use Rattle.pg_opens.specs.declared.mark.Wanted.TheVariants.{Answered, Granted}
 
 -- what is gathered under a reference that is used so
 abbrev pub gathering_of : Use → Gathering
@@ -74,16 +72,6 @@ abbrev pub stage_seen_in : Phase → SeenStage
 stage_seen_in phase.Waiting = seen.Waiting
 stage_seen_in (phase.Asking lock first) = seen.Asking lock
 stage_seen_in (phase.Changing lock number) = seen.Changing number
-
--- in the second round the node that was asked first is not asked
-abbrev pub heard_by : Taken → Bool → Taken
-heard_by Double true = Stranger
-heard_by Double false = Double
-heard_by Counted is_first = Counted
-heard_by Stranger is_first = Stranger
-
-abbrev pub lock_heard : Mark → Bool → Taken
-lock_heard mark is_first = what_of true (lock_entry (status_of mark) is_first)
 
 abbrev pub heard_in : Phase → Mark → (place : ℕ) → ℕ → Taken
 heard_in phase.Waiting mark place x = Stranger

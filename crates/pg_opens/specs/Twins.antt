@@ -1,17 +1,15 @@
 -- When two nodes keep the same open commands, in whatever order.
-use Rattle.std.specs.Prelude.{ℕ, Bool, true, false, ◌&&◌, nat_eq, get_or, length, List}
+use Rattle.std.specs.Prelude.{ℕ, Bool, true, false, ◌&&◌, nat_eq, length, List}
 use Rattle.std.specs.List.{list_all, list_any}
 use Rattle.pg_term.specs.Same.{same_term, same_pid}
 use Rattle.pg_group.specs.declared.update.Update.{Update}
 use Rattle.pg_group.specs.declared.update.Update.TheVariants as update
 use Rattle.pg_step.specs.Attempts.{same_op}
-use Rattle.pg_opens.specs.declared.mark.Mark.{Mark}
-use Rattle.pg_opens.specs.declared.mark.Mark.TheVariants as mark
+use Rattle.pg_marks.specs.declared.mark.Mark.{Mark}
+use Rattle.pg_marks.specs.Marks.{same_marks, same_replies}
 use Rattle.pg_opens.specs.declared.command.Phase.{Phase}
 use Rattle.pg_opens.specs.declared.command.Phase.TheVariants as phase
 use Rattle.pg_opens.specs.declared.command.OpenCommand.{OpenCommand}
-use Rattle.pg_opens.specs.Marks.{has_yes}
-use Rattle.pg_opens.specs.Places.{all_below}
 
 -- whether two updates are one
 abbrev pub same_update : Update → Update → Bool
@@ -20,26 +18,6 @@ same_update (update.Delete name) (update.Delete other) = same_term name other
 same_update (update.Join name pid) (update.Join other member) = same_term name other && same_pid pid member
 same_update (update.Leave name pid) (update.Leave other member) = same_term name other && same_pid pid member
 same_update one other = false
-
-abbrev pub same_mark : Mark → Mark → Bool
-same_mark mark.Unasked mark.Unasked = true
-same_mark mark.Asked mark.Asked = true
-same_mark mark.Yes mark.Yes = true
-same_mark mark.No mark.No = true
-same_mark one other = false
-
-abbrev pub same_test : Bool → Bool → Bool
-same_test true b = b
-same_test false true = false
-same_test false false = true
-
--- the same marks at all places
-abbrev pub same_marks : List Mark → List Mark → Bool
-same_marks ms ns = nat_eq (length ms) (length ns) && all_below (length ms) (λ place. same_mark (get_or ms place mark.Unasked) (get_or ns place mark.Unasked))
-
--- the same nodes have applied the update
-abbrev pub same_replies : List Mark → List Mark → Bool
-same_replies ms ns = nat_eq (length ms) (length ns) && all_below (length ms) (λ place. same_test (has_yes (get_or ms place mark.Unasked)) (has_yes (get_or ns place mark.Unasked)))
 
 -- whether two commands in these phases are seen as one: of an update that goes out it is seen who has applied it, of one that
 -- waits no mark

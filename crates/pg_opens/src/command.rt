@@ -1,14 +1,13 @@
 ghost use Rattle.std.specs.Prelude.{◌≡◌, ◌<◌, false, true, length, get_or, IfOk, IfSome, IfNone, slice_get};
 ghost use Rattle.std.specs.List.{list_any};
 ghost use Rattle.pg_step.specs.Attempts.{same_op};
-ghost use Rattle.pg_opens.specs.declared.mark.Mark.TheVariants.{Unasked};
+ghost use Rattle.pg_marks.specs.declared.mark.Mark.TheVariants.{Unasked};
 ghost use Rattle.pg_opens.specs.Commands.{has_in};
 
-use crate::mark::{Asked, Wanted};
-use crate::marks::Marks;
 use crate::outlook::Outlook;
 use pg_group::Update;
 use pg_lock::Attempt;
+use pg_marks::{Asked, Marks, Wanted};
 use pg_multicall::Taken;
 use pg_step::OpId;
 use std::alloc::{AllocError, Global};
@@ -104,9 +103,9 @@ impl Gathering {
 
 impl OpenCommand {
     ghost use Rattle.std.specs.Prelude.{ℕ, slice_set};
-    ghost use Rattle.pg_opens.specs.declared.mark.Mark.TheVariants.{Yes, Asked as AskedYet};
+    ghost use Rattle.pg_marks.specs.declared.mark.Mark.TheVariants.{Yes, Asked as AskedYet};
     ghost use Rattle.pg_opens.specs.declared.command.Phase.TheVariants.{Waiting, Asking, Changing};
-    ghost use Rattle.pg_opens.specs.Marks.{first_mark, mark_at, asked_in, has_yes, verdict_mark};
+    ghost use Rattle.pg_marks.specs.Marks.{first_mark, mark_at, asked_in, has_yes, verdict_mark};
     ghost use Rattle.pg_opens.specs.Commands.{Turns, Forgets, first_in};
     ghost use Rattle.pg_opens.specs.Readings.{gathering_in, stage_seen_in, heard_in};
     ghost use Rattle.pg_opens.specs.Readings.{complete_in, update_in, waiting_in, gathers_in};

@@ -5,8 +5,6 @@
 
 mod command;
 mod laws;
-mod mark;
-mod marks;
 mod nodes;
 mod opens;
 mod outlook;
@@ -14,6 +12,5 @@ mod twin;
 
 pub use command::{Gathering, Stage};
 pub use laws::steps_go_by_outlook;
-pub use mark::Asked;
 pub use opens::Opens;
 pub use outlook::Outlook;

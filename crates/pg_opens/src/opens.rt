@@ -8,12 +8,11 @@ ghost use Rattle.pg_opens.specs.declared.command.OpenCommand.{OpenCommand};
 ghost use Rattle.pg_opens.specs.Commands.{AreKnown};
 
 use crate::command::{Gathering, OpenCommand, Phase, Stage, place_of, place_of_op};
-use crate::mark::Asked;
-use crate::marks::Marks;
 use crate::nodes::{greatest_place, place_of_atom};
 use crate::outlook::Outlook;
 use crate::twin::have_twins;
 use pg_group::Update;
+use pg_marks::{Asked, Marks};
 use pg_multicall::Taken;
 use pg_step::OpId;
 use pg_term::Atom;
@@ -55,7 +54,7 @@ impl Opens {
     ghost use Rattle.pg_opens.specs.Opens.{names_of, whole_of, live_of, ops_of, AreListed};
     ghost use Rattle.pg_opens.specs.Opens.{AreSame, lost_of, references_of, uses_of, opened_of};
     ghost use Rattle.pg_opens.specs.Opens.{stages_of, Shows, Follows, has_room};
-    ghost use Rattle.pg_opens.specs.Marks.{whom, has_place};
+    ghost use Rattle.pg_opens.specs.Named.{whom, has_place};
     ghost use Rattle.pg_opens.specs.Readings.{gathering_of, stage_seen, is_locking};
     ghost use Rattle.pg_opens.specs.Readings.{is_updating, update_of, waiting_of, waits_by};
     ghost use Rattle.pg_opens.specs.Outlooks.{outlook_of};

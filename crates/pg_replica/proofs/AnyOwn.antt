@@ -30,7 +30,7 @@ use Rattle.pg_replica.specs.Causes.{AllAnswered, Cause, InTurn, Unread}
 use Rattle.pg_replica.specs.Replica.{Pair, State, Answer, Run, start, nodes_of, turned}
 use Rattle.pg_replica.specs.Replica.{taken_packet, taken_in, answered, goes_on, preceded, replica_run}
 use Rattle.pg_replica.specs.Replica.{served, rest_fault, first_fault, frames_of, WroteFor, Serves}
-use Rattle.pg_node_state.specs.States.{stamped_of}
+use Rattle.pg_sends.specs.Sent.{stamped_of}
 use Rattle.pg_replica.proofs.Served.{cause_of}
 
 -- no reference was made

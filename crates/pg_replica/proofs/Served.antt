@@ -21,7 +21,7 @@ use Rattle.pg_step.specs.Step.{TimedTurn, step_take}
 use Rattle.pg_step.specs.declared.refusal.Refusal.{Refusal}
 use Rattle.pg_step.specs.declared.refusal.Refusal.TheVariants as refusals
 use Rattle.pg_replica.specs.Fault.{out_of_memory, Refuses}
-use Rattle.pg_node_state.specs.States.{stamped_of}
+use Rattle.pg_sends.specs.Sent.{stamped_of}
 use Rattle.pg_replica.specs.Progress.{CutShort, HasServed, ReadsSome, Serving, Stops, StopsAt}
 use Rattle.pg_replica.specs.Replica.{Pair, State, Run, nodes_of, answered, taken_in}
 use Rattle.pg_replica.specs.Replica.{turned, start, Serves, served, frames_of, WroteFor}

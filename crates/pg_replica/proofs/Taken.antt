@@ -14,16 +14,18 @@ use Rattle.pg_step.specs.declared.refusal.Refusal.TheVariants.{ClockFull, NotAMe
 use Rattle.pg_step.specs.declared.refusal.Refusal.TheVariants.{NotWaiting, NodeLost, NotLost, NotDrained}
 use Rattle.pg_step.specs.Nodes.{Node, Nodes}
 use Rattle.pg_step.specs.Step.{TimedTurn, step_take}
-use Rattle.pg_node_state.specs.declared.state.done.Done.{Done}
+use Rattle.pg_sends.specs.declared.done.Done.{Done}
 use Rattle.pg_node_state.specs.declared.state.fault.NodeFault.{NodeFault}
 use Rattle.pg_node_state.specs.declared.state.fault.NodeFault.TheVariants.{Refused, OutOfMemory}
 use Rattle.pg_node_state.specs.declared.state.fault.NodeFault.TheVariants.{Message, TooLong, Damaged}
 use Rattle.pg_replica.specs.Fault.{refused_as, untaken_as, Refuses}
-use Rattle.pg_node_state.specs.Frames.{frame_of, frames_to}
-use Rattle.pg_node_state.specs.Sendable.{FitLinks, IsSendable, Ascends, AreSendable}
+use Rattle.pg_writer.specs.Frames.{frame_of}
+use Rattle.pg_sends.specs.Frames.{frames_to}
+use Rattle.pg_sends.specs.Sendable.{FitLinks, IsSendable, Ascends, AreSendable}
 use Rattle.pg_replica.specs.Replica.{State, AnswersServed, nodes_of, frames_of, body_sent}
 use Rattle.pg_replica.specs.Replica.{bodies_to, pair_in, taken_packet, turned}
-use Rattle.pg_node_state.specs.States.{Comes, sends_in, stamped_of}
+use Rattle.pg_node_state.specs.States.{Comes}
+use Rattle.pg_sends.specs.Sent.{sends_in, stamped_of}
 
 self_same : (peer : Node) → same_atom peer peer ≡ true
 self_same = nat_list_eq_equiv.refl

@@ -26,7 +26,8 @@ use Rattle.pg_replica.specs.declared.fault.ServeFault.{ServeFault}
 use Rattle.pg_replica.specs.declared.fault.ServeFault.TheVariants as faults
 use Rattle.pg_node_state.specs.declared.state.NodeState.{NodeState}
 use Rattle.pg_replica.specs.Fault.{refused_as}
-use Rattle.pg_node_state.specs.States.{names_of, stamped_of}
+use Rattle.pg_node_state.specs.States.{names_of}
+use Rattle.pg_sends.specs.Sent.{stamped_of}
 
 -- ---- one packet
 

@@ -4,8 +4,8 @@ ghost use Rattle.std.specs.Prelude.{◌≡◌, ◌≤◌, ◌+◌, ◌++◌, ◌
 ghost use Rattle.pg_message.specs.Members.{IsShort};
 ghost use Rattle.pg_writer.specs.declared.size.TheConstants.{MAX_SMALL_LEN};
 ghost use Rattle.pg_replica.specs.Fault.{untaken_as, Refuses};
-ghost use Rattle.pg_node_state.specs.Frames.{frames_to};
-ghost use Rattle.pg_node_state.specs.Sendable.{FitLinks};
+ghost use Rattle.pg_sends.specs.Frames.{frames_to};
+ghost use Rattle.pg_sends.specs.Sendable.{FitLinks};
 ghost use Rattle.pg_replica.specs.Replica.{pair_of, taken_packet, answered, AnswersServed};
 ghost use Rattle.pg_node_state.specs.States.{names_of, state_of};
 

@@ -5,17 +5,18 @@ use Rattle.std.proofs.lemmas.Bool.{cases_eq}
 use Rattle.std.specs.Prelude.{Bool, true, false, ◌||◌, ◌+◌, Result, Ok, Err, Option, Some, None}
 use Rattle.pg_group.specs.declared.table.GroupTable.{Ghosts}
 use Rattle.pg_machine.specs.Clocked.{Timed}
-use Rattle.pg_node_state.specs.declared.state.done.Done.{Done}
+use Rattle.pg_sends.specs.declared.done.Done.{Done}
 use Rattle.pg_node_state.specs.declared.state.fault.NodeFault.{NodeFault}
 use Rattle.pg_node_state.specs.declared.state.fault.NodeFault.TheVariants.{Refused, OutOfMemory}
 use Rattle.pg_node_state.specs.declared.state.fault.NodeFault.TheVariants.{TooLong, Message, Damaged}
 use Rattle.pg_node_state.specs.Issued.{ports_of}
 use Rattle.pg_message.specs.declared.packet.Packet.{Packet}
 use Rattle.pg_node.specs.Bytes.{ReadsNext, damages, marked}
-use Rattle.pg_node_state.specs.Frames.{frames_to}
+use Rattle.pg_sends.specs.Frames.{frames_to}
 use Rattle.pg_node.specs.Links.{Link, at_link}
 use Rattle.pg_node.specs.Nodes.{held_by, links_of, read_next, step_link, taken_of, taken_as, ComesInRoom}
-use Rattle.pg_node_state.specs.States.{names_of, state_of, answers_of, stamped_of, Happens, Comes}
+use Rattle.pg_node_state.specs.States.{names_of, state_of, answers_of, Happens, Comes}
+use Rattle.pg_sends.specs.Sent.{stamped_of}
 use Rattle.pg_node.proofs.Events.{step_read}
 use Rattle.pg_run.specs.declared.linked.LinkedNode.{LinkedNode}
 use Rattle.pg_run.specs.Acts.{Act, Standing, ActLeads, event_of, is_from, losses_of}

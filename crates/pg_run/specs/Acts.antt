@@ -6,9 +6,10 @@ use Rattle.pg_machine.specs.Clocked.{Timed, Stamped}
 use Rattle.pg_message.specs.declared.message.Message.{Message}
 use Rattle.pg_message.specs.declared.packet.Packet.{Packet}
 use Rattle.pg_message.specs.Reading.{packet_spelled}
-use Rattle.pg_node_state.specs.Frames.{frames_to, AreSmallFrames}
-use Rattle.pg_node_state.specs.Sendable.{AreSendable}
-use Rattle.pg_node_state.specs.States.{stamped_of, sends_in, step_see_loss, Gave}
+use Rattle.pg_sends.specs.Frames.{frames_to, AreSmallFrames}
+use Rattle.pg_sends.specs.Sendable.{AreSendable}
+use Rattle.pg_node_state.specs.States.{step_see_loss, Gave}
+use Rattle.pg_sends.specs.Sent.{stamped_of, sends_in}
 use Rattle.pg_opens.specs.Places.{name_at, whole_in}
 use Rattle.pg_run.specs.declared.log.NodeEvent.{NodeEvent}
 use Rattle.pg_run.specs.declared.notices.Notice.{Notice}

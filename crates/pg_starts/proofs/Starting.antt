@@ -31,7 +31,8 @@ use Rattle.pg_opens.specs.Places.{name_at as place_name}
 use Rattle.pg_opens.proofs.Named.{names_differ}
 use Rattle.pg_node_state.specs.declared.state.NodeState.{NodeState}
 use Rattle.pg_node_state.specs.Issued.{ports_of}
-use Rattle.pg_node_state.specs.States.{kept_by, stamped_of, state_of, answers_of, names_of as known_names}
+use Rattle.pg_node_state.specs.States.{kept_by, state_of, answers_of, names_of as known_names}
+use Rattle.pg_sends.specs.Sent.{stamped_of}
 use Rattle.pg_node_state.proofs.Counts.{few_merged}
 use Rattle.pg_node_state.proofs.Apart.{few_in_none}
 use Rattle.pg_starts.specs.Seen.{Seen, seen_of}

@@ -11,12 +11,13 @@ use Rattle.pg_machine.specs.Places.{is_pair}
 use Rattle.pg_machine.specs.Machine.{Event, node_of}
 use Rattle.pg_machine.specs.Happened.{Takes}
 use Rattle.pg_machine.specs.Clocked.{Stamped}
-use Rattle.pg_frame.specs.Pieces.{Bytes, AreShort, frames_of, sent as bytes_sent, piece_taken as bytes_taken}
+use Rattle.pg_frame.specs.Pieces.{Bytes, AreShort, frames_of, put_out, piece_taken as bytes_taken}
 use Rattle.pg_step.specs.Config.{Config}
 use Rattle.pg_step.specs.Step.{Action}
-use Rattle.pg_node_state.specs.Frames.{IsSmallFrame, AreSmallFrames, frame_of, frames_to}
+use Rattle.pg_writer.specs.Frames.{frame_of}
+use Rattle.pg_sends.specs.Frames.{IsSmallFrame, AreSmallFrames, frames_to}
 use Rattle.pg_node.specs.Links.{Link}
-use Rattle.pg_node_state.specs.States.{stamped_of}
+use Rattle.pg_sends.specs.Sent.{stamped_of}
 use Rattle.pg_starts.specs.Seen.{Seen}
 use Rattle.pg_frame_world.specs.Views.{peer_place, packets_to}
 use Rattle.pg_frame_world.specs.Worlds.{TimedFrameWorld, ShowsNodes}
@@ -125,7 +126,7 @@ module _ (config : Config) (lost : List ℕ) (crossing crossing2 : Crossing) (w 
   own_packets : (y : ℕ) → is_pair (length config) (node_of e) y ≡ true → packets_between v (node_of e) y ≡ packets_between w (node_of e) y ++ map packet_as (packets_to sends (peer_place (node_of e) y))
   own_packets y pair = ap (map packet_as) (passes.own y pair) ∙ map_append (w.wire (node_of e) y) (packets_to sends (peer_place (node_of e) y))
 
-  own_bytes : (y : ℕ) → y ≢ node_of e → bytes_at crossing2 (node_of e) y ≡ bytes_sent (frames_of written_of (map packet_as (packets_to sends (peer_place (node_of e) y)))) (bytes_at crossing (node_of e) y)
+  own_bytes : (y : ℕ) → y ≢ node_of e → bytes_at crossing2 (node_of e) y ≡ put_out (frames_of written_of (map packet_as (packets_to sends (peer_place (node_of e) y)))) (bytes_at crossing (node_of e) y)
   own_bytes y n = λ j. record {
     outbox = (acts.out (peer_place (node_of e) y) ∙ ap (λ more. (links_at crossing (node_of e) (peer_place (node_of e) y)).outbox ++ more) (frames_sent sends (peer_place (node_of e) y))) j;
     ring = ring_same (node_of e) (peer_place (node_of e) y) j;

@@ -24,16 +24,17 @@ use Rattle.pg_step.specs.declared.refusal.Refusal.TheVariants.{NodeLost, NotDrai
 use Rattle.pg_step.specs.Config.{Config}
 use Rattle.pg_step.specs.State.{State}
 use Rattle.pg_step.specs.Step.{Action, TimedTurn, step_take, step_act}
-use Rattle.pg_node_state.specs.declared.state.done.Done.{Done}
+use Rattle.pg_sends.specs.declared.done.Done.{Done}
 use Rattle.pg_node_state.specs.declared.state.fault.NodeFault.{NodeFault}
 use Rattle.pg_node_state.specs.declared.state.fault.NodeFault.TheVariants.{Refused, OutOfMemory, Message as BadMessage}
 use Rattle.pg_node_state.specs.declared.state.fault.NodeFault.TheVariants.{TooLong as FrameTooLong, Damaged}
 use Rattle.pg_node.specs.Bytes.{ReadsNext, damages, marked, packet_in, packet_at, next_packet}
-use Rattle.pg_node_state.specs.Frames.{AreSmallFrames}
+use Rattle.pg_sends.specs.Frames.{AreSmallFrames}
 use Rattle.pg_node.specs.Links.{Link, at_link}
 use Rattle.pg_node.specs.Nodes.{read_next, ComesInRoom}
-use Rattle.pg_node_state.specs.Sendable.{AreSendable}
-use Rattle.pg_node_state.specs.States.{stamped_of, Comes}
+use Rattle.pg_sends.specs.Sendable.{AreSendable}
+use Rattle.pg_node_state.specs.States.{Comes}
+use Rattle.pg_sends.specs.Sent.{stamped_of}
 use Rattle.pg_frame_world.specs.declared.effect.Effect.{Effect}
 use Rattle.pg_frame_world.specs.declared.step.Stepped.TheVariants.{Happened}
 use Rattle.pg_frame_world.specs.Effects.{effect_by}

@@ -3,7 +3,7 @@ use Rattle.std.proofs.Common.{◌≡◌, ◌≢◌, ℕ, Bool, true, false, List
 use Rattle.pg_frame.specs.Frames.{front_of, too_long}
 use Rattle.pg_message.specs.declared.packet.Packet.{Packet}
 use Rattle.pg_frame.specs.Pieces.{Bytes, ArePackets, AreShort, AreCut, FirstPacket, FirstOfCut}
-use Rattle.pg_frame.specs.Pieces.{frames_of, ring_put, pull, sent as bytes_sent, piece_taken as bytes_taken}
+use Rattle.pg_frame.specs.Pieces.{frames_of, ring_put, pull, put_out, piece_taken as bytes_taken}
 use Rattle.pg_world.specs.Crossings.{written_of, IsOnWay}
 
 -- ---- bytes move
@@ -25,10 +25,10 @@ way_pulled count keeps cut false false packets bytes are = keeps packets bytes a
 -- ---- more is sent
 
 abbrev pub Adds : Type 0
-Adds = (packets others : List Packet) (bytes : Bytes) → ArePackets written_of packets bytes → ArePackets written_of (packets ++ others) (bytes_sent (frames_of written_of others) bytes)
+Adds = (packets others : List Packet) (bytes : Bytes) → ArePackets written_of packets bytes → ArePackets written_of (packets ++ others) (put_out (frames_of written_of others) bytes)
 
 pub way_sent : Adds → (to from : Bool) → from ≡ false → (packets others : List Packet) (bytes : Bytes) → IsOnWay to from packets bytes
-    → IsOnWay to from (packets ++ others) (bytes_sent (frames_of written_of others) bytes)
+    → IsOnWay to from (packets ++ others) (put_out (frames_of written_of others) bytes)
 way_sent adds true from stays packets others bytes are = tt
 way_sent adds false true stays packets others bytes are = absurd (cc)
 way_sent adds false false stays packets others bytes are = adds packets others bytes are

@@ -13,7 +13,7 @@ use Rattle.pg_frame_world.specs.declared.step.FrameStep.TheVariants as frames
 use Rattle.pg_world.specs.declared.step.Step.{Step}
 use Rattle.pg_world.specs.declared.step.Step.TheVariants as steps
 use Rattle.pg_world.specs.Crossings.{is_take, is_loss_in}
-use Rattle.pg_frame_world.specs.Worlds.{TimedFrameWorld, event_of, told}
+use Rattle.pg_frame_world.specs.Worlds.{TimedFrameWorld, event_of, told_event}
 use Rattle.pg_frame_world.specs.Runs.{Kind, SeesNone}
 
 -- bytes that should move between two nodes: they moved, or memory ran out; or the nodes are not there
@@ -24,7 +24,7 @@ IsMove config x y number = ((is_pair (length config) x y ≡ true) × ((number �
 -- an event over bytes that did not happen: no whole packet had come; it is refused as is told; or memory ran out
 abbrev pub IsLeft : Config → TimedFrameWorld → Event Action → ℕ → Type 0
 IsLeft config w e number = ((is_take e ≡ true) × (number ≡ 0))
-    ⊎ (((refusal : Refusal) × (told config w e ≡ Some (Err refusal)) × (number ≡ refusal_number_of refusal)) ⊎ (number ≡ 10))
+    ⊎ (((refusal : Refusal) × (told_event config w e ≡ Some (Err refusal)) × (number ≡ refusal_number_of refusal)) ⊎ (number ≡ 10))
 
 -- the event of a step over bytes, if it is one of nodes that know of no loss
 abbrev pub event_in : Step → Option (Event Action)

@@ -35,7 +35,7 @@ use Rattle.pg_starts.specs.Seen.{Seen, seen_of}
 use Rattle.pg_frame_world.specs.Effects.{effect_in}
 use Rattle.pg_frame_world.specs.Views.{peer_place}
 use Rattle.pg_account.specs.Histories.{Account}
-use Rattle.pg_frame_world.specs.Worlds.{TimedFrameWorld, ShowsNodes, ShowsUpdates, EventLed, IsUnseen, is_loss, told}
+use Rattle.pg_frame_world.specs.Worlds.{TimedFrameWorld, ShowsNodes, ShowsUpdates, EventLed, IsUnseen, is_loss, told_event}
 
 -- ---- a world as it is seen
 
@@ -145,7 +145,7 @@ EventComesTo config w e (Ok (Happened effect)) Shown = (effect_in (frame_machine
 EventComesTo config w e (Ok Nothing) Shown = (is_take e ≡ true) × Shown w
 EventComesTo config w e (Ok stepped) Shown = ⊥
 EventComesTo config w e (Err OutOfMemory) Shown = Shown w
-EventComesTo config w e (Err (Refused refusal)) Shown = (told config w e ≡ Some (Err refusal)) × Shown w
+EventComesTo config w e (Err (Refused refusal)) Shown = (told_event config w e ≡ Some (Err refusal)) × Shown w
 EventComesTo config w e (Err fault) Shown = ⊥
 
 -- What came of bytes that should move between two nodes: they moved, or memory ran out; or the nodes are not there. The world w

@@ -18,11 +18,13 @@ impl<T: GroupTable + Drop> Node<T> {
     ghost use Rattle.pg_node.specs.Bytes.{ReadsNext, next_packet, marked, passed, closed};
     ghost use Rattle.pg_node.specs.Nodes.{held_by, links_of, has_lost, read_next, step_link};
     ghost use Rattle.pg_node.specs.Nodes.{taken_of, TakesNext, ComesInRoom, sent_out, step_lose};
-    ghost use Rattle.pg_node_state.specs.Frames.{AreSmallFrames};
+    ghost use Rattle.pg_sends.specs.Frames.{AreSmallFrames};
     ghost use Rattle.pg_node.specs.Links.{at_link};
     ghost use Rattle.pg_node_state.specs.Issued.{ports_of};
-    ghost use Rattle.pg_node_state.specs.Sendable.{AreSendable};
-    ghost use Rattle.pg_node_state.specs.States.{names_of, nodes_of, state_of, answers_of, stamped_of, Comes};
+    ghost use Rattle.pg_sends.specs.Sendable.{AreSendable};
+    ghost use Rattle.pg_node_state.specs.States.{Stays};
+    ghost use Rattle.pg_node_state.specs.States.{names_of, nodes_of, state_of, answers_of, Comes};
+    ghost use Rattle.pg_sends.specs.Sent.{stamped_of};
 
     /// Takes the next packet of a peer, if its frame is whole: what the step sends is framed in the outboxes. `peer`:
     /// its place among the peers.
@@ -44,10 +46,7 @@ impl<T: GroupTable + Drop> Node<T> {
         ensures fits { (done : Done) → result ≡ Ok (Some done) → AreSendable (names_of (held_by self.old)) done.sends.items }
         ensures none { result ≡ Ok None → links_of self.new ≡ links_of self.old }
         ensures marked { IfErr result (λ fault. links_of self.new ≡ at_link peer (λ l. marked l fault) (links_of self.old)) }
-        ensures err { OnErr result (state_of (held_by self.new) ≡ state_of (held_by self.old)) }
-        ensures err_answers { OnErr result (answers_of (held_by self.new) ≡ answers_of (held_by self.old)) }
-        ensures names { names_of (held_by self.new) ≡ names_of (held_by self.old) }
-        ensures ports { ports_of (held_by self.new) ≡ ports_of (held_by self.old) }
+        ensures stays { Stays (held_by self.old) (held_by self.new) result }
     {
         match self.own_reply(peer) {
             Some(reply) => match self.take_own_reply(peer, reply) {
@@ -70,10 +69,7 @@ impl<T: GroupTable + Drop> Node<T> {
         ensures fits { (done : Done) → result ≡ Ok (Some done) → AreSendable (names_of (held_by self.old)) done.sends.items }
         ensures none { result ≡ Ok None → links_of self.new ≡ links_of self.old }
         ensures marked { IfErr result (λ fault. links_of self.new ≡ at_link peer (λ l. marked l fault) (links_of self.old)) }
-        ensures err { OnErr result (state_of (held_by self.new) ≡ state_of (held_by self.old)) }
-        ensures err_answers { OnErr result (answers_of (held_by self.new) ≡ answers_of (held_by self.old)) }
-        ensures names { names_of (held_by self.new) ≡ names_of (held_by self.old) }
-        ensures ports { ports_of (held_by self.new) ≡ ports_of (held_by self.old) }
+        ensures stays { Stays (held_by self.old) (held_by self.new) result }
     {
         match self.next(peer) {
             Ok(next) => self.take_next(peer, next),
@@ -95,10 +91,7 @@ impl<T: GroupTable + Drop> Node<T> {
         ensures fits { (done : Done) → result ≡ Ok (Some done) → AreSendable (names_of (held_by self.old)) done.sends.items }
         ensures none { result ≡ Ok None → links_of self.new ≡ links_of self.old }
         ensures marked { IfErr result (λ fault. links_of self.new ≡ at_link peer (λ l. marked l fault) (links_of self.old)) }
-        ensures err { OnErr result (state_of (held_by self.new) ≡ state_of (held_by self.old)) }
-        ensures err_answers { OnErr result (answers_of (held_by self.new) ≡ answers_of (held_by self.old)) }
-        ensures names { names_of (held_by self.new) ≡ names_of (held_by self.old) }
-        ensures ports { ports_of (held_by self.new) ≡ ports_of (held_by self.old) }
+        ensures stays { Stays (held_by self.old) (held_by self.new) result }
     {
         match next {
             None => Ok(None),
@@ -150,10 +143,7 @@ impl<T: GroupTable + Drop> Node<T> {
         ensures small { IfOk result (λ done. AreSmallFrames done.sends.items) }
         ensures fits { IfOk result (λ done. AreSendable (names_of (held_by self.old)) done.sends.items) }
         ensures marked { IfErr result (λ fault. links_of self.new ≡ at_link peer (λ l. marked l fault) (links_of self.old)) }
-        ensures err { OnErr result (state_of (held_by self.new) ≡ state_of (held_by self.old)) }
-        ensures err_answers { OnErr result (answers_of (held_by self.new) ≡ answers_of (held_by self.old)) }
-        ensures names { names_of (held_by self.new) ≡ names_of (held_by self.old) }
-        ensures ports { ports_of (held_by self.new) ≡ ports_of (held_by self.old) }
+        ensures stays { Stays (held_by self.old) (held_by self.new) result }
     {
         match make_room(&mut self.wires, &mut self.has_room) {
             Ok(()) => {}
@@ -191,10 +181,7 @@ impl<T: GroupTable + Drop> Node<T> {
         ensures small { IfOk result (λ done. AreSmallFrames done.sends.items) }
         ensures fits { IfOk result (λ done. AreSendable (names_of (held_by self.old)) done.sends.items) }
         ensures marked { IfErr result (λ fault. links_of self.new ≡ at_link peer (λ l. marked l fault) (links_of self.old)) }
-        ensures err { OnErr result (state_of (held_by self.new) ≡ state_of (held_by self.old)) }
-        ensures err_answers { OnErr result (answers_of (held_by self.new) ≡ answers_of (held_by self.old)) }
-        ensures names { names_of (held_by self.new) ≡ names_of (held_by self.old) }
-        ensures ports { ports_of (held_by self.new) ≡ ports_of (held_by self.old) }
+        ensures stays { Stays (held_by self.old) (held_by self.new) result }
     {
         match make_room(&mut self.wires, &mut self.has_room) {
             Ok(()) => {}
@@ -238,10 +225,7 @@ impl<T: GroupTable + Drop> Node<T> {
         ensures fits { IfOk result (λ done. AreSendable (names_of (held_by self.old)) done.sends.items) }
         ensures small { IfOk result (λ done. AreSmallFrames done.sends.items) }
         ensures kept { OnErr result (links_of self.new ≡ links_of self.old) }
-        ensures err { OnErr result (state_of (held_by self.new) ≡ state_of (held_by self.old)) }
-        ensures err_answers { OnErr result (answers_of (held_by self.new) ≡ answers_of (held_by self.old)) }
-        ensures names { names_of (held_by self.new) ≡ names_of (held_by self.old) }
-        ensures ports { ports_of (held_by self.new) ≡ ports_of (held_by self.old) }
+        ensures stays { Stays (held_by self.old) (held_by self.new) result }
     {
         match make_room(&mut self.wires, &mut self.has_room) {
             Ok(()) => {}
@@ -275,10 +259,7 @@ impl<T: GroupTable + Drop> Node<T> {
         ensures fits { IfOk result (λ done. AreSendable (names_of (held_by self.old)) done.sends.items) }
         ensures small { IfOk result (λ done. AreSmallFrames done.sends.items) }
         ensures kept { OnErr result (links_of self.new ≡ links_of self.old) }
-        ensures err { OnErr result (state_of (held_by self.new) ≡ state_of (held_by self.old)) }
-        ensures err_answers { OnErr result (answers_of (held_by self.new) ≡ answers_of (held_by self.old)) }
-        ensures names { names_of (held_by self.new) ≡ names_of (held_by self.old) }
-        ensures ports { ports_of (held_by self.new) ≡ ports_of (held_by self.old) }
+        ensures stays { Stays (held_by self.old) (held_by self.new) result }
     {
         match make_room(&mut self.wires, &mut self.has_room) {
             Ok(()) => {}
@@ -312,10 +293,7 @@ impl<T: GroupTable + Drop> Node<T> {
             result (state_of (held_by self.new)) (answers_of (held_by self.old)) (answers_of (held_by self.new)) }
         ensures closed { OnOk result (links_of self.new ≡ at_link peer closed (links_of self.old)) }
         ensures kept { OnErr result (links_of self.new ≡ links_of self.old) }
-        ensures err { OnErr result (state_of (held_by self.new) ≡ state_of (held_by self.old)) }
-        ensures err_answers { OnErr result (answers_of (held_by self.new) ≡ answers_of (held_by self.old)) }
-        ensures names { names_of (held_by self.new) ≡ names_of (held_by self.old) }
-        ensures ports { ports_of (held_by self.new) ≡ ports_of (held_by self.old) }
+        ensures stays { Stays (held_by self.old) (held_by self.new) result }
     {
         if self.state.is_lost(peer) {
             return Err(NodeFault::Refused(Refusal::NodeLost));

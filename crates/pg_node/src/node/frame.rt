@@ -3,7 +3,8 @@
 ghost use Rattle.std.specs.Prelude.{◌≡◌, ◌≤◌, ◌+◌, true, false, length};
 ghost use Rattle.pg_message.specs.declared.packet.TheConstants.{MAX_STAMP};
 ghost use Rattle.pg_message.specs.Writing.{is_exchange, is_sayable};
-ghost use Rattle.pg_node_state.specs.Frames.{frame_of, IsSmallFrame};
+ghost use Rattle.pg_writer.specs.Frames.{frame_of};
+ghost use Rattle.pg_sends.specs.Frames.{IsSmallFrame};
 ghost use Rattle.pg_writer.specs.declared.size.TheConstants.{MAX_SMALL_LEN};
 
 use bytes::BytesMut;

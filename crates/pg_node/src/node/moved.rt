@@ -1,6 +1,6 @@
 //! What is read of a node over bytes, and how bytes move between its links and its peers.
 
-ghost use Rattle.std.specs.Prelude.{◌≡◌, ◌↔◌, ◌≤◌, ◌<◌, ◌+◌, ◌++◌, ℕ, List, true, false};
+ghost use Rattle.std.specs.Prelude.{◌≡◌, ◌↔◌, ◌≤◌, ◌<◌, ◌+◌, ℕ, List, true, false};
 ghost use Rattle.std.specs.Prelude.{length, take, min, None, Ok, Err, IfOk, IfErr, OnErr};
 
 use crate::node::Node;

@@ -1,6 +1,6 @@
 //! Replies to references of the node itself, which are taken as numbers.
 
-ghost use Rattle.std.specs.Prelude.{◌≡◌, ◌<◌, ◌+◌, ℕ, Some, Ok, IfOk, IfErr, IfSome, OnErr, length};
+ghost use Rattle.std.specs.Prelude.{◌≡◌, ◌<◌, ◌+◌, ℕ, Some, Ok, IfOk, IfErr, IfSome, length};
 
 use crate::node::Node;
 use crate::node::wires::{make_room, send_all};
@@ -16,10 +16,11 @@ impl<T: GroupTable + Drop> Node<T> {
     ghost use Rattle.pg_node.specs.Bytes.{next_packet, marked, passed};
     ghost use Rattle.pg_node.specs.Links.{at_link};
     ghost use Rattle.pg_node.specs.Nodes.{held_by, links_of, has_lost, read_next, sent_out, ComesInRoom};
-    ghost use Rattle.pg_node_state.specs.Frames.{AreSmallFrames};
-    ghost use Rattle.pg_node_state.specs.Issued.{ports_of};
-    ghost use Rattle.pg_node_state.specs.Sendable.{AreSendable};
-    ghost use Rattle.pg_node_state.specs.States.{names_of, nodes_of, state_of, answers_of, stamped_of};
+    ghost use Rattle.pg_sends.specs.Frames.{AreSmallFrames};
+    ghost use Rattle.pg_sends.specs.Sendable.{AreSendable};
+    ghost use Rattle.pg_node_state.specs.States.{Stays};
+    ghost use Rattle.pg_node_state.specs.States.{names_of, nodes_of, state_of, answers_of};
+    ghost use Rattle.pg_sends.specs.Sent.{stamped_of};
 
     /// The next packet of a peer, where that is a reply which is read as numbers, and the loss of the peer was not seen.
     pub(crate) fn own_reply(&self, peer: usize) -> Option<OwnReply>
@@ -44,10 +45,7 @@ impl<T: GroupTable + Drop> Node<T> {
         ensures small { IfOk result (λ done. AreSmallFrames done.sends.items) }
         ensures fits { IfOk result (λ done. AreSendable (names_of (held_by self.old)) done.sends.items) }
         ensures marked { IfErr result (λ fault. links_of self.new ≡ at_link peer (λ l. marked l fault) (links_of self.old)) }
-        ensures err { OnErr result (state_of (held_by self.new) ≡ state_of (held_by self.old)) }
-        ensures err_answers { OnErr result (answers_of (held_by self.new) ≡ answers_of (held_by self.old)) }
-        ensures names { names_of (held_by self.new) ≡ names_of (held_by self.old) }
-        ensures ports { ports_of (held_by self.new) ≡ ports_of (held_by self.old) }
+        ensures stays { Stays (held_by self.old) (held_by self.new) result }
     {
         match make_room(&mut self.wires, &mut self.has_room) {
             Ok(()) => {}

@@ -1,10 +1,11 @@
 //! The link of a node to one peer.
 
-ghost use Rattle.std.specs.Prelude.{◌≡◌, ◌≤◌, ◌+◌, ◌++◌, ◌^◌, [], true, false, length};
+ghost use Rattle.std.specs.Prelude.{◌≡◌, ◌≤◌, ◌+◌, ◌^◌, true, false, length};
 ghost use Rattle.std.specs.Prelude.{take, min, Some, Ok, Err, IfOk, IfErr, IfSome, OnOk, OnErr};
 ghost use Rattle.pg_message.specs.declared.packet.TheConstants.{MAX_STAMP};
 ghost use Rattle.pg_message.specs.Writing.{is_exchange, is_sayable};
-ghost use Rattle.pg_node_state.specs.Frames.{frame_of, IsSmallFrame};
+ghost use Rattle.pg_writer.specs.Frames.{frame_of};
+ghost use Rattle.pg_sends.specs.Frames.{IsSmallFrame};
 ghost use Rattle.pg_writer.specs.declared.size.TheConstants.{MAX_SMALL_LEN};
 ghost use Rattle.pg_node.specs.Bytes.{damages};
 
@@ -33,7 +34,8 @@ pub(crate) struct Wire {
 impl Wire {
     ghost use Rattle.pg_message.specs.Members.{IsShort};
     ghost use Rattle.pg_node_state.specs.declared.state.fault.NodeFault.TheVariants.{Damaged, OutOfMemory};
-    ghost use Rattle.pg_node_state.specs.Frames.{frame_of, IsSmallFrame};
+    ghost use Rattle.pg_writer.specs.Frames.{frame_of};
+    ghost use Rattle.pg_sends.specs.Frames.{IsSmallFrame};
     ghost use Rattle.pg_node.specs.Links.{idle_link, link_of, with_more, with_fed, without_front, HasFrameRoom};
     ghost use Rattle.pg_reader.specs.Own.{own_reply};
     ghost use Rattle.pg_node.specs.Bytes.{next_packet, ReadsNext, marked, passed, closed, is_drained, is_idle};

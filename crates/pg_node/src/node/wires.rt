@@ -1,8 +1,8 @@
 //! The links of a node to all its peers.
 
 ghost use Rattle.std.specs.Prelude.{◌≡◌, ℕ, true, length, OnOk};
-ghost use Rattle.pg_node_state.specs.Frames.{frames_to, AreSmallFrames};
-ghost use Rattle.pg_node_state.specs.Sendable.{FitLinks};
+ghost use Rattle.pg_sends.specs.Frames.{frames_to, AreSmallFrames};
+ghost use Rattle.pg_sends.specs.Sendable.{FitLinks};
 ghost use Rattle.pg_node.specs.Links.{links_in, with_more, HaveFrameRoom, AreOneFrame};
 
 use crate::node::frame::Frame;

@@ -1,12 +1,12 @@
 //! How a command is counted at its port, and answered.
 
-ghost use Rattle.std.specs.Prelude.{◌≡◌, ◌<◌, ◌≤◌, IfOk, OnErr};
-ghost use Rattle.pg_message.specs.declared.packet.TheConstants.{MAX_STAMP};
+ghost use Rattle.std.specs.Prelude.{◌<◌, IfOk};
 ghost use Rattle.pg_step.specs.State.{Response};
 
-use crate::state::port::{give, reserve_answer};
-use crate::state::{Done, NodeState};
+use crate::state::NodeState;
 use pg_group::GroupTable;
+use pg_ports::{give, reserve_answer};
+use pg_sends::Done;
 use pg_step::Reply;
 use std::alloc::AllocError;
 
@@ -14,22 +14,20 @@ impl<T: GroupTable + Drop> NodeState<T> {
     ghost use Rattle.pg_opens.specs.Places.{name_at};
     ghost use Rattle.pg_step.specs.Commands.{Answers, answer};
     ghost use Rattle.pg_step.specs.Step.{at_clock};
+    ghost use Rattle.pg_node_state.specs.Clocks.{IsNow};
     ghost use Rattle.pg_node_state.specs.Issued.{op_issued, ports_of};
+    ghost use Rattle.pg_node_state.specs.States.{Stays};
     ghost use Rattle.pg_node_state.specs.States.{names_of, kept_by, state_of, answers_of, Happens};
-    ghost use Rattle.pg_node_state.specs.Sendable.{AreSendable};
+    ghost use Rattle.pg_sends.specs.Sendable.{AreSendable};
 
     /// Counts the next command of a port, and answers it.
     pub(crate) fn answer(&mut self, clock: u32, port: u16, reply: Reply) -> Result<Done, AllocError>
-        requires later { self.old.clock < clock }
-        requires within { clock ≤ MAX_STAMP }
+        requires now { IsNow self.old.clock clock }
         requires place { port < ports_of self.old }
         ensures happens { (response : Response) → Answers (name_at (names_of self.old) 0) response reply
             → IfOk result (λ done. Happens (names_of self.old) (at_clock clock (op_issued port (λ op. answer op response) (kept_by self.old)))
             done (state_of self.new) (answers_of self.old) (answers_of self.new)) }
-        ensures err { OnErr result (state_of self.new ≡ state_of self.old) }
-        ensures err_answers { OnErr result (answers_of self.new ≡ answers_of self.old) }
-        ensures names { names_of self.new ≡ names_of self.old }
-        ensures ports { ports_of self.new ≡ ports_of self.old }
+        ensures stays { Stays self.old self.new result }
         ensures fits { IfOk result (λ done. AreSendable (names_of self.old) done.sends.items) }
     {
         match reserve_answer(&mut self.ports, port) {

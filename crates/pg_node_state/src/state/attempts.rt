@@ -1,6 +1,6 @@
 //! How an attempt of a command of the node begins, and what follows at once.
 
-ghost use Rattle.std.specs.Prelude.{◌≡◌, ◌≤◌, ◌<◌, ◌+◌, ◌*◌, ◌^◌, true, false, IfOk, OnErr, length};
+ghost use Rattle.std.specs.Prelude.{◌≡◌, ◌≤◌, ◌<◌, ◌+◌, ◌*◌, ◌^◌, true, false, IfOk, length};
 ghost use Rattle.pg_group.specs.declared.update.Update.{Update};
 ghost use Rattle.pg_group.specs.Value.{count_in, name_of};
 ghost use Rattle.pg_message.specs.declared.packet.TheConstants.{MAX_STAMP};
@@ -13,16 +13,14 @@ ghost use Rattle.pg_step.specs.State.Stage.{Waiting};
 ghost use Rattle.pg_term.specs.declared.pid.Pid.{Pid};
 ghost use Rattle.pg_term.specs.declared.term.Term.{Term};
 
-use crate::state::calls::has_peer;
-use crate::state::first::{
-    all_asked, ask_first, began_alone, end_alone, first_asked, waiting_under,
-};
-use crate::state::orders::own_under;
-use crate::state::own::ask_own;
-use crate::state::port::{keep_reserved, reserve_answer};
-use crate::state::{Done, NodeState};
+use crate::state::NodeState;
+use crate::state::first::{ask_first, end_alone};
 use pg_group::GroupTable;
-use pg_opens::Asked;
+use pg_marks::Asked;
+use pg_ports::{keep_reserved, reserve_answer};
+use pg_sends::{
+    Done, all_asked, ask_own, began_alone, first_asked, has_peer, own_under, waiting_under,
+};
 use pg_step::{OpId, Reply};
 use std::alloc::AllocError;
 
@@ -31,7 +29,8 @@ impl<T: GroupTable + Drop> NodeState<T> {
     ghost use Rattle.pg_step.specs.Attempts.{attempt};
     ghost use Rattle.pg_step.specs.Step.{at_clock};
     ghost use Rattle.pg_node_state.specs.Issued.{ports_of};
-    ghost use Rattle.pg_node_state.specs.Sendable.{AreSendable};
+    ghost use Rattle.pg_sends.specs.Sendable.{AreSendable};
+    ghost use Rattle.pg_node_state.specs.States.{Stays};
     ghost use Rattle.pg_node_state.specs.States.{names_of, live_of, kept_by, state_of, answers_of, Happens};
 
     /// Begins an attempt of a command that waits: the greatest live node is asked for the lock, alone, and what
@@ -45,10 +44,7 @@ impl<T: GroupTable + Drop> NodeState<T> {
         ensures happens { (update : Update) → (kept_by self.old).stages op ≡ Waiting update → IfOk result (λ done. Happens (names_of self.old)
             (at_clock clock (attempt (live_of self.old) op update (kept_by self.old)))
             done (state_of self.new) (answers_of self.old) (answers_of self.new)) }
-        ensures err { OnErr result (state_of self.new ≡ state_of self.old) }
-        ensures err_answers { OnErr result (answers_of self.new ≡ answers_of self.old) }
-        ensures names { names_of self.new ≡ names_of self.old }
-        ensures ports { ports_of self.new ≡ ports_of self.old }
+        ensures stays { Stays self.old self.new result }
         ensures fits { IfOk result (λ done. AreSendable (names_of self.old) done.sends.items) }
     {
         let first = self.opens.greatest();
@@ -79,10 +75,7 @@ impl<T: GroupTable + Drop> NodeState<T> {
         ensures happens { (update : Update) → (kept_by self.old).stages op ≡ Waiting update → IfOk result (λ done. Happens (names_of self.old)
             (at_clock clock (attempt (live_of self.old) op update (kept_by self.old)))
             done (state_of self.new) (answers_of self.old) (answers_of self.new)) }
-        ensures err { OnErr result (state_of self.new ≡ state_of self.old) }
-        ensures err_answers { OnErr result (answers_of self.new ≡ answers_of self.old) }
-        ensures names { names_of self.new ≡ names_of self.old }
-        ensures ports { ports_of self.new ≡ ports_of self.old }
+        ensures stays { Stays self.old self.new result }
         ensures fits { IfOk result (λ done. AreSendable (names_of self.old) done.sends.items) }
     {
         let done = first_asked(self.alloc, clock, &self.opens, op, first)?;
@@ -128,10 +121,7 @@ impl<T: GroupTable + Drop> NodeState<T> {
         ensures happens { (update : Update) → (kept_by self.old).stages op ≡ Waiting update → IfOk result (λ done. Happens (names_of self.old)
             (at_clock clock (attempt (live_of self.old) op update (kept_by self.old)))
             done (state_of self.new) (answers_of self.old) (answers_of self.new)) }
-        ensures err { OnErr result (state_of self.new ≡ state_of self.old) }
-        ensures err_answers { OnErr result (answers_of self.new ≡ answers_of self.old) }
-        ensures names { names_of self.new ≡ names_of self.old }
-        ensures ports { ports_of self.new ≡ ports_of self.old }
+        ensures stays { Stays self.old self.new result }
         ensures fits { IfOk result (λ done. AreSendable (names_of self.old) done.sends.items) }
     {
         let done = all_asked(self.alloc, clock, &self.opens, op)?;
@@ -166,10 +156,7 @@ impl<T: GroupTable + Drop> NodeState<T> {
         ensures happens { (update : Update) → (kept_by self.old).stages op ≡ Waiting update → IfOk result (λ done. Happens (names_of self.old)
             (at_clock clock (attempt (live_of self.old) op update (kept_by self.old)))
             done (state_of self.new) (answers_of self.old) (answers_of self.new)) }
-        ensures err { OnErr result (state_of self.new ≡ state_of self.old) }
-        ensures err_answers { OnErr result (answers_of self.new ≡ answers_of self.old) }
-        ensures names { names_of self.new ≡ names_of self.old }
-        ensures ports { ports_of self.new ≡ ports_of self.old }
+        ensures stays { Stays self.old self.new result }
         ensures fits { IfOk result (λ done. AreSendable (names_of self.old) done.sends.items) }
     {
         reserve_answer(&mut self.ports, op.port)?;

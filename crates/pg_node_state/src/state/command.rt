@@ -1,12 +1,13 @@
 //! What a node makes of a command.
 
-ghost use Rattle.std.specs.Prelude.{◌≡◌, ◌<◌, ◌≤◌, ◌+◌, true, None, IfOk, OnErr};
+ghost use Rattle.std.specs.Prelude.{◌≡◌, ◌<◌, ◌+◌, true, None, IfOk};
 ghost use Rattle.pg_message.specs.declared.packet.TheConstants.{MAX_STAMP};
 
-use crate::state::queries::query_reply;
-use crate::state::{Done, NodeFault, NodeState};
+use crate::state::{NodeFault, NodeState};
 use pg_group::GroupTable;
 use pg_message::MAX_STAMP;
+use pg_ports::query_reply;
+use pg_sends::Done;
 use pg_step::{Command, Refusal, Reply};
 use std::alloc::AllocError;
 
@@ -16,8 +17,10 @@ impl<T: GroupTable + Drop> NodeState<T> {
     ghost use Rattle.pg_step.specs.State.Response.{Read};
     ghost use Rattle.pg_step.specs.StepLaws.{is_query};
     ghost use Rattle.pg_step.specs.Step.{Issue, step_act, at_clock};
+    ghost use Rattle.pg_node_state.specs.Clocks.{IsNow};
     ghost use Rattle.pg_node_state.specs.Issued.{op_issued, ports_of};
-    ghost use Rattle.pg_node_state.specs.Sendable.{AreSendable};
+    ghost use Rattle.pg_sends.specs.Sendable.{AreSendable};
+    ghost use Rattle.pg_node_state.specs.States.{Stays};
     ghost use Rattle.pg_node_state.specs.States.{names_of, nodes_of, live_of, kept_by};
     ghost use Rattle.pg_node_state.specs.States.{state_of, answers_of, Happens, Comes};
 
@@ -42,10 +45,7 @@ impl<T: GroupTable + Drop> NodeState<T> {
         ensures event { Comes (names_of self.old)
             (step_act (nodes_of self.old) (ports_of self.old) (Issue port command.now) (state_of self.old))
             result (state_of self.new) (answers_of self.old) (answers_of self.new) }
-        ensures err { OnErr result (state_of self.new ≡ state_of self.old) }
-        ensures err_answers { OnErr result (answers_of self.new ≡ answers_of self.old) }
-        ensures names { names_of self.new ≡ names_of self.old }
-        ensures ports { ports_of self.new ≡ ports_of self.old }
+        ensures stays { Stays self.old self.new result }
         ensures fits { IfOk result (λ done. AreSendable (names_of self.old) done.sends.items) }
     {
         if self.clock >= MAX_STAMP {
@@ -56,16 +56,12 @@ impl<T: GroupTable + Drop> NodeState<T> {
 
     /// Answers the next command of a port, where it is refused, and else carries it out.
     fn issue(&mut self, clock: u32, port: u16, command: &Command) -> Result<Done, AllocError>
-        requires later { self.old.clock < clock }
-        requires within { clock ≤ MAX_STAMP }
+        requires now { IsNow self.old.clock clock }
         requires place { port < ports_of self.old }
         ensures happens { IfOk result (λ done. Happens (names_of self.old)
             (at_clock clock (commands.command (nodes_of self.old) (live_of self.old) port command.now (kept_by self.old)))
             done (state_of self.new) (answers_of self.old) (answers_of self.new)) }
-        ensures err { OnErr result (state_of self.new ≡ state_of self.old) }
-        ensures err_answers { OnErr result (answers_of self.new ≡ answers_of self.old) }
-        ensures names { names_of self.new ≡ names_of self.old }
-        ensures ports { ports_of self.new ≡ ports_of self.old }
+        ensures stays { Stays self.old self.new result }
         ensures fits { IfOk result (λ done. AreSendable (names_of self.old) done.sends.items) }
     {
         match self.command_fault(command) {
@@ -76,17 +72,13 @@ impl<T: GroupTable + Drop> NodeState<T> {
 
     /// Carries out the next command of a port, which is not refused.
     fn carry_out(&mut self, clock: u32, port: u16, command: &Command) -> Result<Done, AllocError>
-        requires later { self.old.clock < clock }
-        requires within { clock ≤ MAX_STAMP }
+        requires now { IsNow self.old.clock clock }
         requires place { port < ports_of self.old }
         requires taken { fault_of (nodes_of self.old) (kept_by self.old) command.now ≡ None }
         ensures happens { IfOk result (λ done. Happens (names_of self.old)
             (at_clock clock (op_issued port (λ op. carried_out (live_of self.old) op command.now) (kept_by self.old)))
             done (state_of self.new) (answers_of self.old) (answers_of self.new)) }
-        ensures err { OnErr result (state_of self.new ≡ state_of self.old) }
-        ensures err_answers { OnErr result (answers_of self.new ≡ answers_of self.old) }
-        ensures names { names_of self.new ≡ names_of self.old }
-        ensures ports { ports_of self.new ≡ ports_of self.old }
+        ensures stays { Stays self.old self.new result }
         ensures fits { IfOk result (λ done. AreSendable (names_of self.old) done.sends.items) }
     {
         match command {
@@ -100,17 +92,13 @@ impl<T: GroupTable + Drop> NodeState<T> {
 
     /// Answers a query, the next command of a port, by the own table as it is.
     fn read(&mut self, clock: u32, port: u16, query: &Command) -> Result<Done, AllocError>
-        requires later { self.old.clock < clock }
-        requires within { clock ≤ MAX_STAMP }
+        requires now { IsNow self.old.clock clock }
         requires place { port < ports_of self.old }
         requires query { is_query query.now ≡ true }
         ensures happens { IfOk result (λ done. Happens (names_of self.old)
             (at_clock clock (op_issued port (λ op. answer op (Read query.now (kept_by self.old).table)) (kept_by self.old)))
             done (state_of self.new) (answers_of self.old) (answers_of self.new)) }
-        ensures err { OnErr result (state_of self.new ≡ state_of self.old) }
-        ensures err_answers { OnErr result (answers_of self.new ≡ answers_of self.old) }
-        ensures names { names_of self.new ≡ names_of self.old }
-        ensures ports { ports_of self.new ≡ ports_of self.old }
+        ensures stays { Stays self.old self.new result }
         ensures fits { IfOk result (λ done. AreSendable (names_of self.old) done.sends.items) }
     {
         let reply = query_reply(self.alloc, &self.table, self.opens.name(0), query)?;

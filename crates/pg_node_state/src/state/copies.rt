@@ -1,11 +1,10 @@
 //! A copy of a node.
 
-ghost use Rattle.std.specs.Prelude.{◌≡◌, IfOk};
+ghost use Rattle.std.specs.Prelude.{IfOk};
 
-use crate::state::{NodeState, Port};
+use crate::state::NodeState;
 use pg_group::GroupTable;
-use pg_step::Answer;
-use std::alloc::{AllocError, Global};
+use std::alloc::AllocError;
 
 impl<T: GroupTable + Drop> NodeState<T> {
     ghost use Rattle.pg_node_state.specs.Same.{AreSameNodes};
@@ -47,29 +46,4 @@ impl<T: GroupTable + Drop> Clone for NodeState<T> {
     fn clone(&self) -> Result<NodeState<T>, AllocError> {
         self.copy()
     }
-}
-
-impl Clone for Port {
-    ghost use Rattle.pg_node_state.specs.Same.{IsSamePort};
-
-    ghost is_clone = { IsSamePort };
-
-    fn clone(&self) -> Result<Port, AllocError> {
-        let answers = copy_answers(*self.answers.allocator(), &self.answers)?;
-        Ok(Port {
-            count: self.count,
-            answers,
-        })
-    }
-}
-
-/// The same answers in the same order.
-fn copy_answers(alloc: Global, answers: &[Answer]) -> Result<Vec<Answer>, AllocError>
-    ensures { IfOk result (λ copies. copies.items ≡ answers.now) }
-{
-    let mut copies = Vec::with_capacity(alloc, answers.len())?;
-    for answer in answers {
-        copies.push(answer.copy(alloc)?)?;
-    }
-    Ok(copies)
 }

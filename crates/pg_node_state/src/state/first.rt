@@ -1,107 +1,22 @@
-//! The first request of an attempt, made before anything changes.
+//! The open commands as an attempt begins.
 
-ghost use Rattle.std.specs.Prelude.{◌≡◌, ◌≤◌, ◌<◌, ◌+◌, ◌^◌, List, [], true, false, Some, None, IfOk, length};
+ghost use Rattle.std.specs.Prelude.{◌≡◌, ◌<◌, ◌+◌, ◌^◌, true, false, length};
 ghost use Rattle.pg_group.specs.declared.update.Update.{Update};
 ghost use Rattle.pg_group.specs.Value.{name_of};
-ghost use Rattle.pg_machine.specs.Clocked.{stamped};
-ghost use Rattle.pg_message.specs.declared.message.Message.TheVariants as messages;
-ghost use Rattle.pg_message.specs.declared.message.Request.TheVariants as requests;
 ghost use Rattle.pg_opens.specs.Opens.{names_of, live_of, references_of, stages_of, Shows};
 ghost use Rattle.pg_opens.specs.Places.{name_at};
 ghost use Rattle.pg_opens.specs.Readings.{stage_seen};
 ghost use Rattle.pg_opens.specs.declared.command.Stage.TheVariants as seen;
-ghost use Rattle.pg_step.specs.Attempts.{attempt, own_reference};
-ghost use Rattle.pg_step.specs.Nodes.{Node, greatest, is_peer, to_one, to_peers};
+ghost use Rattle.pg_step.specs.Attempts.{attempt};
+ghost use Rattle.pg_step.specs.Nodes.{Node, greatest, is_peer};
 ghost use Rattle.pg_step.specs.Peers.{would_grant};
 ghost use Rattle.pg_step.specs.State.{State};
 ghost use Rattle.pg_step.specs.State.Stage.{Waiting};
-ghost use Rattle.pg_message.specs.Name.{is_name};
-ghost use Rattle.pg_message.specs.declared.packet.TheConstants.{MAX_STAMP};
 ghost use Rattle.pg_node_state.specs.Issued.{asked_first};
-ghost use Rattle.pg_node_state.specs.Sendable.{AreSendable};
-ghost use Rattle.pg_node_state.specs.States.{sends_in};
 
-use crate::state::Done;
-use crate::state::calls::done_with;
-use crate::state::orders::{Order, own_under};
-use crate::state::sends::{to_live, to_place};
-use pg_group::Update;
-use pg_opens::{Asked, Opens};
+use pg_marks::Asked;
+use pg_opens::Opens;
 use pg_step::OpId;
-use std::alloc::{AllocError, Global};
-
-/// The node at a place is asked, under the next reference.
-///
-/// Errors: `AllocError`.
-pub(crate) fn first_asked(
-    alloc: Global,
-    clock: u32,
-    opens: &Opens,
-    op: OpId,
-    first: usize,
-) -> Result<Done, AllocError>
-    requires waits { stage_seen (stages_of opens.now op) ≡ seen.Waiting }
-    requires next { references_of opens.now + 1 < 2 ^ 32 }
-    requires place { first < length (names_of opens.now) }
-    requires peer { 0 < first }
-    requires within { clock ≤ MAX_STAMP }
-    requires named { (update : Update) → stages_of opens.now op ≡ Waiting update → is_name (name_of update) ≡ true }
-    ensures sends { (update : Update) → stages_of opens.now op ≡ Waiting update
-        → IfOk result (λ done. sends_in (names_of opens.now) done.sends.items ≡ (λ q. stamped clock (to_one (name_at (names_of opens.now) first)
-        (messages.Call (own_reference (live_of opens.now) (references_of opens.now + 1)) (requests.SetLock (name_of update))) q))) }
-    ensures began { IfOk result (λ done. done.began ≡ None) }
-    ensures odd { IfOk result (λ done. done.odd ≡ None) }
-    ensures fits { IfOk result (λ done. AreSendable (names_of opens.now) done.sends.items) }
-{
-    let name = waiting_under(opens, op).name();
-    let lock = own_under(opens, opens.references() + 1);
-    let sends = to_place(alloc, clock, Order::Lock(name, lock), first)?;
-    Ok(done_with(sends, None))
-}
-
-/// Every peer that counts is asked, under the next reference.
-///
-/// Errors: `AllocError`.
-pub(crate) fn all_asked(
-    alloc: Global,
-    clock: u32,
-    opens: &Opens,
-    op: OpId,
-) -> Result<Done, AllocError>
-    requires waits { stage_seen (stages_of opens.now op) ≡ seen.Waiting }
-    requires next { references_of opens.now + 1 < 2 ^ 32 }
-    requires within { clock ≤ MAX_STAMP }
-    requires named { (update : Update) → stages_of opens.now op ≡ Waiting update → is_name (name_of update) ≡ true }
-    ensures sends { (update : Update) → stages_of opens.now op ≡ Waiting update
-        → IfOk result (λ done. sends_in (names_of opens.now) done.sends.items ≡ (λ q. stamped clock (to_peers (live_of opens.now)
-        (λ q. true) (messages.Call (own_reference (live_of opens.now) (references_of opens.now + 1)) (requests.SetLock (name_of update))) q))) }
-    ensures began { IfOk result (λ done. done.began ≡ None) }
-    ensures odd { IfOk result (λ done. done.odd ≡ None) }
-    ensures fits { IfOk result (λ done. AreSendable (names_of opens.now) done.sends.items) }
-{
-    let name = waiting_under(opens, op).name();
-    let lock = own_under(opens, opens.references() + 1);
-    let sends = to_live(alloc, clock, Order::Lock(name, lock), opens)?;
-    Ok(done_with(sends, None))
-}
-
-/// The update of a command that waits begins, and nobody is sent anything.
-///
-/// Errors: `AllocError`.
-pub(crate) fn began_alone(alloc: Global, opens: &Opens, op: OpId) -> Result<Done, AllocError>
-    requires waits { stage_seen (stages_of opens.now op) ≡ seen.Waiting }
-    ensures sends { IfOk result (λ done. done.sends.items ≡ []) }
-    ensures began { (update : Update) → stages_of opens.now op ≡ Waiting update → IfOk result (λ done. done.began ≡ Some (op, update)) }
-    ensures odd { IfOk result (λ done. done.odd ≡ None) }
-    ensures fits { (names : List Node) → IfOk result (λ done. AreSendable names done.sends.items) }
-{
-    let update = waiting_under(opens, op).copy(alloc)?;
-    Ok(Done {
-        sends: Vec::new(alloc),
-        began: Some((op, update)),
-        odd: None,
-    })
-}
 
 /// A command that waits begins an attempt, and the node at a place is asked, alone: the greatest live one. `granted`:
 /// what the own node would answer. It takes no memory.
@@ -137,15 +52,4 @@ pub(crate) fn end_alone(opens: &mut Opens, op: OpId)
     opens.ask(number, Asked::All, false);
     opens.begin(number);
     opens.finish(number + 1);
-}
-
-/// The update of a command that waits. It takes no memory: O(open commands).
-pub(crate) fn waiting_under(opens: &Opens, op: OpId) -> &Update
-    requires { stage_seen (stages_of opens.now op) ≡ seen.Waiting }
-    ensures { stages_of opens.now op ≡ Waiting result.now }
-{
-    match opens.waiting_update(op) {
-        Some(update) => update,
-        None => unreachable!(),
-    }
 }

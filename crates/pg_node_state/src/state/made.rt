@@ -1,6 +1,6 @@
 //! How a node starts, and what is read of it.
 
-ghost use Rattle.std.specs.Prelude.{◌≡◌, ◌∷◌, ◌≤◌, ◌<◌, ◌+◌, ◌^◌, ℕ, [], IfOk, length};
+ghost use Rattle.std.specs.Prelude.{◌≡◌, ◌∷◌, ◌≤◌, ◌<◌, ◌+◌, ◌^◌, [], IfOk, length};
 ghost use Rattle.std.specs.List.{IsDistinct};
 ghost use Rattle.std.specs.Option.{option_copied};
 ghost use Rattle.pg_term.specs.Same.{same_atom};
@@ -9,17 +9,16 @@ ghost use Rattle.pg_term.specs.declared.term.Term.{Term};
 ghost use Rattle.pg_group.specs.Value.{count_in};
 ghost use Rattle.pg_ends.specs.Numbers.{ended_among};
 ghost use Rattle.pg_ends.specs.declared.processes.TheConstants.{MAX_PROCESSES};
-ghost use Rattle.pg_node_state.specs.Ports.{port_commands, answers_in};
 
 use crate::state::NodeState;
-use crate::state::opening::opening;
-use crate::state::port::Port;
 use pg_ends::Processes;
 use pg_exchange::Formation;
 use pg_group::{Ended, GroupTable};
 use pg_lock::LockTable;
 use pg_message::Packet;
 use pg_opens::Opens;
+use pg_ports::idle_ports;
+use pg_sends::opening;
 use pg_step::{Answer, OpId};
 use pg_term::{Atom, Pid, Reference, Term};
 use std::alloc::{AllocError, Global};
@@ -38,11 +37,11 @@ pub struct NodeConfig {
 }
 
 ghost use Rattle.pg_opens.specs.Places.{name_at};
-ghost use Rattle.pg_lock.specs.Locks.{Locks};
 ghost use Rattle.pg_step.specs.State.{new_state, formed};
 ghost use Rattle.pg_node_state.specs.Issued.{ports_of};
-ghost use Rattle.pg_node_state.specs.Opening.{Announces};
-ghost use Rattle.pg_node_state.specs.States.{names_of, nodes_of, live_of, kept_by, state_of, answers_of, sends_in};
+ghost use Rattle.pg_sends.specs.Opening.{Announces};
+ghost use Rattle.pg_node_state.specs.States.{names_of, nodes_of, live_of, kept_by, state_of, answers_of};
+ghost use Rattle.pg_sends.specs.Sent.{sends_in};
 ghost use Rattle.pg_node_state.specs.Waiting.{AreWaiting};
 
 impl<T: GroupTable + Drop> NodeState<T> {
@@ -272,20 +271,4 @@ pub fn started<T: GroupTable + Drop>(
         ports: idle_ports(alloc, config.ports)?,
         alloc,
     })
-}
-
-/// Ports at which no command came in.
-fn idle_ports(alloc: Global, ports: u16) -> Result<Vec<Port>, AllocError>
-    ensures len { IfOk result (λ made. length made.items ≡ ports) }
-    ensures counts { IfOk result (λ made. port_commands made.items ≡ (λ port. 0)) }
-    ensures answers { IfOk result (λ made. answers_in made.items ≡ (λ port. [])) }
-{
-    let mut made = Vec::with_capacity(alloc, usize::from(ports))?;
-    for port in 0..ports {
-        made.push(Port {
-            count: 0,
-            answers: Vec::new(alloc),
-        })?;
-    }
-    Ok(made)
 }

@@ -1,22 +1,23 @@
 //! What a node makes of a reply that is read as numbers.
 
-ghost use Rattle.std.specs.Prelude.{◌≡◌, ◌≢◌, ◌<◌, ◌+◌, true, Err, IfOk, OnErr, length};
+ghost use Rattle.std.specs.Prelude.{◌≡◌, ◌≢◌, ◌<◌, ◌+◌, true, Err, IfOk, length};
 ghost use Rattle.pg_message.specs.declared.message.Message.TheVariants as messages;
 
-use crate::state::{Done, NodeFault, NodeState};
+use crate::state::{NodeFault, NodeState};
 use pg_group::GroupTable;
 use pg_message::{MAX_STAMP, Said};
+use pg_sends::Done;
 use pg_step::Refusal;
 
 impl<T: GroupTable + Drop> NodeState<T> {
     ghost use Rattle.pg_refs.specs.Numbered.{numbered};
     ghost use Rattle.pg_opens.specs.Places.{name_at};
     ghost use Rattle.pg_step.specs.Step.{step_take};
-    ghost use Rattle.pg_node_state.specs.Issued.{ports_of};
     ghost use Rattle.pg_node_state.specs.declared.state.fault.NodeFault.TheVariants.{OutOfMemory};
+    ghost use Rattle.pg_node_state.specs.States.{Stays};
     ghost use Rattle.pg_node_state.specs.States.{names_of, nodes_of, live_of, kept_by, state_of};
     ghost use Rattle.pg_node_state.specs.States.{answers_of, takes_none, Comes};
-    ghost use Rattle.pg_node_state.specs.Sendable.{AreSendable};
+    ghost use Rattle.pg_sends.specs.Sendable.{AreSendable};
 
     /// Takes a reply of a peer to a reference of the node itself, as `take` does where the packet says that: no packet
     /// is built. `peer`: its place among the peers. `number`: that of the reference, as `pg_refs::reference_of` numbers
@@ -40,10 +41,7 @@ impl<T: GroupTable + Drop> NodeState<T> {
         ensures light { takes_none (live_of self.old) (name_at (names_of self.old) (peer + 1)) (kept_by self.old)
             (messages.Reply (numbered (nodes_of self.old).own number) said) ≡ true
             → result ≢ Err OutOfMemory }
-        ensures err { OnErr result (state_of self.new ≡ state_of self.old) }
-        ensures err_answers { OnErr result (answers_of self.new ≡ answers_of self.old) }
-        ensures names { names_of self.new ≡ names_of self.old }
-        ensures ports { ports_of self.new ≡ ports_of self.old }
+        ensures stays { Stays self.old self.new result }
         ensures fits { IfOk result (λ done. AreSendable (names_of self.old) done.sends.items) }
     {
         if self.opens.is_lost(peer + 1) {

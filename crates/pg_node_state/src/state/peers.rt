@@ -1,19 +1,19 @@
 //! What a node does for a peer.
 
-ghost use Rattle.std.specs.Prelude.{◌≡◌, ◌↔◌, ◌⊎◌, ◌≤◌, ◌<◌, ◌^◌, true, Err, IfOk, IfErr, OnOk, OnErr, length};
+ghost use Rattle.std.specs.Prelude.{◌≡◌, ◌↔◌, ◌⊎◌, ◌<◌, ◌+◌, ◌^◌, true, Err, IfOk, IfErr, OnOk, length};
 ghost use Rattle.pg_message.specs.Members.{HasFewMembers};
 ghost use Rattle.pg_node_state.specs.declared.state.fault.NodeFault.TheVariants.{Refused, OutOfMemory};
 ghost use Rattle.pg_step.specs.declared.refusal.Refusal.TheVariants.{NotAMessage};
-ghost use Rattle.pg_message.specs.declared.packet.TheConstants.{MAX_STAMP};
 
-use crate::state::{Done, NodeFault, NodeState};
+use crate::state::{NodeFault, NodeState};
 use pg_ends::take_end;
 use pg_exchange::ExchangeFault;
 use pg_group::{GroupTable, Update};
-use pg_message::{Message, Packet, Said};
+use pg_message::Said;
+use pg_sends::{Done, reply, verdict};
 use pg_step::Refusal;
 use pg_term::{Atom, Items, Pid, Reference, Term};
-use std::alloc::{AllocError, Global};
+use std::alloc::AllocError;
 
 impl<T: GroupTable + Drop> NodeState<T> {
     ghost use Rattle.pg_opens.specs.Places.{name_at};
@@ -21,9 +21,11 @@ impl<T: GroupTable + Drop> NodeState<T> {
     ghost use Rattle.pg_step.specs.Peers.{exchange, process_end, is_bad_exchange, verdict};
     ghost use Rattle.pg_step.specs.Losses.{see_loss};
     ghost use Rattle.pg_step.specs.Step.{at_clock};
+    ghost use Rattle.pg_node_state.specs.Clocks.{IsNow};
     ghost use Rattle.pg_node_state.specs.Issued.{ports_of};
+    ghost use Rattle.pg_node_state.specs.States.{Stays};
     ghost use Rattle.pg_node_state.specs.States.{names_of, live_of, kept_by, state_of, answers_of, IsReported};
-    ghost use Rattle.pg_node_state.specs.Sendable.{AreSendable};
+    ghost use Rattle.pg_sends.specs.Sendable.{AreSendable};
 
     /// Answers a request for a lock.
     pub(crate) fn serve_lock(
@@ -33,16 +35,13 @@ impl<T: GroupTable + Drop> NodeState<T> {
         reference: &Reference,
         name: &Term,
     ) -> Result<Done, AllocError>
-        requires later { self.old.clock < clock }
-        requires within { clock ≤ MAX_STAMP }
+        requires now { IsNow self.old.clock clock }
         requires place { peer + 1 < length (names_of self.old) }
         ensures state { OnOk result (state_of self.new
             ≡ (at_clock clock (lock_request (live_of self.old) (name_at (names_of self.old) (peer + 1)) reference.now name.now (kept_by self.old))).state) }
         ensures told { IfOk result (IsReported (names_of self.old)
             (at_clock clock (lock_request (live_of self.old) (name_at (names_of self.old) (peer + 1)) reference.now name.now (kept_by self.old)))) }
-        ensures err { OnErr result (state_of self.new ≡ state_of self.old) }
-        ensures names { names_of self.new ≡ names_of self.old }
-        ensures ports { ports_of self.new ≡ ports_of self.old }
+        ensures stays { Stays self.old self.new result }
         ensures fits { IfOk result (λ done. AreSendable (names_of self.old) done.sends.items) }
         ensures answers { answers_of self.new ≡ answers_of self.old }
     {
@@ -69,16 +68,13 @@ impl<T: GroupTable + Drop> NodeState<T> {
         reference: &Reference,
         update: &Update,
     ) -> Result<Done, AllocError>
-        requires later { self.old.clock < clock }
-        requires within { clock ≤ MAX_STAMP }
+        requires now { IsNow self.old.clock clock }
         requires place { peer + 1 < length (names_of self.old) }
         ensures state { OnOk result (state_of self.new
             ≡ (at_clock clock (update_request (name_at (names_of self.old) (peer + 1)) reference.now update.now (kept_by self.old))).state) }
         ensures told { IfOk result (IsReported (names_of self.old)
             (at_clock clock (update_request (name_at (names_of self.old) (peer + 1)) reference.now update.now (kept_by self.old)))) }
-        ensures err { OnErr result (state_of self.new ≡ state_of self.old) }
-        ensures names { names_of self.new ≡ names_of self.old }
-        ensures ports { ports_of self.new ≡ ports_of self.old }
+        ensures stays { Stays self.old self.new result }
         ensures fits { IfOk result (λ done. AreSendable (names_of self.old) done.sends.items) }
         ensures answers { answers_of self.new ≡ answers_of self.old }
     {
@@ -97,8 +93,7 @@ impl<T: GroupTable + Drop> NodeState<T> {
 
     /// Frees a lock that a peer gives up.
     pub(crate) fn free_lock(&mut self, clock: u32, reference: &Reference, name: &Term) -> Done
-        requires later { self.old.clock < clock }
-        requires within { clock ≤ MAX_STAMP }
+        requires now { IsNow self.old.clock clock }
         ensures state { state_of self.new
             ≡ (at_clock clock (lock_freed name.now reference.now (kept_by self.old))).state }
         ensures told { IsReported (names_of self.old)
@@ -124,8 +119,7 @@ impl<T: GroupTable + Drop> NodeState<T> {
         node: &Atom,
         groups: &[(Term, Items<Pid>)],
     ) -> Result<Done, NodeFault>
-        requires later { self.old.clock < clock }
-        requires within { clock ≤ MAX_STAMP }
+        requires now { IsNow self.old.clock clock }
         requires place { peer + 1 < length (names_of self.old) }
         requires few { HasFewMembers (2 ^ 32) groups.now }
         ensures state { OnOk result (state_of self.new
@@ -135,9 +129,7 @@ impl<T: GroupTable + Drop> NodeState<T> {
         ensures bad { (result ≡ Err (Refused NotAMessage))
             ↔ (is_bad_exchange (name_at (names_of self.old) (peer + 1)) node.now (kept_by self.old) ≡ true) }
         ensures fault { IfErr result (λ fault. (fault ≡ Refused NotAMessage) ⊎ (fault ≡ OutOfMemory)) }
-        ensures err { OnErr result (state_of self.new ≡ state_of self.old) }
-        ensures names { names_of self.new ≡ names_of self.old }
-        ensures ports { ports_of self.new ≡ ports_of self.old }
+        ensures stays { Stays self.old self.new result }
         ensures fits { IfOk result (λ done. AreSendable (names_of self.old) done.sends.items) }
         ensures answers { answers_of self.new ≡ answers_of self.old }
     {
@@ -169,8 +161,7 @@ impl<T: GroupTable + Drop> NodeState<T> {
         node: &Atom,
         groups: Vec<(Term, Items<Pid>)>,
     ) -> Result<Done, NodeFault>
-        requires later { self.old.clock < clock }
-        requires within { clock ≤ MAX_STAMP }
+        requires now { IsNow self.old.clock clock }
         requires place { peer + 1 < length (names_of self.old) }
         requires few { HasFewMembers (2 ^ 32) groups.items }
         ensures state { OnOk result (state_of self.new
@@ -180,9 +171,7 @@ impl<T: GroupTable + Drop> NodeState<T> {
         ensures bad { (result ≡ Err (Refused NotAMessage))
             ↔ (is_bad_exchange (name_at (names_of self.old) (peer + 1)) node.now (kept_by self.old) ≡ true) }
         ensures fault { IfErr result (λ fault. (fault ≡ Refused NotAMessage) ⊎ (fault ≡ OutOfMemory)) }
-        ensures err { OnErr result (state_of self.new ≡ state_of self.old) }
-        ensures names { names_of self.new ≡ names_of self.old }
-        ensures ports { ports_of self.new ≡ ports_of self.old }
+        ensures stays { Stays self.old self.new result }
         ensures fits { IfOk result (λ done. AreSendable (names_of self.old) done.sends.items) }
         ensures answers { answers_of self.new ≡ answers_of self.old }
     {
@@ -206,13 +195,10 @@ impl<T: GroupTable + Drop> NodeState<T> {
 
     /// Takes the end of a process.
     pub(crate) fn take_end(&mut self, clock: u32, pid: &Pid) -> Result<Done, AllocError>
-        requires later { self.old.clock < clock }
-        requires within { clock ≤ MAX_STAMP }
+        requires now { IsNow self.old.clock clock }
         ensures state { OnOk result (state_of self.new ≡ (at_clock clock (process_end pid.now (kept_by self.old))).state) }
         ensures told { IfOk result (IsReported (names_of self.old) (at_clock clock (process_end pid.now (kept_by self.old)))) }
-        ensures err { OnErr result (state_of self.new ≡ state_of self.old) }
-        ensures names { names_of self.new ≡ names_of self.old }
-        ensures ports { ports_of self.new ≡ ports_of self.old }
+        ensures stays { Stays self.old self.new result }
         ensures fits { IfOk result (λ done. AreSendable (names_of self.old) done.sends.items) }
         ensures answers { answers_of self.new ≡ answers_of self.old }
     {
@@ -223,16 +209,13 @@ impl<T: GroupTable + Drop> NodeState<T> {
 
     /// Sees the loss of a peer.
     pub(crate) fn forget_peer(&mut self, clock: u32, peer: usize) -> Result<Done, AllocError>
-        requires later { self.old.clock < clock }
-        requires within { clock ≤ MAX_STAMP }
+        requires now { IsNow self.old.clock clock }
         requires place { peer + 1 < length (names_of self.old) }
         ensures state { OnOk result (state_of self.new
             ≡ (at_clock clock (see_loss (name_at (names_of self.old) (peer + 1)) (kept_by self.old))).state) }
         ensures told { IfOk result (IsReported (names_of self.old)
             (at_clock clock (see_loss (name_at (names_of self.old) (peer + 1)) (kept_by self.old)))) }
-        ensures err { OnErr result (state_of self.new ≡ state_of self.old) }
-        ensures names { names_of self.new ≡ names_of self.old }
-        ensures ports { ports_of self.new ≡ ports_of self.old }
+        ensures stays { Stays self.old self.new result }
         ensures fits { IfOk result (λ done. AreSendable (names_of self.old) done.sends.items) }
         ensures answers { answers_of self.new ≡ answers_of self.old }
     {
@@ -245,51 +228,4 @@ impl<T: GroupTable + Drop> NodeState<T> {
         self.clock = clock;
         Ok(Done::nothing(self.alloc))
     }
-}
-
-ghost use Rattle.std.specs.Prelude.{◌+◌, ℕ, List};
-ghost use Rattle.pg_step.specs.Nodes.{Node, to_one};
-ghost use Rattle.pg_step.specs.Turns.{NodeTurn, nothing};
-ghost use Rattle.pg_machine.specs.Clocked.{stamped};
-ghost use Rattle.pg_message.specs.declared.message.Message.TheVariants as messages;
-ghost use Rattle.pg_opens.specs.Places.{name_at};
-ghost use Rattle.pg_node_state.specs.States.{sends_in};
-ghost use Rattle.pg_node_state.specs.Sendable.{AreSendable};
-ghost use Rattle.pg_step.specs.Peers.{verdict};
-ghost use Rattle.std.specs.Prelude.{None};
-
-/// A reply to a peer, and nothing else.
-fn reply(
-    alloc: Global,
-    clock: u32,
-    peer: usize,
-    reference: &Reference,
-    said: Said,
-) -> Result<Done, AllocError>
-    requires within { clock ≤ MAX_STAMP }
-    ensures sends { (names : List Node) → IfOk result (λ done. sends_in names done.sends.items
-        ≡ (λ q. stamped clock (to_one (name_at names (peer + 1)) (messages.Reply reference.now said) q))) }
-    ensures began { IfOk result (λ done. done.began ≡ None) }
-    ensures odd { IfOk result (λ done. done.odd ≡ None) }
-    ensures fits { (names : List Node) → peer + 1 < length names → IfOk result (λ done. AreSendable names done.sends.items) }
-{
-    let reference = reference.copy()?;
-    let mut sends = Vec::with_capacity(alloc, 1)?;
-    let packet = Packet {
-        stamp: clock,
-        message: Message::Reply(reference, said),
-    };
-    sends.push_reserved((peer, packet));
-    Ok(Done {
-        sends,
-        began: None,
-        odd: None,
-    })
-}
-
-/// What is said to a request for a lock.
-fn verdict(granted: bool) -> Said
-    ensures { result ≡ verdict granted }
-{
-    if granted { Said::Granted } else { Said::Denied }
 }

@@ -1,22 +1,20 @@
 //! How a process of the node is made, and how it ends.
 
-ghost use Rattle.std.specs.Prelude.{◌≡◌, ◌<◌, ◌≤◌, ◌+◌, ◌++◌, ◌∷◌, ◌^◌, [], true, length, nat_eq, IfOk, OnOk, OnErr};
+ghost use Rattle.std.specs.Prelude.{◌≡◌, ◌<◌, ◌+◌, ◌++◌, ◌∷◌, ◌^◌, [], true, length, nat_eq, IfOk, OnOk, OnErr};
 ghost use Rattle.pg_term.specs.Same.{same_pid};
 ghost use Rattle.pg_group.specs.Ended.{ended_of};
 ghost use Rattle.pg_group.specs.Functions.{upd};
 ghost use Rattle.pg_group.specs.Table.{without};
 ghost use Rattle.pg_ends.specs.declared.processes.TheConstants.{MAX_PROCESSES};
-ghost use Rattle.pg_message.specs.declared.packet.TheConstants.{MAX_STAMP};
 ghost use Rattle.pg_step.specs.declared.answer.Reply.TheVariants as replies;
-ghost use Rattle.pg_node_state.specs.Issued.{counted_at};
-ghost use Rattle.pg_node_state.specs.Ports.{port_commands, answers_in};
+ghost use Rattle.pg_ports.specs.Ports.{counted_at};
+ghost use Rattle.pg_ports.specs.Ports.{port_commands, answers_in};
 
-use crate::state::orders::Order;
-use crate::state::port::{give, reserve_answer};
-use crate::state::sends::to_live;
-use crate::state::{Done, NodeState, Port};
+use crate::state::NodeState;
 use pg_ends::take_end;
 use pg_group::{Ended, GroupTable};
+use pg_ports::{Port, give, reserve_answer};
+use pg_sends::{Done, Order, to_live};
 use pg_step::Reply;
 use pg_term::Pid;
 use std::alloc::AllocError;
@@ -24,22 +22,20 @@ use std::alloc::AllocError;
 impl<T: GroupTable + Drop> NodeState<T> {
     ghost use Rattle.pg_step.specs.Commands.{make, end_process};
     ghost use Rattle.pg_step.specs.Step.{at_clock};
+    ghost use Rattle.pg_node_state.specs.Clocks.{IsNow};
     ghost use Rattle.pg_node_state.specs.Issued.{op_issued, ports_of};
+    ghost use Rattle.pg_node_state.specs.States.{Stays};
     ghost use Rattle.pg_node_state.specs.States.{names_of, live_of, kept_by, state_of, answers_of, Happens};
-    ghost use Rattle.pg_node_state.specs.Sendable.{AreSendable};
+    ghost use Rattle.pg_sends.specs.Sendable.{AreSendable};
 
     /// Makes a process, for the next command of a port.
     pub(crate) fn make_process(&mut self, clock: u32, port: u16) -> Result<Done, AllocError>
-        requires later { self.old.clock < clock }
-        requires within { clock ≤ MAX_STAMP }
+        requires now { IsNow self.old.clock clock }
         requires place { port < ports_of self.old }
         requires limit { (kept_by self.old).processes < MAX_PROCESSES }
         ensures happens { IfOk result (λ done. Happens (names_of self.old) (at_clock clock (op_issued port (make (live_of self.old)) (kept_by self.old)))
             done (state_of self.new) (answers_of self.old) (answers_of self.new)) }
-        ensures err { OnErr result (state_of self.new ≡ state_of self.old) }
-        ensures err_answers { OnErr result (answers_of self.new ≡ answers_of self.old) }
-        ensures names { names_of self.new ≡ names_of self.old }
-        ensures ports { ports_of self.new ≡ ports_of self.old }
+        ensures stays { Stays self.old self.new result }
         ensures fits { IfOk result (λ done. AreSendable (names_of self.old) done.sends.items) }
     {
         reserve_answer(&mut self.ports, port)?;
@@ -59,15 +55,11 @@ impl<T: GroupTable + Drop> NodeState<T> {
         port: u16,
         pid: &Pid,
     ) -> Result<Done, AllocError>
-        requires later { self.old.clock < clock }
-        requires within { clock ≤ MAX_STAMP }
+        requires now { IsNow self.old.clock clock }
         requires place { port < ports_of self.old }
         ensures happens { IfOk result (λ done. Happens (names_of self.old) (at_clock clock (op_issued port (λ op. end_process (live_of self.old) op pid.now) (kept_by self.old)))
             done (state_of self.new) (answers_of self.old) (answers_of self.new)) }
-        ensures err { OnErr result (state_of self.new ≡ state_of self.old) }
-        ensures err_answers { OnErr result (answers_of self.new ≡ answers_of self.old) }
-        ensures names { names_of self.new ≡ names_of self.old }
-        ensures ports { ports_of self.new ≡ ports_of self.old }
+        ensures stays { Stays self.old self.new result }
         ensures fits { IfOk result (λ done. AreSendable (names_of self.old) done.sends.items) }
     {
         let sends = to_live(self.alloc, clock, Order::End(pid), &self.opens)?;

@@ -1,15 +1,15 @@
 //! What a node makes of a reply.
 
-ghost use Rattle.std.specs.Prelude.{◌≡◌, ◌≢◌, ◌⊎◌, ◌≤◌, ◌<◌, ◌+◌, ℕ, true, false, Err, IfOk, IfErr, OnErr, length};
+ghost use Rattle.std.specs.Prelude.{◌≡◌, ◌≢◌, ◌<◌, ◌+◌, true, false, Err, IfOk, length};
 ghost use Rattle.pg_message.specs.declared.message.Said.{Said};
-ghost use Rattle.pg_message.specs.declared.packet.TheConstants.{MAX_STAMP};
 
-use crate::state::{Done, NodeFault, NodeState};
+use crate::state::{NodeFault, NodeState};
 use pg_group::GroupTable;
 use pg_message::Said;
 use pg_multicall::Taken;
 use pg_opens::Gathering;
 use pg_refs::number_of;
+use pg_sends::Done;
 use pg_step::{Odd, OpId, Refusal};
 use pg_term::Reference;
 use std::alloc::AllocError;
@@ -22,12 +22,14 @@ impl<T: GroupTable + Drop> NodeState<T> {
     ghost use Rattle.pg_opens.specs.Readings.{gathering_of};
     ghost use Rattle.pg_opens.specs.declared.command.Gathering.TheVariants as gatherings;
     ghost use Rattle.pg_step.specs.Attempts.{counted, gathered, use_of, reply_taken, strange};
+    ghost use Rattle.pg_node_state.specs.Clocks.{IsNow};
     ghost use Rattle.pg_node_state.specs.declared.state.fault.NodeFault.TheVariants.{OutOfMemory};
     ghost use Rattle.pg_step.specs.Step.{at_clock};
     ghost use Rattle.pg_node_state.specs.Issued.{ports_of};
+    ghost use Rattle.pg_node_state.specs.States.{Stays};
     ghost use Rattle.pg_node_state.specs.States.{names_of, live_of, kept_by, state_of};
     ghost use Rattle.pg_node_state.specs.States.{answers_of, is_counted, Happens, ComesAt};
-    ghost use Rattle.pg_node_state.specs.Sendable.{AreSendable};
+    ghost use Rattle.pg_sends.specs.Sendable.{AreSendable};
 
     /// Takes the reply of a peer, which is not lost.
     ///
@@ -39,17 +41,13 @@ impl<T: GroupTable + Drop> NodeState<T> {
         reference: &Reference,
         said: Said,
     ) -> Result<Done, NodeFault>
-        requires later { self.old.clock < clock }
-        requires within { clock ≤ MAX_STAMP }
+        requires now { IsNow self.old.clock clock }
         requires place { peer + 1 < length (names_of self.old) }
         ensures light { is_counted (what_of true (gathered (use_of (live_of self.old) reference.now (kept_by self.old)) (name_at (names_of self.old) (peer + 1)))) ≡ false
             → result ≢ Err OutOfMemory }
         ensures comes { ComesAt clock (names_of self.old) (reply_taken (live_of self.old) (name_at (names_of self.old) (peer + 1)) reference.now said (kept_by self.old))
             result (state_of self.new) (answers_of self.old) (answers_of self.new) }
-        ensures err { OnErr result (state_of self.new ≡ state_of self.old) }
-        ensures err_answers { OnErr result (answers_of self.new ≡ answers_of self.old) }
-        ensures names { names_of self.new ≡ names_of self.old }
-        ensures ports { ports_of self.new ≡ ports_of self.old }
+        ensures stays { Stays self.old self.new result }
         ensures fits { IfOk result (λ done. AreSendable (names_of self.old) done.sends.items) }
     {
         match number_of(self.opens.name(0), reference) {
@@ -68,17 +66,13 @@ impl<T: GroupTable + Drop> NodeState<T> {
         number: u32,
         said: Said,
     ) -> Result<Done, NodeFault>
-        requires later { self.old.clock < clock }
-        requires within { clock ≤ MAX_STAMP }
+        requires now { IsNow self.old.clock clock }
         requires place { peer + 1 < length (names_of self.old) }
         ensures light { is_counted (what_of true (gathered (use_of (live_of self.old) (numbered (live_of self.old).own number) (kept_by self.old)) (name_at (names_of self.old) (peer + 1)))) ≡ false
             → result ≢ Err OutOfMemory }
         ensures comes { ComesAt clock (names_of self.old) (reply_taken (live_of self.old) (name_at (names_of self.old) (peer + 1)) (numbered (live_of self.old).own number) said (kept_by self.old))
             result (state_of self.new) (answers_of self.old) (answers_of self.new) }
-        ensures err { OnErr result (state_of self.new ≡ state_of self.old) }
-        ensures err_answers { OnErr result (answers_of self.new ≡ answers_of self.old) }
-        ensures names { names_of self.new ≡ names_of self.old }
-        ensures ports { ports_of self.new ≡ ports_of self.old }
+        ensures stays { Stays self.old self.new result }
         ensures fits { IfOk result (λ done. AreSendable (names_of self.old) done.sends.items) }
     {
         self.look_for(number);
@@ -104,17 +98,13 @@ impl<T: GroupTable + Drop> NodeState<T> {
         number: u32,
         said: Said,
     ) -> Result<Done, NodeFault>
-        requires later { self.old.clock < clock }
-        requires within { clock ≤ MAX_STAMP }
+        requires now { IsNow self.old.clock clock }
         requires place { peer + 1 < length (names_of self.old) }
         ensures light { is_counted (what_of true (gathered (use_of (live_of self.old) (numbered (live_of self.old).own number) (kept_by self.old)) (name_at (names_of self.old) (peer + 1)))) ≡ false
             → result ≢ Err OutOfMemory }
         ensures comes { ComesAt clock (names_of self.old) (reply_taken (live_of self.old) (name_at (names_of self.old) (peer + 1)) (numbered (live_of self.old).own number) said (kept_by self.old))
             result (state_of self.new) (answers_of self.old) (answers_of self.new) }
-        ensures err { OnErr result (state_of self.new ≡ state_of self.old) }
-        ensures err_answers { OnErr result (answers_of self.new ≡ answers_of self.old) }
-        ensures names { names_of self.new ≡ names_of self.old }
-        ensures ports { ports_of self.new ≡ ports_of self.old }
+        ensures stays { Stays self.old self.new result }
         ensures fits { IfOk result (λ done. AreSendable (names_of self.old) done.sends.items) }
     {
         let kind = is_kind(self.opens.gathering(number), said);
@@ -137,17 +127,13 @@ impl<T: GroupTable + Drop> NodeState<T> {
         peer: usize,
         said: Said,
     ) -> Result<Done, AllocError>
-        requires later { self.old.clock < clock }
-        requires within { clock ≤ MAX_STAMP }
+        requires now { IsNow self.old.clock clock }
         requires place { peer + 1 < length (names_of self.old) }
         requires new { what_of true (gathered ((kept_by self.old).uses number) (name_at (names_of self.old) (peer + 1))) ≡ Counted }
         ensures happens { IfOk result (λ done. Happens (names_of self.old) (at_clock clock
             (counted ((kept_by self.old).uses number) (live_of self.old) (name_at (names_of self.old) (peer + 1)) number said (kept_by self.old)))
             done (state_of self.new) (answers_of self.old) (answers_of self.new)) }
-        ensures err { OnErr result (state_of self.new ≡ state_of self.old) }
-        ensures err_answers { OnErr result (answers_of self.new ≡ answers_of self.old) }
-        ensures names { names_of self.new ≡ names_of self.old }
-        ensures ports { ports_of self.new ≡ ports_of self.old }
+        ensures stays { Stays self.old self.new result }
         ensures fits { IfOk result (λ done. AreSendable (names_of self.old) done.sends.items) }
     {
         match self.opens.gathering(number) {
@@ -166,18 +152,14 @@ impl<T: GroupTable + Drop> NodeState<T> {
         peer: usize,
         said: Said,
     ) -> Result<Done, AllocError>
-        requires later { self.old.clock < clock }
-        requires within { clock ≤ MAX_STAMP }
+        requires now { IsNow self.old.clock clock }
         requires place { peer + 1 < length (names_of self.old) }
         requires locking { gathering_of ((kept_by self.old).uses number) ≡ gatherings.Lock op }
         requires new { what_of true (gathered ((kept_by self.old).uses number) (name_at (names_of self.old) (peer + 1))) ≡ Counted }
         ensures happens { IfOk result (λ done. Happens (names_of self.old) (at_clock clock
             (counted ((kept_by self.old).uses number) (live_of self.old) (name_at (names_of self.old) (peer + 1)) number said (kept_by self.old)))
             done (state_of self.new) (answers_of self.old) (answers_of self.new)) }
-        ensures err { OnErr result (state_of self.new ≡ state_of self.old) }
-        ensures err_answers { OnErr result (answers_of self.new ≡ answers_of self.old) }
-        ensures names { names_of self.new ≡ names_of self.old }
-        ensures ports { ports_of self.new ≡ ports_of self.old }
+        ensures stays { Stays self.old self.new result }
         ensures fits { IfOk result (λ done. AreSendable (names_of self.old) done.sends.items) }
     {
         self.opens.count_answer(number, peer + 1, is_granted(said));
@@ -199,18 +181,14 @@ impl<T: GroupTable + Drop> NodeState<T> {
         lock: u32,
         peer: usize,
     ) -> Result<Done, AllocError>
-        requires later { self.old.clock < clock }
-        requires within { clock ≤ MAX_STAMP }
+        requires now { IsNow self.old.clock clock }
         requires place { peer + 1 < length (names_of self.old) }
         requires updating { gathering_of ((kept_by self.old).uses number) ≡ gatherings.Update op lock }
         requires new { what_of true (gathered ((kept_by self.old).uses number) (name_at (names_of self.old) (peer + 1))) ≡ Counted }
         ensures happens { (said : Said) → IfOk result (λ done. Happens (names_of self.old) (at_clock clock
             (counted ((kept_by self.old).uses number) (live_of self.old) (name_at (names_of self.old) (peer + 1)) number said (kept_by self.old)))
             done (state_of self.new) (answers_of self.old) (answers_of self.new)) }
-        ensures err { OnErr result (state_of self.new ≡ state_of self.old) }
-        ensures err_answers { OnErr result (answers_of self.new ≡ answers_of self.old) }
-        ensures names { names_of self.new ≡ names_of self.old }
-        ensures ports { ports_of self.new ≡ ports_of self.old }
+        ensures stays { Stays self.old self.new result }
         ensures fits { IfOk result (λ done. AreSendable (names_of self.old) done.sends.items) }
     {
         self.opens.count_ok(number, peer + 1);
@@ -228,8 +206,7 @@ impl<T: GroupTable + Drop> NodeState<T> {
 
     /// Notes a reply that completes nothing.
     fn note_odd(&mut self, clock: u32, odd: Odd) -> Done
-        requires later { self.old.clock < clock }
-        requires within { clock ≤ MAX_STAMP }
+        requires now { IsNow self.old.clock clock }
         ensures happens { Happens (names_of self.old) (at_clock clock (strange odd (kept_by self.old))) result (state_of self.new) (answers_of self.old) (answers_of self.new) }
         ensures names { names_of self.new ≡ names_of self.old }
         ensures ports { ports_of self.new ≡ ports_of self.old }

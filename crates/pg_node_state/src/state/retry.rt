@@ -1,20 +1,23 @@
 //! How a command that waits is tried again.
 
-ghost use Rattle.std.specs.Prelude.{◌≡◌, ◌<◌, ◌≤◌, true, IfOk, OnErr};
+ghost use Rattle.std.specs.Prelude.{◌≡◌, ◌<◌, IfOk};
 ghost use Rattle.pg_message.specs.declared.packet.TheConstants.{MAX_STAMP};
 
-use crate::state::{Done, NodeFault, NodeState};
+use crate::state::{NodeFault, NodeState};
 use pg_group::GroupTable;
 use pg_message::MAX_STAMP;
 use pg_opens::{Gathering, Stage};
+use pg_sends::Done;
 use pg_step::{OpId, Refusal};
 use std::alloc::AllocError;
 
 impl<T: GroupTable + Drop> NodeState<T> {
     ghost use Rattle.pg_step.specs.Attempts.{go_on, replies_in, tried_again, is_complete};
     ghost use Rattle.pg_step.specs.Step.{Retry, at_clock, step_act};
+    ghost use Rattle.pg_node_state.specs.Clocks.{IsNow};
     ghost use Rattle.pg_node_state.specs.Issued.{ports_of};
-    ghost use Rattle.pg_node_state.specs.Sendable.{AreSendable};
+    ghost use Rattle.pg_sends.specs.Sendable.{AreSendable};
+    ghost use Rattle.pg_node_state.specs.States.{Stays};
     ghost use Rattle.pg_node_state.specs.States.{names_of, nodes_of, live_of, kept_by};
     ghost use Rattle.pg_node_state.specs.States.{state_of, answers_of, Happens, Comes};
     ghost use Rattle.pg_node_state.specs.Waiting.{is_ready};
@@ -31,10 +34,7 @@ impl<T: GroupTable + Drop> NodeState<T> {
         ensures event { Comes (names_of self.old)
             (step_act (nodes_of self.old) (ports_of self.old) (Retry op) (state_of self.old))
             result (state_of self.new) (answers_of self.old) (answers_of self.new) }
-        ensures err { OnErr result (state_of self.new ≡ state_of self.old) }
-        ensures err_answers { OnErr result (answers_of self.new ≡ answers_of self.old) }
-        ensures names { names_of self.new ≡ names_of self.old }
-        ensures ports { ports_of self.new ≡ ports_of self.old }
+        ensures stays { Stays self.old self.new result }
         ensures fits { IfOk result (λ done. AreSendable (names_of self.old) done.sends.items) }
     {
         if !self.opens.waits(op) {
@@ -64,15 +64,11 @@ impl<T: GroupTable + Drop> NodeState<T> {
 
     /// What a retry of a command leads to.
     fn try_again(&mut self, clock: u32, op: OpId) -> Result<Done, AllocError>
-        requires later { self.old.clock < clock }
-        requires within { clock ≤ MAX_STAMP }
+        requires now { IsNow self.old.clock clock }
         ensures happens { IfOk result (λ done. Happens (names_of self.old) (at_clock clock
             (tried_again ((kept_by self.old).stages op) (live_of self.old) op (kept_by self.old)))
             done (state_of self.new) (answers_of self.old) (answers_of self.new)) }
-        ensures err { OnErr result (state_of self.new ≡ state_of self.old) }
-        ensures err_answers { OnErr result (answers_of self.new ≡ answers_of self.old) }
-        ensures names { names_of self.new ≡ names_of self.old }
-        ensures ports { ports_of self.new ≡ ports_of self.old }
+        ensures stays { Stays self.old self.new result }
         ensures fits { IfOk result (λ done. AreSendable (names_of self.old) done.sends.items) }
     {
         match self.opens.stage(op) {
@@ -85,15 +81,11 @@ impl<T: GroupTable + Drop> NodeState<T> {
 
     /// What follows for the request for the lock under the reference of this number.
     fn go_on_asking(&mut self, clock: u32, number: u32) -> Result<Done, AllocError>
-        requires later { self.old.clock < clock }
-        requires within { clock ≤ MAX_STAMP }
+        requires now { IsNow self.old.clock clock }
         ensures happens { IfOk result (λ done. Happens (names_of self.old) (at_clock clock
             (go_on (live_of self.old) number ((kept_by self.old).uses number) (kept_by self.old)))
             done (state_of self.new) (answers_of self.old) (answers_of self.new)) }
-        ensures err { OnErr result (state_of self.new ≡ state_of self.old) }
-        ensures err_answers { OnErr result (answers_of self.new ≡ answers_of self.old) }
-        ensures names { names_of self.new ≡ names_of self.old }
-        ensures ports { ports_of self.new ≡ ports_of self.old }
+        ensures stays { Stays self.old self.new result }
         ensures fits { IfOk result (λ done. AreSendable (names_of self.old) done.sends.items) }
     {
         match self.opens.gathering(number) {
@@ -105,15 +97,11 @@ impl<T: GroupTable + Drop> NodeState<T> {
 
     /// What follows for the update under the reference of this number.
     fn go_on_changing(&mut self, clock: u32, number: u32) -> Result<Done, AllocError>
-        requires later { self.old.clock < clock }
-        requires within { clock ≤ MAX_STAMP }
+        requires now { IsNow self.old.clock clock }
         ensures happens { IfOk result (λ done. Happens (names_of self.old) (at_clock clock
             (replies_in (live_of self.old) number ((kept_by self.old).uses number) (kept_by self.old)))
             done (state_of self.new) (answers_of self.old) (answers_of self.new)) }
-        ensures err { OnErr result (state_of self.new ≡ state_of self.old) }
-        ensures err_answers { OnErr result (answers_of self.new ≡ answers_of self.old) }
-        ensures names { names_of self.new ≡ names_of self.old }
-        ensures ports { ports_of self.new ≡ ports_of self.old }
+        ensures stays { Stays self.old self.new result }
         ensures fits { IfOk result (λ done. AreSendable (names_of self.old) done.sends.items) }
     {
         match self.opens.gathering(number) {

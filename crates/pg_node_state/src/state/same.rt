@@ -1,17 +1,17 @@
 //! Whether two nodes are the same in all that is seen of them.
 
-ghost use Rattle.std.specs.Prelude.{◌≡◌, ◌↔◌, IsTrue, IfOk, length};
+ghost use Rattle.std.specs.Prelude.{◌≡◌, ◌↔◌, IsTrue, IfOk};
 ghost use Rattle.pg_group.specs.Ended.{ended_of};
 ghost use Rattle.pg_lock.specs.Locks.{locks_of};
 ghost use Rattle.pg_ends.specs.Processes.{made_of};
 ghost use Rattle.pg_opens.specs.Opens as opens;
-ghost use Rattle.pg_node_state.specs.Ports.{port_commands, answers_in};
-ghost use Rattle.pg_node_state.specs.Same.{AreSamePorts, AreSameNodes, AreAlike, AreSameBeside};
+ghost use Rattle.pg_node_state.specs.Same.{AreSameNodes, AreAlike, AreSameBeside};
+ghost use Rattle.pg_ports.specs.Same.{AreSamePorts};
 
-use crate::state::{NodeState, Port};
+use crate::state::NodeState;
 use pg_group::GroupTable;
+use pg_ports::same_ports;
 use pg_query::same_groups;
-use pg_step::equal_answers;
 use std::alloc::AllocError;
 
 impl<T: GroupTable + Drop> NodeState<T> {
@@ -77,32 +77,4 @@ impl<T: GroupTable + Drop> NodeState<T> {
     {
         self.opens.same(&other.opens) && same_ports(&self.ports, &other.ports)
     }
-}
-
-/// Whether there are as many ports, where as many commands came in and the same answers were given.
-fn same_ports(ports: &[Port], others: &[Port]) -> bool
-    ensures { IsTrue result ↔ AreSamePorts ports.now others.now }
-{
-    ports.len() == others.len() && agree_on_ports(ports, others)
-}
-
-/// Whether as many commands came in at each of as many ports, and the same answers were given.
-fn agree_on_ports(ports: &[Port], others: &[Port]) -> bool
-    requires { length ports.now ≡ length others.now }
-    ensures { IsTrue result ↔ (port_commands ports.now ≡ port_commands others.now) × (answers_in ports.now ≡ answers_in others.now) }
-{
-    for place in 0..ports.len() {
-        if !same_port(&ports[place], &others[place]) {
-            return false;
-        }
-    }
-    true
-}
-
-/// Whether as many commands came in at both, and the same answers were given.
-fn same_port(port: &Port, other: &Port) -> bool
-    ensures { IsTrue result ↔ (port.now.count ≡ other.now.count) × (port.now.answers.items ≡ other.now.answers.items) }
-{
-    equal_answers();
-    port.count == other.count && port.answers == other.answers
 }

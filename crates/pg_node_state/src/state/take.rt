@@ -1,23 +1,25 @@
 //! What a node makes of a packet.
 
-ghost use Rattle.std.specs.Prelude.{◌≡◌, ◌≢◌, ◌≤◌, ◌<◌, ◌+◌, ◌^◌, true, Err, IfOk, OnErr, length};
+ghost use Rattle.std.specs.Prelude.{◌≡◌, ◌≢◌, ◌<◌, ◌+◌, ◌^◌, true, Err, IfOk, length};
 ghost use Rattle.pg_message.specs.Members.{IsShort, HasFewMembers};
 ghost use Rattle.pg_message.specs.declared.packet.TheConstants.{MAX_STAMP};
 
-use crate::state::{Done, NodeFault, NodeState};
+use crate::state::{NodeFault, NodeState};
 use pg_group::GroupTable;
 use pg_message::{MAX_STAMP, Message, Packet, Request};
+use pg_sends::Done;
 use pg_step::Refusal;
 use pg_term::{Atom, Items, Pid, Term};
 
 impl<T: GroupTable + Drop> NodeState<T> {
     ghost use Rattle.pg_opens.specs.Places.{name_at};
     ghost use Rattle.pg_step.specs.Step.{step_take};
-    ghost use Rattle.pg_node_state.specs.Issued.{ports_of};
     ghost use Rattle.pg_node_state.specs.declared.state.fault.NodeFault.TheVariants.{OutOfMemory};
+    ghost use Rattle.pg_node_state.specs.States.{Stays};
     ghost use Rattle.pg_node_state.specs.States.{names_of, nodes_of, live_of, kept_by, state_of};
-    ghost use Rattle.pg_node_state.specs.States.{answers_of, stamped_of, announced_at, step_see_loss, takes_none, Comes};
-    ghost use Rattle.pg_node_state.specs.Sendable.{AreSendable};
+    ghost use Rattle.pg_node_state.specs.States.{answers_of, announced_at, step_see_loss, takes_none, Comes};
+    ghost use Rattle.pg_sends.specs.Sent.{stamped_of};
+    ghost use Rattle.pg_sends.specs.Sendable.{AreSendable};
 
     /// Takes a packet of a peer. `peer`: its place among the peers. What is sent carries the clock that the event
     /// sets: the greater of the node's and the packet's, and 1 more.
@@ -36,10 +38,7 @@ impl<T: GroupTable + Drop> NodeState<T> {
             result (state_of self.new) (answers_of self.old) (answers_of self.new) }
         ensures light { takes_none (live_of self.old) (name_at (names_of self.old) (peer + 1)) (kept_by self.old) packet.now.message ≡ true
             → result ≢ Err OutOfMemory }
-        ensures err { OnErr result (state_of self.new ≡ state_of self.old) }
-        ensures err_answers { OnErr result (answers_of self.new ≡ answers_of self.old) }
-        ensures names { names_of self.new ≡ names_of self.old }
-        ensures ports { ports_of self.new ≡ ports_of self.old }
+        ensures stays { Stays self.old self.new result }
         ensures fits { IfOk result (λ done. AreSendable (names_of self.old) done.sends.items) }
     {
         if self.opens.is_lost(peer + 1) {
@@ -78,10 +77,7 @@ impl<T: GroupTable + Drop> NodeState<T> {
             result (state_of self.new) (answers_of self.old) (answers_of self.new) }
         ensures light { takes_none (live_of self.old) (name_at (names_of self.old) (peer + 1)) (kept_by self.old) packet.message ≡ true
             → result ≢ Err OutOfMemory }
-        ensures err { OnErr result (state_of self.new ≡ state_of self.old) }
-        ensures err_answers { OnErr result (answers_of self.new ≡ answers_of self.old) }
-        ensures names { names_of self.new ≡ names_of self.old }
-        ensures ports { ports_of self.new ≡ ports_of self.old }
+        ensures stays { Stays self.old self.new result }
         ensures fits { IfOk result (λ done. AreSendable (names_of self.old) done.sends.items) }
     {
         let Packet { stamp, message } = packet;
@@ -113,10 +109,8 @@ impl<T: GroupTable + Drop> NodeState<T> {
         ensures event { Comes (names_of self.old)
             (step_take (nodes_of self.old) (name_at (names_of self.old) (peer + 1)) (announced_at stamp node.now groups.items) (state_of self.old))
             result (state_of self.new) (answers_of self.old) (answers_of self.new) }
-        ensures err { OnErr result (state_of self.new ≡ state_of self.old) }
+        ensures stays { Stays self.old self.new result }
         ensures answers { answers_of self.new ≡ answers_of self.old }
-        ensures names { names_of self.new ≡ names_of self.old }
-        ensures ports { ports_of self.new ≡ ports_of self.old }
         ensures fits { IfOk result (λ done. AreSendable (names_of self.old) done.sends.items) }
     {
         if self.opens.is_lost(peer + 1) {
@@ -144,10 +138,7 @@ impl<T: GroupTable + Drop> NodeState<T> {
         ensures event { Comes (names_of self.old)
             (step_see_loss (name_at (names_of self.old) (peer + 1)) last (state_of self.old))
             result (state_of self.new) (answers_of self.old) (answers_of self.new) }
-        ensures err { OnErr result (state_of self.new ≡ state_of self.old) }
-        ensures err_answers { OnErr result (answers_of self.new ≡ answers_of self.old) }
-        ensures names { names_of self.new ≡ names_of self.old }
-        ensures ports { ports_of self.new ≡ ports_of self.old }
+        ensures stays { Stays self.old self.new result }
         ensures fits { IfOk result (λ done. AreSendable (names_of self.old) done.sends.items) }
     {
         if self.opens.is_lost(peer + 1) {

@@ -1,9 +1,8 @@
 //! What follows once answers to a command of the node are in.
 
-ghost use Rattle.std.specs.Prelude.{◌≡◌, ◌≤◌, ◌<◌, ◌+◌, ◌&&◌, ◌^◌, ℕ, Bool, true, false, IfOk, OnErr, OnOk, length};
+ghost use Rattle.std.specs.Prelude.{◌≡◌, ◌<◌, ◌+◌, Bool, true, false, IfOk};
 ghost use Rattle.pg_group.specs.declared.update.Update.{Update};
 ghost use Rattle.pg_group.specs.Value.{name_of};
-ghost use Rattle.pg_message.specs.declared.packet.TheConstants.{MAX_STAMP};
 ghost use Rattle.pg_opens.specs.Outlooks.{turn_by};
 ghost use Rattle.pg_opens.specs.Readings.{is_locking};
 ghost use Rattle.pg_opens.specs.declared.outlook.Outlook.TheVariants as outlooks;
@@ -13,13 +12,15 @@ ghost use Rattle.pg_step.specs.Peers.{would_grant};
 ghost use Rattle.pg_step.specs.State.{Status};
 ghost use Rattle.pg_step.specs.State.Use.{Locking, Updating};
 
-use crate::state::calls::{asked, begun, ended, freed, has_peer, update_under};
-use crate::state::orders::own_under;
-use crate::state::own::{apply_own, ask_own, free_own, give_up_own};
-use crate::state::port::{keep_reserved, reserve_answer};
-use crate::state::{Done, NodeState};
+use crate::state::NodeState;
 use pg_group::GroupTable;
-use pg_opens::{Asked, Outlook, steps_go_by_outlook};
+use pg_marks::Asked;
+use pg_opens::{Outlook, steps_go_by_outlook};
+use pg_ports::{keep_reserved, reserve_answer};
+use pg_sends::{
+    Done, apply_own, ask_own, asked, begun, ended, free_own, freed, give_up_own, has_peer,
+    own_under, update_under,
+};
 use pg_step::{OpId, Reply};
 use pg_term::equality;
 use std::alloc::AllocError;
@@ -30,23 +31,21 @@ impl<T: GroupTable + Drop> NodeState<T> {
     ghost use Rattle.pg_step.specs.Attempts.{ask, begin, finish, give_up, go_on};
     ghost use Rattle.pg_step.specs.Step.{at_clock};
     ghost use Rattle.pg_step.specs.Turns.{becomes};
+    ghost use Rattle.pg_node_state.specs.Clocks.{IsNow};
     ghost use Rattle.pg_node_state.specs.Issued.{ports_of};
+    ghost use Rattle.pg_node_state.specs.States.{Stays};
     ghost use Rattle.pg_node_state.specs.States.{names_of, live_of, kept_by, state_of, answers_of, Happens};
-    ghost use Rattle.pg_node_state.specs.Sendable.{AreSendable};
+    ghost use Rattle.pg_sends.specs.Sendable.{AreSendable};
 
     /// Gives an attempt up: frees the lock at each node that granted it. `number`: the one of its reference.
     pub(crate) fn stop_asking(&mut self, clock: u32, number: u32) -> Result<Done, AllocError>
-        requires later { self.old.clock < clock }
-        requires within { clock ≤ MAX_STAMP }
+        requires now { IsNow self.old.clock clock }
         requires locking { is_locking ((kept_by self.old).uses number) ≡ true }
         ensures happens { (op : OpId) (update : Update) (first : Node) (st : Node → Status) → (kept_by self.old).uses number ≡ Locking op update first st
             → IfOk result (λ done. Happens (names_of self.old) (at_clock clock
             (give_up (live_of self.old) number op update st (kept_by self.old)))
             done (state_of self.new) (answers_of self.old) (answers_of self.new)) }
-        ensures err { OnErr result (state_of self.new ≡ state_of self.old) }
-        ensures err_answers { OnErr result (answers_of self.new ≡ answers_of self.old) }
-        ensures names { names_of self.new ≡ names_of self.old }
-        ensures ports { ports_of self.new ≡ ports_of self.old }
+        ensures stays { Stays self.old self.new result }
         ensures fits { IfOk result (λ done. AreSendable (names_of self.old) done.sends.items) }
     {
         let done = freed(self.alloc, clock, &self.opens, number)?;
@@ -61,17 +60,13 @@ impl<T: GroupTable + Drop> NodeState<T> {
 
     /// Asks for the lock those that were not asked, the own node too. `number`: the one of its reference.
     pub(crate) fn ask_rest(&mut self, clock: u32, number: u32) -> Result<Done, AllocError>
-        requires later { self.old.clock < clock }
-        requires within { clock ≤ MAX_STAMP }
+        requires now { IsNow self.old.clock clock }
         requires locking { is_locking ((kept_by self.old).uses number) ≡ true }
         ensures happens { (op : OpId) (update : Update) (first : Node) (st : Node → Status) → (kept_by self.old).uses number ≡ Locking op update first st
             → IfOk result (λ done. Happens (names_of self.old) (at_clock clock
             (ask (live_of self.old) (λ q. true) number op update first st (kept_by self.old)))
             done (state_of self.new) (answers_of self.old) (answers_of self.new)) }
-        ensures err { OnErr result (state_of self.new ≡ state_of self.old) }
-        ensures err_answers { OnErr result (answers_of self.new ≡ answers_of self.old) }
-        ensures names { names_of self.new ≡ names_of self.old }
-        ensures ports { ports_of self.new ≡ ports_of self.old }
+        ensures stays { Stays self.old self.new result }
         ensures fits { IfOk result (λ done. AreSendable (names_of self.old) done.sends.items) }
     {
         let done = asked(self.alloc, clock, &self.opens, number)?;
@@ -95,17 +90,13 @@ impl<T: GroupTable + Drop> NodeState<T> {
     /// Begins the update of a command that all have granted, once the rest was asked: it has a new reference, changes the own
     /// table, and goes to every live peer. `number`: the one of the reference of its lock.
     pub(crate) fn begin(&mut self, clock: u32, number: u32, op: OpId) -> Result<Done, AllocError>
-        requires later { self.old.clock < clock }
-        requires within { clock ≤ MAX_STAMP }
+        requires now { IsNow self.old.clock clock }
         requires locking { gathering_of ((kept_by self.old).uses number) ≡ gatherings.Lock op }
         ensures happens { (update : Update) (first : Node) (st : Node → Status) → (kept_by self.old).uses number ≡ Locking op update first st
             → IfOk result (λ done. Happens (names_of self.old) (at_clock clock
             (begin (live_of self.old) number op update (ask (live_of self.old) (λ q. true) number op update first st (kept_by self.old)).state))
             done (state_of self.new) (answers_of self.old) (answers_of self.new)) }
-        ensures err { OnErr result (state_of self.new ≡ state_of self.old) }
-        ensures err_answers { OnErr result (answers_of self.new ≡ answers_of self.old) }
-        ensures names { names_of self.new ≡ names_of self.old }
-        ensures ports { ports_of self.new ≡ ports_of self.old }
+        ensures stays { Stays self.old self.new result }
         ensures fits { IfOk result (λ done. AreSendable (names_of self.old) done.sends.items) }
     {
         let done = begun(self.alloc, clock, &self.opens, number, op)?;
@@ -143,17 +134,13 @@ impl<T: GroupTable + Drop> NodeState<T> {
         op: OpId,
         lock: u32,
     ) -> Result<Done, AllocError>
-        requires later { self.old.clock < clock }
-        requires within { clock ≤ MAX_STAMP }
+        requires now { IsNow self.old.clock clock }
         requires updating { gathering_of ((kept_by self.old).uses number) ≡ gatherings.Update op lock }
         ensures happens { (update : Update) (replied : Node → Bool) → (kept_by self.old).uses number ≡ Updating op update lock replied
             → IfOk result (λ done. Happens (names_of self.old) (at_clock clock
             (finish (live_of self.old) number op update lock (kept_by self.old)))
             done (state_of self.new) (answers_of self.old) (answers_of self.new)) }
-        ensures err { OnErr result (state_of self.new ≡ state_of self.old) }
-        ensures err_answers { OnErr result (answers_of self.new ≡ answers_of self.old) }
-        ensures names { names_of self.new ≡ names_of self.old }
-        ensures ports { ports_of self.new ≡ ports_of self.old }
+        ensures stays { Stays self.old self.new result }
         ensures fits { IfOk result (λ done. AreSendable (names_of self.old) done.sends.items) }
     {
         reserve_answer(&mut self.ports, op.port)?;
@@ -169,18 +156,14 @@ impl<T: GroupTable + Drop> NodeState<T> {
 
     /// Begins the update of a command that all have granted, at a node of which no peer counts: the command ends at once.
     fn begin_alone(&mut self, clock: u32, number: u32, op: OpId) -> Result<Done, AllocError>
-        requires later { self.old.clock < clock }
-        requires within { clock ≤ MAX_STAMP }
+        requires now { IsNow self.old.clock clock }
         requires locking { gathering_of ((kept_by self.old).uses number) ≡ gatherings.Lock op }
         requires alone { (q : Node) → is_peer (live_of self.old) q ≡ false }
         ensures happens { (update : Update) (first : Node) (st : Node → Status) → (kept_by self.old).uses number ≡ Locking op update first st
             → IfOk result (λ done. Happens (names_of self.old) (at_clock clock
             (turn_by outlooks.Begin (live_of self.old) number op update first st (kept_by self.old)))
             done (state_of self.new) (answers_of self.old) (answers_of self.new)) }
-        ensures err { OnErr result (state_of self.new ≡ state_of self.old) }
-        ensures err_answers { OnErr result (answers_of self.new ≡ answers_of self.old) }
-        ensures names { names_of self.new ≡ names_of self.old }
-        ensures ports { ports_of self.new ≡ ports_of self.old }
+        ensures stays { Stays self.old self.new result }
         ensures fits { IfOk result (λ done. AreSendable (names_of self.old) done.sends.items) }
     {
         reserve_answer(&mut self.ports, op.port)?;
@@ -209,16 +192,12 @@ impl<T: GroupTable + Drop> NodeState<T> {
 
     /// What follows once the answers to a request for the lock are in. `number`: the one of its reference.
     pub(crate) fn go_on(&mut self, clock: u32, number: u32, op: OpId) -> Result<Done, AllocError>
-        requires later { self.old.clock < clock }
-        requires within { clock ≤ MAX_STAMP }
+        requires now { IsNow self.old.clock clock }
         requires locking { gathering_of ((kept_by self.old).uses number) ≡ gatherings.Lock op }
         ensures happens { IfOk result (λ done. Happens (names_of self.old) (at_clock clock
             (go_on (live_of self.old) number ((kept_by self.old).uses number) (kept_by self.old)))
             done (state_of self.new) (answers_of self.old) (answers_of self.new)) }
-        ensures err { OnErr result (state_of self.new ≡ state_of self.old) }
-        ensures err_answers { OnErr result (answers_of self.new ≡ answers_of self.old) }
-        ensures names { names_of self.new ≡ names_of self.old }
-        ensures ports { ports_of self.new ≡ ports_of self.old }
+        ensures stays { Stays self.old self.new result }
         ensures fits { IfOk result (λ done. AreSendable (names_of self.old) done.sends.items) }
     {
         steps_go_by_outlook();
@@ -239,8 +218,7 @@ impl<T: GroupTable + Drop> NodeState<T> {
 
     /// Nothing follows yet.
     pub(crate) fn wait(&mut self, clock: u32) -> Done
-        requires later { self.old.clock < clock }
-        requires within { clock ≤ MAX_STAMP }
+        requires now { IsNow self.old.clock clock }
         ensures happens { Happens (names_of self.old) (at_clock clock (becomes (kept_by self.old))) result (state_of self.new) (answers_of self.old) (answers_of self.new) }
         ensures names { names_of self.new ≡ names_of self.old }
         ensures ports { ports_of self.new ≡ ports_of self.old }

@@ -1,16 +1,16 @@
 //! How a command that changes a group is opened.
 
-ghost use Rattle.std.specs.Prelude.{◌≡◌, ◌<◌, ◌≤◌, true, is_some, Some, IfOk, OnErr};
+ghost use Rattle.std.specs.Prelude.{◌≡◌, ◌<◌, true, is_some, Some, IfOk};
 ghost use Rattle.pg_group.specs.declared.update.Update.{Update};
 ghost use Rattle.pg_group.specs.Value.{name_of};
 ghost use Rattle.pg_message.specs.Name.{is_name};
-ghost use Rattle.pg_message.specs.declared.packet.TheConstants.{MAX_STAMP};
 ghost use Rattle.pg_step.specs.Commands.{change_of};
 
+use crate::state::NodeState;
 use crate::state::fresh::prepared;
-use crate::state::port::{count, next_op, uncount};
-use crate::state::{Done, NodeState};
 use pg_group::GroupTable;
+use pg_ports::{count, next_op, uncount};
+use pg_sends::Done;
 use pg_step::{Command, CommandFault, Reply};
 use std::alloc::AllocError;
 
@@ -22,8 +22,10 @@ impl<T: GroupTable + Drop> NodeState<T> {
     ghost use Rattle.pg_step.specs.Commands.{undertake, open_command};
     ghost use Rattle.pg_step.specs.Step.{at_clock};
     ghost use Rattle.pg_step.specs.Turns.{and_then};
+    ghost use Rattle.pg_node_state.specs.Clocks.{IsNow};
     ghost use Rattle.pg_node_state.specs.Issued.{op_issued, ports_of};
-    ghost use Rattle.pg_node_state.specs.Sendable.{AreSendable};
+    ghost use Rattle.pg_sends.specs.Sendable.{AreSendable};
+    ghost use Rattle.pg_node_state.specs.States.{Stays};
     ghost use Rattle.pg_node_state.specs.States.{names_of, live_of, kept_by, state_of, answers_of, Happens};
 
     /// Carries out a change that has to take the lock, the next command of a port: it is refused as busy where as many
@@ -34,18 +36,14 @@ impl<T: GroupTable + Drop> NodeState<T> {
         port: u16,
         command: &Command,
     ) -> Result<Done, AllocError>
-        requires later { self.old.clock < clock }
-        requires within { clock ≤ MAX_STAMP }
+        requires now { IsNow self.old.clock clock }
         requires place { port < ports_of self.old }
         requires change { is_some (change_of command.now) ≡ true }
         requires named { (update : Update) → change_of command.now ≡ Some update → is_name (name_of update) ≡ true }
         ensures happens { (update : Update) → change_of command.now ≡ Some update → IfOk result (λ done. Happens (names_of self.old)
             (at_clock clock (op_issued port (λ op. undertake (live_of self.old) op update) (kept_by self.old)))
             done (state_of self.new) (answers_of self.old) (answers_of self.new)) }
-        ensures err { OnErr result (state_of self.new ≡ state_of self.old) }
-        ensures err_answers { OnErr result (answers_of self.new ≡ answers_of self.old) }
-        ensures names { names_of self.new ≡ names_of self.old }
-        ensures ports { ports_of self.new ≡ ports_of self.old }
+        ensures stays { Stays self.old self.new result }
         ensures fits { IfOk result (λ done. AreSendable (names_of self.old) done.sends.items) }
     {
         if self.opens.open_count() >= OPEN_LIMIT {
@@ -56,18 +54,14 @@ impl<T: GroupTable + Drop> NodeState<T> {
 
     /// Opens the next command of a port, and begins its first attempt.
     fn open(&mut self, clock: u32, port: u16, command: &Command) -> Result<Done, AllocError>
-        requires later { self.old.clock < clock }
-        requires within { clock ≤ MAX_STAMP }
+        requires now { IsNow self.old.clock clock }
         requires place { port < ports_of self.old }
         requires change { is_some (change_of command.now) ≡ true }
         requires named { (update : Update) → change_of command.now ≡ Some update → is_name (name_of update) ≡ true }
         ensures happens { (update : Update) → change_of command.now ≡ Some update → IfOk result (λ done. Happens (names_of self.old)
             (at_clock clock (op_issued port (λ op s. and_then (open_command op update s) (attempt (live_of self.old) op update)) (kept_by self.old)))
             done (state_of self.new) (answers_of self.old) (answers_of self.new)) }
-        ensures err { OnErr result (state_of self.new ≡ state_of self.old) }
-        ensures err_answers { OnErr result (answers_of self.new ≡ answers_of self.old) }
-        ensures names { names_of self.new ≡ names_of self.old }
-        ensures ports { ports_of self.new ≡ ports_of self.old }
+        ensures stays { Stays self.old self.new result }
         ensures fits { IfOk result (λ done. AreSendable (names_of self.old) done.sends.items) }
     {
         let before = self.clock;

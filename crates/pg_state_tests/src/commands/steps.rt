@@ -3,7 +3,8 @@ ghost use Rattle.pg_term.specs.Same.{same_atom};
 
 use crate::samples::atom;
 use pg_group::Update;
-use pg_opens::{Asked, Opens, Stage};
+use pg_marks::Asked;
+use pg_opens::{Opens, Stage};
 use pg_step::OpId;
 use pg_term::{Atom, Term};
 use std::alloc::{AllocError, Global};

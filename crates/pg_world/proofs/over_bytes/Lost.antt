@@ -21,7 +21,7 @@ use Rattle.pg_step.specs.Config.{Config, name_at, names_of}
 use Rattle.pg_step.specs.LossLaws.{LosingFrameWorld, see_refusal}
 use Rattle.pg_step.specs.State.{State}
 use Rattle.pg_step.specs.Step.{TimedTurn, at_clock}
-use Rattle.pg_node_state.specs.declared.state.done.Done.{Done}
+use Rattle.pg_sends.specs.declared.done.Done.{Done}
 use Rattle.pg_node_state.specs.declared.state.fault.NodeFault.{NodeFault}
 use Rattle.pg_node_state.specs.declared.state.fault.NodeFault.TheVariants.{Refused}
 use Rattle.pg_node.specs.Bytes.{is_drained, has_frame}

@@ -32,10 +32,11 @@ use Rattle.pg_step.specs.FrameMachine.{frame_machine}
 use Rattle.pg_node.specs.declared.node.Node.{Node}
 use Rattle.pg_node_state.specs.declared.state.fault.NodeFault.{NodeFault}
 use Rattle.pg_node.specs.Begun.{BeginsWith, CantBegin, IsOpened}
-use Rattle.pg_node_state.specs.Frames.{frame_of}
+use Rattle.pg_writer.specs.Frames.{frame_of}
 use Rattle.pg_node.specs.Links.{Link}
 use Rattle.pg_node.specs.Nodes.{held_by, links_of}
-use Rattle.pg_node_state.specs.States.{names_of as known_names, stamped_of}
+use Rattle.pg_node_state.specs.States.{names_of as known_names}
+use Rattle.pg_sends.specs.Sent.{stamped_of}
 use Rattle.pg_config.specs.declared.fault.WorldFault.{WorldFault}
 use Rattle.pg_config.specs.declared.fault.WorldFault.TheVariants.{BadConfig, NameTooLarge}
 use Rattle.pg_config.specs.declared.fault.WorldFault.TheVariants.{BadCapacity, TooLong, OutOfMemory}

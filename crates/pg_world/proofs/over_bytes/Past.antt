@@ -34,7 +34,7 @@ use Rattle.pg_frame_world.specs.Losing.{told_take, told_own, told_of, LosingLed,
 use Rattle.pg_account.specs.Losses.{is_lost}
 use Rattle.pg_account.specs.Histories.{Account, account_formed}
 use Rattle.pg_starts.specs.Seen.{Seen}
-use Rattle.pg_frame_world.specs.Worlds.{TimedFrameWorld, ShowsNodes, ShowsUpdates, has_port, has_places, told}
+use Rattle.pg_frame_world.specs.Worlds.{TimedFrameWorld, ShowsNodes, ShowsUpdates, has_port, has_places, told_event}
 use Rattle.pg_frame_world.proofs.Barred.{cut_is, barred_told, unplaced_told, take_cut, either_stays}
 use Rattle.pg_frame_world.proofs.Barred.{take_refused_so, take_busy_so, own_refused_so}
 use Rattle.pg_frame_world.proofs.Lossy.{lifted, same_effect, lost_kept}
@@ -149,7 +149,7 @@ module _ (config : Config) (crossing2 : Crossing) (account2 : Account) (lost los
   }
 
   module _ (e : Event Action) (tells : Telling) (event : tells.event ≡ Step e) (loss : tells.is_loss ≡ false) (stays : is_lost lost (node_of e) ≡ false)
-      (refused : (r : Refusal) → told config w e ≡ Some (Err r) → tells.refusal ≡ Some r)
+      (refused : (r : Refusal) → told_event config w e ≡ Some (Err r) → tells.refusal ≡ Some r)
       (busy : (v : TimedFrameWorld) → happens (frame_machine config) w e ≡ Some v → tells.is_idle ≡ false) where
     led_past : (v : TimedFrameWorld) → happens (frame_machine config) w e ≡ Some v → ShowsBytesPast config lost crossing2 account2 v
         → LosingLed config (losing_of config w lost) tells.event (ShowsLosingBytes config crossing2 account2 lost2)

@@ -9,7 +9,7 @@ use Rattle.pg_opens.specs.Places.{name_at}
 use Rattle.pg_step.specs.Config.{Config}
 use Rattle.pg_step.specs.State.{State}
 use Rattle.pg_node.specs.declared.node.Node.{Node}
-use Rattle.pg_node_state.specs.declared.state.done.Done.{Done}
+use Rattle.pg_sends.specs.declared.done.Done.{Done}
 use Rattle.pg_node_state.specs.declared.state.fault.NodeFault.{NodeFault}
 use Rattle.pg_node.specs.Bytes.{closed}
 use Rattle.pg_node.specs.Links.{Link, at_link}

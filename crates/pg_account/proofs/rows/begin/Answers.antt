@@ -2,7 +2,7 @@ use Rattle.std.proofs.Common.{Some, ◌+◌, ◌++◌, ◌∷◌, ◌&&◌, cond
 use Rattle.pg_term.specs.declared.term.Term.{Term}
 use Rattle.pg_term.specs.Same.{same_term}
 use Rattle.pg_account.specs.declared.row.Row.{Row}
-use Rattle.pg_account.specs.Histories.{as_entry, as_marked, entries_in, entries_of, counts_in, marked_entries_in, marked_entries_of}
+use Rattle.pg_account.specs.Histories.{as_entry, as_marked, entries_in, entries_of, tallied_in, marked_entries_in, marked_entries_of}
 use Rattle.pg_account.proofs.Rowed.{more_listed, more_counts}
 use Rattle.pg_account.proofs.rows.begin.Goals as goal
 
@@ -16,7 +16,7 @@ pub returns-in-Some-clause-counts : goal.returns-in-Some-clause-counts
 returns-in-Some-clause-counts c = λ i name.
     more_counts c.args.rows.now (c.get_mut.follows.lender c.begin.new.self) c.name.result.now (Some c.in-Some.row.now) c.begin.new.self (sym c.in-Some.ensures.value)
     ((c.get_mut.follows.holds c.begin.new.self).3 (search rules)) c.in-Some.row.now c.args.entry.node refl c.begin.ensures.counts i name
-    ∙ ap (λ (group : Term). counts_in c.args.rows.now i name + cond (nat_eq c.args.entry.node i && same_term name group) 1 0) c.name.ensures
+    ∙ ap (λ (group : Term). tallied_in c.args.rows.now i name + cond (nat_eq c.args.entry.node i && same_term name group) 1 0) c.name.ensures
 
 pub returns-in-Some-clause-marks : goal.returns-in-Some-clause-marks
 returns-in-Some-clause-marks c = λ i name.

@@ -3,7 +3,7 @@ use Rattle.std.proofs.Math.Path.{fun_ext}
 use Rattle.pg_term.specs.declared.term.Term.{Term}
 use Rattle.pg_term.specs.Same.{same_term}
 use Rattle.pg_left.specs.Missed.{marked_after}
-use Rattle.pg_account.specs.Histories.{entries_of, counts_in, marked_entries_in}
+use Rattle.pg_account.specs.Histories.{entries_of, tallied_in, marked_entries_in}
 use Rattle.pg_account.proofs.Rowed.{kept, marks_taken, more_counts}
 use Rattle.pg_account.proofs.rows.serve.Goals as goal
 
@@ -16,7 +16,7 @@ pub returns-in-Some-clause-counts : goal.returns-in-Some-clause-counts
 returns-in-Some-clause-counts c = λ i name.
     more_counts c.args.rows.now (c.get_mut.follows.lender c.serve.new.self) c.name.result.now (Some c.in-Some.row.now) c.serve.new.self (sym c.in-Some.ensures.value)
     ((c.get_mut.follows.holds c.serve.new.self).3 (search rules)) c.in-Some.row.now c.args.node refl c.serve.ensures.counts i name
-    ∙ ap (λ (group : Term). counts_in c.args.rows.now i name + cond (nat_eq c.args.node i && same_term name group) 1 0) c.name.ensures
+    ∙ ap (λ (group : Term). tallied_in c.args.rows.now i name + cond (nat_eq c.args.node i && same_term name group) 1 0) c.name.ensures
 
 pub returns-in-Some-clause-marks : goal.returns-in-Some-clause-marks
 returns-in-Some-clause-marks c = λ i name few.

@@ -3,7 +3,7 @@ use Rattle.std.proofs.lemmas.Option.{slice_get_read}
 use Rattle.pg_machine.specs.Clocked.{Stamped}
 use Rattle.pg_message.specs.declared.message.Message.{Message}
 use Rattle.pg_message.specs.declared.packet.Packet.{Packet}
-use Rattle.pg_node_state.specs.States.{stamped_of}
+use Rattle.pg_sends.specs.Sent.{stamped_of}
 use Rattle.pg_explore.specs.Numbers.{mixed_message}
 use Rattle.pg_explore.proofs.Counting.{fold_more, map_at}
 use Rattle.pg_explore.proofs.number.with_way.Goals as goal

@@ -1,6 +1,6 @@
 use Rattle.std.proofs.Common.{◌≡◌, drop, map, length}
 use Rattle.std.specs.Prelude.{fold}
-use Rattle.pg_node_state.specs.States.{stamped_of}
+use Rattle.pg_sends.specs.Sent.{stamped_of}
 use Rattle.pg_explore.specs.Numbers.{mixed, mixed_message, unstamped_of}
 use Rattle.pg_explore.proofs.number.with_way.Given as goal
 

@@ -2,7 +2,7 @@ use Rattle.std.proofs.Common.{◌≡◌, ◌<◌, ◌≤◌, ◌∙◌, List, le
 use Rattle.pg_message.specs.declared.message.Message.{Message}
 use Rattle.pg_message.specs.declared.packet.Packet.{Packet}
 use Rattle.pg_machine.specs.Clocked.{Stamped}
-use Rattle.pg_node_state.specs.States.{stamped_of}
+use Rattle.pg_sends.specs.Sent.{stamped_of}
 use Rattle.pg_opens.proofs.Named.{clash}
 use Rattle.pg_account.proofs.Compared.{same_more, same_at, same_all, same_length, twice_length, twice_at}
 use Rattle.pg_frame_world.proofs.Messages.{message_is, message_so}

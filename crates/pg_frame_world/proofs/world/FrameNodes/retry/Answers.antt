@@ -110,7 +110,7 @@ invariant_of-self-in-Ok-retry g c =
     let there = c.index_mut-outgoing-in-Ok-retry.ensures.value in
     let sends = c.in-Ok-retry.done.sends.items in
     let whole1 = whole_as nodes outs outs1 room whole in
-    record { whole = sent_whole nodes outs1 c.args.node whole1 within state here after out c.send_all.new.self sends c.in-Ok-retry.ensures.names there c.send_all.ensures.len c.send_all.ensures.sent }
+    record { whole = sent_whole nodes outs1 c.args.node whole1 within state here after out c.send_all.new.self sends c.in-Ok-retry.ensures.stays.names there c.send_all.ensures.len c.send_all.ensures.sent }
 
 pub invariant_of-self-in-Err-retry : goal.invariant_of-self-in-Err-retry
 invariant_of-self-in-Err-retry g c =
@@ -122,7 +122,7 @@ invariant_of-self-in-Err-retry g c =
     let state = c.index_mut-state.result.now in
     let here = c.index_mut-state.ensures.value in
     let after = c.retry.new.self in
-    let seen = seen_same nodes outs state after c.in-Err-retry.ensures.names c.in-Err-retry.ensures.ports c.in-Err-retry.ensures.err c.in-Err-retry.ensures.err_answers in
+    let seen = seen_same nodes outs state after c.in-Err-retry.ensures.stays.names c.in-Err-retry.ensures.stays.ports c.in-Err-retry.ensures.stays.state c.in-Err-retry.ensures.stays.answers in
     let same = view_refused nodes outs c.args.node c.index_mut-outgoing.result.now c.make_room.new.self state after inside c.index_mut-outgoing.ensures.value c.make_room.ensures.same within here seen in
     record { whole = subst IsWhole (sym same) whole }
 
@@ -146,9 +146,9 @@ returns-in-Ok-retry-clause-event g c =
     shows_all config (view_of c.args.self.now) _ w (Do c.args.node (Retry c.args.op)) c.args.node None c.in-Ok-retry.done.began (effect_by c.in-Ok-retry.done) c.of-effect.result c.of-effect.ensures shows
     (grew_own (view_of c.args.self.now).account _ c.args.node c.in-Ok-retry.done.began c.send_all.result c.send_all.ensures.began c.begin.ensures.history c.begin.ensures.applied c.begin.ensures.marked)
     (own_happened config (traffic_in nodes outs) w c.args.node (Retry c.args.op) (seen_of state) shows.traffic (seen_here nodes outs c.args.node whole within state here)
-    (sent_view nodes outs1 c.args.node whole1 within state here after out c.send_all.new.self sends c.in-Ok-retry.ensures.names there c.send_all.ensures.len c.send_all.ensures.sent) (seen_of after) c.in-Ok-retry.done (sent_nodes nodes outs1 c.args.node whole1 within state here after out c.send_all.new.self sends c.in-Ok-retry.ensures.names there c.send_all.ensures.len c.send_all.ensures.sent) c.in-Ok-retry.ensures.names c.in-Ok-retry.ensures.ports c.in-Ok-retry.ensures.fits
-    (λ k. sent_there nodes outs1 c.args.node whole1 within state here after out c.send_all.new.self sends c.in-Ok-retry.ensures.names there c.send_all.ensures.len c.send_all.ensures.sent k ∙ ap (λ xs. xs ++ packets_to sends k) (way_as nodes outs outs1 room c.args.node k))
-    (λ x n k. sent_others nodes outs1 c.args.node whole1 within state here after out c.send_all.new.self sends c.in-Ok-retry.ensures.names there c.send_all.ensures.len c.send_all.ensures.sent x n k ∙ way_as nodes outs outs1 room x k)
+    (sent_view nodes outs1 c.args.node whole1 within state here after out c.send_all.new.self sends c.in-Ok-retry.ensures.stays.names there c.send_all.ensures.len c.send_all.ensures.sent) (seen_of after) c.in-Ok-retry.done (sent_nodes nodes outs1 c.args.node whole1 within state here after out c.send_all.new.self sends c.in-Ok-retry.ensures.stays.names there c.send_all.ensures.len c.send_all.ensures.sent) c.in-Ok-retry.ensures.stays.names c.in-Ok-retry.ensures.stays.ports c.in-Ok-retry.ensures.fits
+    (λ k. sent_there nodes outs1 c.args.node whole1 within state here after out c.send_all.new.self sends c.in-Ok-retry.ensures.stays.names there c.send_all.ensures.len c.send_all.ensures.sent k ∙ ap (λ xs. xs ++ packets_to sends k) (way_as nodes outs outs1 room c.args.node k))
+    (λ x n k. sent_others nodes outs1 c.args.node whole1 within state here after out c.send_all.new.self sends c.in-Ok-retry.ensures.stays.names there c.send_all.ensures.len c.send_all.ensures.sent x n k ∙ way_as nodes outs outs1 room x k)
     c.in-Ok-retry.ensures.event)
 
 pub returns-in-Err-retry-clause-event : goal.returns-in-Err-retry-clause-event
@@ -174,6 +174,6 @@ returns-in-Err-retry-clause-err g c =
     let state = c.index_mut-state.result.now in
     let here = c.index_mut-state.ensures.value in
     let after = c.retry.new.self in
-    let seen = seen_same nodes outs state after c.in-Err-retry.ensures.names c.in-Err-retry.ensures.ports c.in-Err-retry.ensures.err c.in-Err-retry.ensures.err_answers in
+    let seen = seen_same nodes outs state after c.in-Err-retry.ensures.stays.names c.in-Err-retry.ensures.stays.ports c.in-Err-retry.ensures.stays.state c.in-Err-retry.ensures.stays.answers in
     let same = view_refused nodes outs c.args.node c.index_mut-outgoing.result.now c.make_room.new.self state after inside c.index_mut-outgoing.ensures.value c.make_room.ensures.same within here seen in
     view_is _ _ same refl

@@ -39,7 +39,7 @@ invariant_of-self g c =
     let state = c.index_mut-state.result.now in
     let within = taker_there nodes outs whole node peer c.requires.pair in
     let here = seen_here nodes outs node whole within state c.index_mut-state.ensures.value in
-    record { whole = seen_whole nodes outs node state c.see_loss.new.self whole here c.see_loss.ensures.names }
+    record { whole = seen_whole nodes outs node state c.see_loss.new.self whole here c.see_loss.ensures.stays.names }
 
 pub returns-in-Ok-clause-losing : goal.returns-in-Ok-clause-losing
 returns-in-Ok-clause-losing g c = λ config u shows.
@@ -60,7 +60,7 @@ returns-in-Ok-clause-losing g c = λ config u shows.
     let clock : (shows.frames.node peer).clock ≡ c.clock-last.result = ap (λ (s : Timed State). s.clock) (shows.shows.traffic.nodes.each peer (seen_of other) there).state ∙ sym c.clock-last.ensures in
     let after = c.see_loss.new.self in
     packets_sight_seen config view _ u node peer lost lost shows c.requires.pair c.requires.lives gone drained (seen_of state) here c.clock-last.result clock refl
-    (seen_of after) c.in-Ok.done (map-set seen_of nodes node after) c.in-Ok.ensures.names c.in-Ok.ensures.ports (λ x y. refl) refl
+    (seen_of after) c.in-Ok.done (map-set seen_of nodes node after) c.in-Ok.ensures.stays.names c.in-Ok.ensures.stays.ports (λ x y. refl) refl
     (subst (λ k. Comes (names_of state) (step_see_loss (name_at (names_of state) (k + 1)) c.clock-last.result (state_of state)) (Ok c.in-Ok.done) (state_of after) (answers_of state) (answers_of after)) c.peer_place.ensures c.in-Ok.ensures.event)
     c.nothing.result c.nothing.ensures
 
@@ -82,7 +82,7 @@ returns-in-Err-clause-losing g c = λ config u shows.
     let there = seen_here nodes outs peer whole (peer_there nodes outs whole node peer c.requires.pair) other c.index-lost.ensures in
     let clock : (shows.frames.node peer).clock ≡ c.clock-last.result = ap (λ (s : Timed State). s.clock) (shows.shows.traffic.nodes.each peer (seen_of other) there).state ∙ sym c.clock-last.ensures in
     let after = c.see_loss.new.self in
-    let seen = seen_same nodes outs state after c.in-Err.ensures.names c.in-Err.ensures.ports c.in-Err.ensures.err c.in-Err.ensures.err_answers in
+    let seen = seen_same nodes outs state after c.in-Err.ensures.stays.names c.in-Err.ensures.stays.ports c.in-Err.ensures.stays.state c.in-Err.ensures.stays.answers in
     let same : traffic_in (slice_set nodes node after) outs ≡ traffic_in nodes outs = λ j. record { nodes = map_same seen_of nodes node state after within c.index_mut-state.ensures.value seen j; ways = map ways_of outs } in
     packets_sight_refused config view _ u node peer lost lost shows c.requires.pair c.requires.lives gone drained (seen_of state) here c.clock-last.result clock refl
     c.in-Err.fault (state_of after) (answers_of state) (answers_of after) (view_is _ _ same refl)
@@ -99,6 +99,6 @@ returns-in-Err-clause-err g c =
     let within = taker_there nodes outs whole node peer c.requires.pair in
     let here = seen_here nodes outs node whole within state c.index_mut-state.ensures.value in
     let after = c.see_loss.new.self in
-    let seen = seen_same nodes outs state after c.in-Err.ensures.names c.in-Err.ensures.ports c.in-Err.ensures.err c.in-Err.ensures.err_answers in
+    let seen = seen_same nodes outs state after c.in-Err.ensures.stays.names c.in-Err.ensures.stays.ports c.in-Err.ensures.stays.state c.in-Err.ensures.stays.answers in
     let same : traffic_in (slice_set nodes node after) outs ≡ traffic_in nodes outs = λ j. record { nodes = map_same seen_of nodes node state after within c.index_mut-state.ensures.value seen j; ways = map ways_of outs } in
     view_is _ _ same refl

@@ -3,7 +3,8 @@ use Rattle.std.specs.Prelude.{slice_set}
 use Rattle.std.proofs.lemmas.List.{get_or-set_other}
 use Rattle.pg_opens.specs.Places.{name_at}
 use Rattle.pg_step.specs.Step.{step_take}
-use Rattle.pg_node_state.specs.States.{names_of, nodes_of, state_of, answers_of, stamped_of, Comes}
+use Rattle.pg_node_state.specs.States.{names_of, nodes_of, state_of, answers_of, Comes}
+use Rattle.pg_sends.specs.Sent.{stamped_of}
 use Rattle.pg_starts.specs.Seen.{seen_of}
 use Rattle.pg_frame_world.specs.Views.{ways_of, packets_to, next_packet_of, traffic_in, peer_place, HaveWayRoom, IsWhole}
 use Rattle.pg_frame_world.proofs.Taking.{taker_there, row_there, apart, taker_place, sender_place}
@@ -200,7 +201,7 @@ invariant_of-self-in-Ok-take g c =
     let outthere = c.index_mut-outgoing-in-Ok-take.ensures.value in
     let sends = c.in-Ok-take.done.sends.items in
     let apart = apart nodes outs whole node peer c.requires.pair in
-    record { whole = sent_whole nodes outs2 node whole2 within state here after out c.send_all.new.self sends c.in-Ok-take.ensures.names outthere c.send_all.ensures.len c.send_all.ensures.sent }
+    record { whole = sent_whole nodes outs2 node whole2 within state here after out c.send_all.new.self sends c.in-Ok-take.ensures.stays.names outthere c.send_all.ensures.len c.send_all.ensures.sent }
 
 pub invariant_of-self-in-Err-take : goal.invariant_of-self-in-Err-take
 invariant_of-self-in-Err-take g c =
@@ -217,7 +218,7 @@ invariant_of-self-in-Err-take g c =
     let state = c.index_mut-state.result.now in
     let here = c.index_mut-state.ensures.value in
     let after = c.take.new.self in
-    let seen = seen_same nodes outs state after c.in-Err-take.ensures.names c.in-Err-take.ensures.ports c.in-Err-take.ensures.err c.in-Err-take.ensures.err_answers in
+    let seen = seen_same nodes outs state after c.in-Err-take.ensures.stays.names c.in-Err-take.ensures.stays.ports c.in-Err-take.ensures.stays.state c.in-Err-take.ensures.stays.answers in
     let same = view_refused nodes outs node c.index_mut-outgoing.result.now c.make_room.new.self state after inside c.index_mut-outgoing.ensures.value c.make_room.ensures.same within here seen in
     record { whole = subst IsWhole (sym same) whole }
 
@@ -288,10 +289,10 @@ returns-in-Ok-take-clause-event g c =
     c.make_room-in-Some.ensures.account c.serve.ensures.history c.serve.ensures.applied c.serve.ensures.marked c.begin.ensures.history c.begin.ensures.applied c.begin.ensures.marked)
     (take_happened config (traffic_in nodes outs) w node peer shows.traffic c.requires.pair (seen_of state) (seen_here nodes outs node whole within state here) (stamped_of c.in-Some.packet.now)
     (c.in-Some.ensures.first ∙ (ap (λ k. next_packet_of (get_or (ways_of sender) k [])) c.peer_place.ensures ∙ ap next_packet_of way))
-    (sent_view nodes outs2 node whole2 within state here after out c.send_all.new.self sends c.in-Ok-take.ensures.names outthere c.send_all.ensures.len c.send_all.ensures.sent) (seen_of after) c.in-Ok-take.done (sent_nodes nodes outs2 node whole2 within state here after out c.send_all.new.self sends c.in-Ok-take.ensures.names outthere c.send_all.ensures.len c.send_all.ensures.sent) c.in-Ok-take.ensures.names c.in-Ok-take.ensures.ports c.in-Ok-take.ensures.fits
-    (λ k. sent_there nodes outs2 node whole2 within state here after out c.send_all.new.self sends c.in-Ok-take.ensures.names outthere c.send_all.ensures.len c.send_all.ensures.sent k ∙ ap (λ xs. xs ++ packets_to sends k) (passed_else nodes outs1 whole1 node peer c.requires.pair from fromthere passed is node k (λ both. apart (sym both.0)) ∙ way_as nodes outs outs1 room node k))
-    (sent_others nodes outs2 node whole2 within state here after out c.send_all.new.self sends c.in-Ok-take.ensures.names outthere c.send_all.ensures.len c.send_all.ensures.sent peer apart (peer_place peer node) ∙ (passed_here nodes outs1 whole1 node peer c.requires.pair from fromthere passed is ∙ ap (drop 1) (way_as nodes outs outs1 room peer (peer_place peer node))))
-    (λ a k n other. sent_others nodes outs2 node whole2 within state here after out c.send_all.new.self sends c.in-Ok-take.ensures.names outthere c.send_all.ensures.len c.send_all.ensures.sent a n k ∙ (passed_else nodes outs1 whole1 node peer c.requires.pair from fromthere passed is a k other ∙ way_as nodes outs outs1 room a k))
+    (sent_view nodes outs2 node whole2 within state here after out c.send_all.new.self sends c.in-Ok-take.ensures.stays.names outthere c.send_all.ensures.len c.send_all.ensures.sent) (seen_of after) c.in-Ok-take.done (sent_nodes nodes outs2 node whole2 within state here after out c.send_all.new.self sends c.in-Ok-take.ensures.stays.names outthere c.send_all.ensures.len c.send_all.ensures.sent) c.in-Ok-take.ensures.stays.names c.in-Ok-take.ensures.stays.ports c.in-Ok-take.ensures.fits
+    (λ k. sent_there nodes outs2 node whole2 within state here after out c.send_all.new.self sends c.in-Ok-take.ensures.stays.names outthere c.send_all.ensures.len c.send_all.ensures.sent k ∙ ap (λ xs. xs ++ packets_to sends k) (passed_else nodes outs1 whole1 node peer c.requires.pair from fromthere passed is node k (λ both. apart (sym both.0)) ∙ way_as nodes outs outs1 room node k))
+    (sent_others nodes outs2 node whole2 within state here after out c.send_all.new.self sends c.in-Ok-take.ensures.stays.names outthere c.send_all.ensures.len c.send_all.ensures.sent peer apart (peer_place peer node) ∙ (passed_here nodes outs1 whole1 node peer c.requires.pair from fromthere passed is ∙ ap (drop 1) (way_as nodes outs outs1 room peer (peer_place peer node))))
+    (λ a k n other. sent_others nodes outs2 node whole2 within state here after out c.send_all.new.self sends c.in-Ok-take.ensures.stays.names outthere c.send_all.ensures.len c.send_all.ensures.sent a n k ∙ (passed_else nodes outs1 whole1 node peer c.requires.pair from fromthere passed is a k other ∙ way_as nodes outs outs1 room a k))
     (subst (λ k. Comes (names_of state) (step_take (nodes_of state) (name_at (names_of state) (k + 1)) (stamped_of c.in-Some.packet.now) (state_of state)) (Ok c.in-Ok-take.done) (state_of after) (answers_of state) (answers_of after))
     c.peer_place-in-Some.ensures c.in-Ok-take.ensures.event))
 
@@ -334,6 +335,6 @@ returns-in-Err-take-clause-err g c =
     let state = c.index_mut-state.result.now in
     let here = c.index_mut-state.ensures.value in
     let after = c.take.new.self in
-    let seen = seen_same nodes outs state after c.in-Err-take.ensures.names c.in-Err-take.ensures.ports c.in-Err-take.ensures.err c.in-Err-take.ensures.err_answers in
+    let seen = seen_same nodes outs state after c.in-Err-take.ensures.stays.names c.in-Err-take.ensures.stays.ports c.in-Err-take.ensures.stays.state c.in-Err-take.ensures.stays.answers in
     let same = view_refused nodes outs node c.index_mut-outgoing.result.now c.make_room.new.self state after inside c.index_mut-outgoing.ensures.value c.make_room.ensures.same within here seen in
     view_is _ _ same c.make_room-in-Some.ensures.account

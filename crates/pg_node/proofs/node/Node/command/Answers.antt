@@ -1,6 +1,6 @@
 use Rattle.std.proofs.Common.{◌∙◌, ℕ, List, Err, ap, subst}
 use Rattle.pg_message.specs.declared.packet.Packet.{Packet}
-use Rattle.pg_node_state.specs.Frames.{frames_to, AreSmallFrames}
+use Rattle.pg_sends.specs.Frames.{frames_to, AreSmallFrames}
 use Rattle.pg_node.specs.Links.{Link, links_in, with_more}
 use Rattle.pg_node_state.specs.States.{state_of}
 use Rattle.pg_node.proofs.Events.{in_room}

@@ -50,7 +50,7 @@ pub invariant_of-self : goal.invariant_of-self
 invariant_of-self g c =
     let wires = c.args.self.now.wires.items in
     let within : c.args.peer < length wires = omega (arith, c.args.self.now.linked, c.requires.place) in
-    let linked : length (slice_set wires c.args.peer c.close.new.self) + 1 ≡ length (names_of c.see_loss.new.self) = omega (arith, length-set wires c.args.peer c.close.new.self, c.args.self.now.linked, ap (λ (names : List Node). length names) c.see_loss.ensures.names) in
+    let linked : length (slice_set wires c.args.peer c.close.new.self) + 1 ≡ length (names_of c.see_loss.new.self) = omega (arith, length-set wires c.args.peer c.close.new.self, c.args.self.now.linked, ap (λ (names : List Node). length names) c.see_loss.ensures.stays.names) in
     record {
       linked = linked;
       passage = c.args.self.now.passage;

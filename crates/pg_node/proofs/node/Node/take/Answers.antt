@@ -3,13 +3,14 @@ use Rattle.pg_message.specs.declared.packet.Packet.{Packet}
 use Rattle.pg_opens.specs.Places.{name_at}
 use Rattle.pg_reader.specs.Own.{own_reply}
 use Rattle.pg_step.specs.Step.{step_take}
-use Rattle.pg_node_state.specs.declared.state.done.Done.{Done}
-use Rattle.pg_node_state.specs.Frames.{AreSmallFrames}
+use Rattle.pg_sends.specs.declared.done.Done.{Done}
+use Rattle.pg_sends.specs.Frames.{AreSmallFrames}
 use Rattle.pg_node.specs.Bytes.{passed}
 use Rattle.pg_node.specs.Links.{links_in, at_link}
 use Rattle.pg_node.specs.Nodes.{has_lost, taken_of, TakesNext, sent_out}
-use Rattle.pg_node_state.specs.Sendable.{AreSendable}
-use Rattle.pg_node_state.specs.States.{names_of, nodes_of, state_of, answers_of, stamped_of}
+use Rattle.pg_sends.specs.Sendable.{AreSendable}
+use Rattle.pg_node_state.specs.States.{names_of, nodes_of, state_of, answers_of}
+use Rattle.pg_sends.specs.Sent.{stamped_of}
 use Rattle.pg_node.proofs.Events.{takes_ok, takes_err, read_is, step_read}
 use Rattle.pg_node.proofs.node.Node.take.Goals as goal
 

@@ -6,10 +6,9 @@ use Rattle.pg_opens.specs.Places.{name_at}
 use Rattle.pg_node.specs.Bytes.{next_packet, marked, passed}
 use Rattle.pg_node.specs.Links.{Link, links_in, at_link}
 use Rattle.pg_node.specs.Nodes.{has_lost, read_next, step_link, taken_of, TakesNext, sent_out}
-use Rattle.pg_node_state.specs.Sendable.{AreSendable}
-use Rattle.pg_node_state.specs.States.{names_of, nodes_of, state_of, answers_of}
+use Rattle.pg_sends.specs.Sendable.{AreSendable}
+use Rattle.pg_node_state.specs.States.{names_of, nodes_of, state_of, answers_of, Stays}
 use Rattle.pg_node.proofs.Events.{tells_ok, next_err, read_is, step_read}
-use Rattle.pg_node.proofs.Linked.{on_err}
 use Rattle.pg_node.proofs.node.Node.take_packet.Goals as goal
 
 pub take_next-requires-clause-few : goal.take_next-requires-clause-few
@@ -58,11 +57,8 @@ returns-in-Err-clause-event g c =
     (subst (λ r. TakesNext (names_of node) r (Err fault) (state_of node) (state_of node) (answers_of node) (answers_of node)) (sym (step_read (nodes_of node) p link (state_of node)))
     (next_err (names_of node) (state_of node) (state_of node) (answers_of node) (answers_of node) (nodes_of node) p (read_next (has_lost node c.args.peer) link) fault c.in-Err.ensures.told))
 
-pub returns-in-Ok-clause-err : goal.returns-in-Ok-clause-err
-returns-in-Ok-clause-err g c = on_err c.take_next.result _ _ (λ same. same ∙ ap (λ s. state_of s) c.next.ensures.state) c.take_next.ensures.err
-
-pub returns-in-Ok-clause-err_answers : goal.returns-in-Ok-clause-err_answers
-returns-in-Ok-clause-err_answers g c = on_err c.take_next.result _ _ (λ same. same ∙ ap (λ s. answers_of s) c.next.ensures.state) c.take_next.ensures.err_answers
+pub returns-in-Ok-clause-stays : goal.returns-in-Ok-clause-stays
+returns-in-Ok-clause-stays g c = subst (λ s. Stays s c.take_next.new.self.state c.take_next.result) c.next.ensures.state c.take_next.ensures.stays
 
 pub returns-in-Ok-clause-fits : goal.returns-in-Ok-clause-fits
 returns-in-Ok-clause-fits g c = λ done is. subst (λ s. AreSendable (names_of s) done.sends.items) c.next.ensures.state (c.take_next.ensures.fits done is)

@@ -4,7 +4,7 @@ use Rattle.std.proofs.Common.{◌≡◌, ◌<◌, ◌+◌, ◌∙◌, ℕ, List,
 use Rattle.pg_message.specs.declared.packet.Packet.{Packet}
 use Rattle.pg_node_state.specs.declared.state.fault.NodeFault.TheVariants.{OutOfMemory}
 use Rattle.pg_node.specs.Bytes.{marked}
-use Rattle.pg_node_state.specs.Frames.{frames_to, AreSmallFrames}
+use Rattle.pg_sends.specs.Frames.{frames_to, AreSmallFrames}
 use Rattle.pg_node.specs.Links.{links_in, at_link, with_more}
 use Rattle.pg_step.specs.Nodes.{Node}
 use Rattle.pg_node_state.specs.States.{names_of, state_of}
@@ -41,7 +41,7 @@ pub invariant_of-self-in-Ok-take : goal.invariant_of-self-in-Ok-take
 invariant_of-self-in-Ok-take g c =
     let wires = c.send_all.new.wires.items in
     let within : c.args.peer < length wires = omega (arith, c.args.self.now.linked, c.requires.place, c.make_room.ensures.len, c.send_all.ensures.len) in
-    let same = ap (λ (names : List Node). length names) c.take.ensures.names in
+    let same = ap (λ (names : List Node). length names) c.take.ensures.stays.names in
     let linked : length (slice_set wires c.args.peer c.pass.new.self) + 1 ≡ length (names_of c.take.new.self) = omega (arith, length-set wires c.args.peer c.pass.new.self, c.args.self.now.linked, c.make_room.ensures.len, c.send_all.ensures.len, same) in
     record {
       linked = linked;
@@ -53,7 +53,7 @@ pub invariant_of-self-in-Err-take : goal.invariant_of-self-in-Err-take
 invariant_of-self-in-Err-take g c =
     let wires = c.make_room.new.wires.items in
     let within : c.args.peer < length wires = omega (arith, c.args.self.now.linked, c.requires.place, c.make_room.ensures.len) in
-    let same = ap (λ (names : List Node). length names) c.take.ensures.names in
+    let same = ap (λ (names : List Node). length names) c.take.ensures.stays.names in
     let linked : length (slice_set wires c.args.peer c.mark.new.self) + 1 ≡ length (names_of c.take.new.self) = omega (arith, length-set wires c.args.peer c.mark.new.self, c.args.self.now.linked, c.make_room.ensures.len, same) in
     record {
       linked = linked;

@@ -1,8 +1,10 @@
 use Rattle.std.proofs.Common.{◌∙◌, ℕ, ap, arith}
-use Rattle.pg_node_state.specs.Issued.{counted_at}
-use Rattle.pg_node_state.specs.Ports.{port_commands, answers_in}
-use Rattle.pg_node_state.specs.States.{names_of, kept_by, sends_in}
-use Rattle.pg_node_state.proofs.Answered.{counts_within, given_later, given_still, counts_still, answered_on}
+use Rattle.pg_ports.specs.Ports.{counted_at}
+use Rattle.pg_ports.specs.Ports.{port_commands, answers_in}
+use Rattle.pg_node_state.specs.States.{names_of, kept_by}
+use Rattle.pg_sends.specs.Sent.{sends_in}
+use Rattle.pg_node_state.proofs.Answered.{counts_within, given_later, given_still, counts_still}
+use Rattle.pg_ports.proofs.Answered.{answered_on}
 use Rattle.pg_node_state.proofs.state.NodeState.answer.Goals as goal
 
 pub invariant_of-self-in-Err-1 : goal.invariant_of-self-in-Err-1
@@ -33,11 +35,11 @@ invariant_of-self g c =
       peers = old.peers;
       own = old.own;
       forgotten = old.forgotten;
-      within = c.requires.within;
-      made = omega (arith, old.made, c.requires.later);
-      counted = counts_within old.ports.items c.give.new.ports.items c.args.port same counted old.clock c.args.clock old.counted c.requires.later;
+      within = c.requires.now.within;
+      made = omega (arith, old.made, c.requires.now.later);
+      counted = counts_within old.ports.items c.give.new.ports.items c.args.port same counted old.clock c.args.clock old.counted c.requires.now.later;
       given = given_later old.ports.items c.give.new.ports.items c.args.port same counted old.given;
-      few = λ name pid. omega (arith, old.few name pid, c.requires.later);
+      few = λ name pid. omega (arith, old.few name pid, c.requires.now.later);
     }
 
 pub returns-in-Ok-clause-happens : goal.returns-in-Ok-clause-happens

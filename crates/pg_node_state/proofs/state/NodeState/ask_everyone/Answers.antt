@@ -14,14 +14,15 @@ use Rattle.pg_step.specs.State.Use.{Locking}
 use Rattle.pg_node_state.specs.Ports.{merged_in}
 use Rattle.pg_node_state.specs.States.{names_of, live_of, kept_by}
 use Rattle.pg_node_state.proofs.Attempted.{statuses, attempt_asks, rest_turn, rest_sends, rest_locks}
-use Rattle.pg_node_state.proofs.First.{WaitsWith, waits_with, same_update, first_state}
+use Rattle.pg_node_state.proofs.First.{WaitsWith, waits_with, first_state}
+use Rattle.pg_sends.proofs.Updates.{same_update}
 use Rattle.pg_node_state.proofs.First.{first_given, asked_under, grants_no_more}
 use Rattle.pg_node_state.proofs.Given.{given_use, of_lock, waiting_came}
 use Rattle.pg_node_state.proofs.Kept.{shows, assembled, happens_as}
 use Rattle.pg_node_state.proofs.Steady.{peers_stay, own_stays, merged_stay}
 use Rattle.pg_node_state.proofs.Steady.{lost_stay, made_stay, given_stay, live_stays}
 use Rattle.pg_node_state.proofs.Turned.{own_apart}
-use Rattle.pg_node_state.proofs.Undone.{granted_free}
+use Rattle.pg_sends.proofs.Undone.{granted_free}
 use Rattle.pg_node_state.proofs.state.NodeState.ask_everyone.Goals as goal
 
 pub ask_own-requires : goal.ask_own-requires

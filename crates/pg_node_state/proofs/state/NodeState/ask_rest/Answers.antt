@@ -5,11 +5,13 @@ use Rattle.pg_ends.specs.Processes.{node_of}
 use Rattle.pg_opens.specs.Opens.{Shows, names_of as opens_names}
 use Rattle.pg_opens.specs.Readings.{update_of}
 use Rattle.pg_step.specs.State.{State}
-use Rattle.pg_node_state.specs.Ports.{merged_in, port_commands}
+use Rattle.pg_node_state.specs.Ports.{merged_in}
+use Rattle.pg_ports.specs.Ports.{port_commands}
 use Rattle.pg_node_state.specs.States.{live_of, kept_by}
 use Rattle.pg_node_state.proofs.Kept.{shows, assembled}
 use Rattle.pg_node_state.proofs.Steady.{peers_stay, own_stays, merged_stay, lost_stay, made_stay, given_stay}
-use Rattle.pg_node_state.proofs.Turned.{LockParts, parts_by, update_is}
+use Rattle.pg_node_state.proofs.Turned.{LockParts, parts_by}
+use Rattle.pg_sends.proofs.Updates.{update_is}
 use Rattle.pg_step.specs.Attempts.{ask, with_asked}
 use Rattle.pg_step.specs.Peers.{would_grant}
 use Rattle.pg_step.specs.State.Use.{Locking}
@@ -29,12 +31,12 @@ invariant_of-self-in-Ok g c =
       peers = peers_stay old.opens new s turned nodes old.formation old.peers;
       own = own_stays old.opens new s turned nodes (node_of old.processes) old.own;
       forgotten = lost_stay old.opens new s turned nodes refl old.formation old.forgotten;
-      within = c.requires.within;
-      made = made_stay old.opens new s turned nodes c.args.clock (omega (arith, old.made, c.requires.later));
-      counted = λ port. omega (arith, old.counted port, c.requires.later);
+      within = c.requires.now.within;
+      made = made_stay old.opens new s turned nodes c.args.clock (omega (arith, old.made, c.requires.now.later));
+      counted = λ port. omega (arith, old.counted port, c.requires.now.later);
       given = given_stay old.opens new s turned nodes (given_use c.args.number (Locking parts.op parts.update parts.first (with_asked (live_of old) (λ q. true) parts.st (would_grant (live_of old) (kept_by old) (name_of parts.update))))
           (of_lock parts.op parts.update parts.first (with_asked (live_of old) (λ q. true) parts.st (would_grant (live_of old) (kept_by old) (name_of parts.update))) came) old.given);
-      few = λ name pid. omega (arith, old.few name pid, c.requires.later);
+      few = λ name pid. omega (arith, old.few name pid, c.requires.now.later);
     }
 
 pub returns-in-Ok-clause-happens : goal.returns-in-Ok-clause-happens

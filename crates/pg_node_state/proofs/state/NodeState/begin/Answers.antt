@@ -7,11 +7,13 @@ use Rattle.pg_ends.specs.Processes.{node_of}
 use Rattle.pg_opens.specs.Opens.{Shows, names_of as opens_names}
 use Rattle.pg_opens.specs.Readings.{update_of}
 use Rattle.pg_step.specs.State.{State}
-use Rattle.pg_node_state.specs.Ports.{merged_in, port_commands}
+use Rattle.pg_node_state.specs.Ports.{merged_in}
+use Rattle.pg_ports.specs.Ports.{port_commands}
 use Rattle.pg_node_state.specs.States.{live_of, kept_by}
 use Rattle.pg_node_state.proofs.Kept.{shows, assembled}
 use Rattle.pg_node_state.proofs.Steady.{peers_stay, own_stays, merged_stay, lost_stay, made_stay, given_stay}
-use Rattle.pg_node_state.proofs.Turned.{Locks as LockOf, locks_by, update_is}
+use Rattle.pg_node_state.proofs.Turned.{Locks as LockOf, locks_by}
+use Rattle.pg_sends.proofs.Updates.{update_is}
 use Rattle.std.proofs.lemmas.Bool.{eq-eqb}
 use Rattle.pg_term.specs.Same.{same_atom}
 use Rattle.pg_group.proofs.Changes.{upd_at}
@@ -41,7 +43,7 @@ begin-requires g c =
     ∙ upd_at nat_eq (kept_by old).uses c.args.number (Locking c.args.op parts.update parts.first (with_asked (live_of old) (λ q. true) parts.st (would_grant (live_of old) (kept_by old) (name_of parts.update)))) (eq-eqb c.args.number c.args.number refl) in
     record {
       locking = ap is_locking later;
-      next = omega (arith, sym asked.references, old.made, c.requires.later, c.requires.within);
+      next = omega (arith, sym asked.references, old.made, c.requires.now.later, c.requires.now.within);
     }
 
 pub invariant_of-self-in-Ok : goal.invariant_of-self-in-Ok
@@ -64,16 +66,16 @@ invariant_of-self-in-Ok g c =
       peers = peers_stay old.opens new t turned nodes old.formation old.peers;
       own = own_stays old.opens new t turned nodes (node_of old.processes) old.own;
       forgotten = lost_stay old.opens new t turned nodes refl old.formation old.forgotten;
-      within = c.requires.within;
-      made = made_stay old.opens new t turned nodes c.args.clock (omega (arith, old.made, c.requires.later));
-      counted = λ port. omega (arith, old.counted port, c.requires.later);
+      within = c.requires.now.within;
+      made = made_stay old.opens new t turned nodes c.args.clock (omega (arith, old.made, c.requires.now.later));
+      counted = λ port. omega (arith, old.counted port, c.requires.now.later);
       given = given_stay old.opens new t turned nodes
           (given_use ((kept_by old).references + 1) (Updating c.args.op parts.update c.args.number (same_atom (live_of old).own)) (of_update c.args.op parts.update c.args.number (same_atom (live_of old).own) came)
           (given_use c.args.number (Owning (name_of parts.update) ((kept_by old).references + 1)) of_none
           (given_use c.args.number (Locking c.args.op parts.update parts.first st) (of_lock c.args.op parts.update parts.first st came)
           (given_stage c.args.op (Changing ((kept_by old).references + 1)) (of_any came) old.given))));
       few = few_changed (2 ^ 32 + old.clock) (2 ^ 32 + c.args.clock) (g.T.GroupTable.contents old.table) (g.T.GroupTable.contents c.apply_own.new.table) c.update_under-update.result.now (ended_of old.ended)
-          (omega (arith, c.requires.later)) old.few c.in-Ok.ensures.table;
+          (omega (arith, c.requires.now.later)) old.few c.in-Ok.ensures.table;
     }
 
 pub returns-in-Ok-clause-happens : goal.returns-in-Ok-clause-happens

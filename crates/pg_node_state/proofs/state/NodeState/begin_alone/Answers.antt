@@ -8,11 +8,13 @@ use Rattle.pg_ends.specs.Processes.{node_of}
 use Rattle.pg_opens.specs.Opens.{Shows, names_of as opens_names, live_of as live_in}
 use Rattle.pg_opens.specs.Readings.{update_of}
 use Rattle.pg_step.specs.State.{State}
-use Rattle.pg_node_state.specs.Ports.{merged_in, port_commands}
+use Rattle.pg_node_state.specs.Ports.{merged_in}
+use Rattle.pg_ports.specs.Ports.{port_commands}
 use Rattle.pg_node_state.specs.States.{names_of, live_of, kept_by}
 use Rattle.pg_node_state.proofs.Kept.{shows, assembled}
 use Rattle.pg_node_state.proofs.Steady.{peers_stay, own_stays, merged_stay, lost_stay, made_stay, given_stay}
-use Rattle.pg_node_state.proofs.Turned.{Locks as LockOf, locks_by, update_is}
+use Rattle.pg_node_state.proofs.Turned.{Locks as LockOf, locks_by}
+use Rattle.pg_sends.proofs.Updates.{update_is}
 use Rattle.std.proofs.lemmas.Bool.{eq-eqb}
 use Rattle.pg_term.specs.Same.{same_atom}
 use Rattle.pg_group.proofs.Changes.{upd_at}
@@ -30,8 +32,8 @@ use Rattle.pg_step.specs.State.{Response}
 use Rattle.pg_message.specs.declared.message.Message.TheVariants.{Call}
 use Rattle.pg_message.specs.declared.message.Request.TheVariants as request
 use Rattle.pg_node_state.specs.States.{Gave}
-use Rattle.pg_node_state.specs.Ports.{answers_in}
-use Rattle.pg_node_state.proofs.Undone.{granted_free, not_taken}
+use Rattle.pg_ports.specs.Ports.{answers_in}
+use Rattle.pg_sends.proofs.Undone.{granted_free, not_taken}
 use Rattle.pg_step.specs.State.{formed}
 use Rattle.pg_step.specs.Nodes.{Node, Nodes}
 use Rattle.pg_step.specs.Peers.{would_grant}
@@ -63,7 +65,7 @@ begin-requires g c =
     ap (λ (f : ℕ → Use). f number) (sym asked.uses) ∙ upd_at nat_eq (kept_by old).uses number (Locking op update parts.first st) (eq-eqb number number refl) in
     record {
       locking = ap is_locking locking;
-      next = omega (arith, sym asked.references, old.made, c.requires.later, c.requires.within);
+      next = omega (arith, sym asked.references, old.made, c.requires.now.later, c.requires.now.within);
     }
 
 pub finish-requires : goal.finish-requires
@@ -189,9 +191,9 @@ invariant_of-self-in-Ok g c =
       peers = peers_stay old.opens new s3 turned nodes old.formation old.peers;
       own = own_stays old.opens new s3 turned nodes (node_of old.processes) old.own;
       forgotten = lost_stay old.opens new s3 turned nodes refl old.formation old.forgotten;
-      within = c.requires.within;
-      made = made_stay old.opens new s3 turned nodes c.args.clock (omega (arith, old.made, c.requires.later));
-      counted = λ port. subst (λ (f : ℕ → ℕ). f port ≤ c.args.clock) (sym counts) (omega (arith, old.counted port, c.requires.later));
+      within = c.requires.now.within;
+      made = made_stay old.opens new s3 turned nodes c.args.clock (omega (arith, old.made, c.requires.now.later));
+      counted = λ port. subst (λ (f : ℕ → ℕ). f port ≤ c.args.clock) (sym counts) (omega (arith, old.counted port, c.requires.now.later));
       given = given_ports (length old.ports.items) (length c.keep_reserved.new.ports.items) (port_commands old.ports.items) (port_commands c.keep_reserved.new.ports.items) len counts
           (given_stay old.opens new s3 turned nodes
           (given_use changing Spent of_none (given_use number Spent of_none
@@ -200,7 +202,7 @@ invariant_of-self-in-Ok g c =
           (given_use number (Locking op update parts.first st) (of_lock op update parts.first st came)
           (given_stage op Closed (of_any came) (given_stage op (Changing changing) (of_any came) old.given))))))));
       few = few_changed (2 ^ 32 + old.clock) (2 ^ 32 + c.args.clock) (g.T.GroupTable.contents old.table) (g.T.GroupTable.contents c.apply.new.self) c.update_under-update.result.now (ended_of old.ended)
-          (omega (arith, c.requires.later)) old.few c.in-Ok.ensures.ok;
+          (omega (arith, c.requires.now.later)) old.few c.in-Ok.ensures.ok;
     }
 
 pub returns-in-Ok-clause-happens : goal.returns-in-Ok-clause-happens

@@ -15,12 +15,15 @@ use Rattle.pg_step.specs.declared.answer.Reply.TheVariants as reply
 use Rattle.pg_step.specs.Nodes.{Node, Nodes, is_peer, greatest}
 use Rattle.pg_step.specs.State.{State}
 use Rattle.pg_step.specs.Turns.{NodeTurn}
-use Rattle.pg_node_state.specs.Ports.{merged_in, port_commands}
-use Rattle.pg_node_state.specs.States.{names_of, live_of, kept_by, sends_in}
+use Rattle.pg_node_state.specs.Ports.{merged_in}
+use Rattle.pg_ports.specs.Ports.{port_commands}
+use Rattle.pg_node_state.specs.States.{names_of, live_of, kept_by}
+use Rattle.pg_sends.specs.Sent.{sends_in}
 use Rattle.pg_node_state.proofs.Alone.{no_peers}
 use Rattle.pg_node_state.proofs.Attempted.{attempt_ends, lone_turn, lone_sends, lone_locks}
 use Rattle.pg_node_state.proofs.Counts.{few_changed}
-use Rattle.pg_node_state.proofs.First.{WaitsWith, waits_with, same_update, alone_given}
+use Rattle.pg_node_state.proofs.First.{WaitsWith, waits_with, alone_given}
+use Rattle.pg_sends.proofs.Updates.{same_update}
 use Rattle.pg_node_state.proofs.Given.{given_ports, waiting_came}
 use Rattle.pg_node_state.proofs.Kept.{shows, assembled, happens_as}
 use Rattle.pg_node_state.proofs.Steady.{peers_stay, own_stays, merged_stay, lost_stay, made_stay, given_stay}

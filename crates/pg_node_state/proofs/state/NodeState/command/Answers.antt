@@ -2,12 +2,12 @@ use Rattle.std.proofs.Common.{◌≤◌, ◌+◌, arith}
 use Rattle.pg_step.specs.Step.{CLOCK_LIMIT}
 use Rattle.pg_node_state.specs.Issued.{ports_of}
 use Rattle.pg_node_state.specs.States.{names_of, nodes_of, state_of, answers_of}
-use Rattle.pg_node_state.proofs.Coming.{on_err}
+use Rattle.pg_node_state.proofs.Coming.{stays_too}
 use Rattle.pg_node_state.proofs.Commanded.{command_comes}
 use Rattle.pg_node_state.proofs.state.NodeState.command.Goals as goal
 
-pub returns-in_err-issue-clause-err : goal.returns-in_err-issue-clause-err
-returns-in_err-issue-clause-err g c = on_err c.from_residual.result _ c.in_err-issue.ensures.err
+pub returns-in_err-issue-clause-stays : goal.returns-in_err-issue-clause-stays
+returns-in_err-issue-clause-stays g c = stays_too c.from_residual.result c.in_err-issue.ensures.stays
 
 pub returns-clause-event : goal.returns-clause-event
 returns-clause-event g c =

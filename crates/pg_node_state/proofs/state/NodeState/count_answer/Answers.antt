@@ -16,7 +16,7 @@ use Rattle.pg_step.specs.State.Status.{Asked}
 use Rattle.pg_step.specs.State.Use.{Locking}
 use Rattle.pg_step.specs.Attempts.{counted, count_answer, go_on, lock_status}
 use Rattle.pg_node_state.specs.Ports.{merged_in}
-use Rattle.pg_node_state.specs.Sendable.{AreSendable}
+use Rattle.pg_sends.specs.Sendable.{AreSendable}
 use Rattle.pg_node_state.specs.States.{names_of, live_of, kept_by, state_of, answers_of}
 use Rattle.pg_node_state.proofs.Given.{given_use, of_lock, locking_came}
 use Rattle.pg_node_state.proofs.Alone.{at_time}
@@ -100,7 +100,7 @@ take_back_answer-requires-clause-locking g c =
     let kept1 = assembled_state s1 new ((kept_by old).table) ((kept_by old).ended) ((kept_by old).locks) (merged_in (opens_names new) old.formation) ((kept_by old).processes) ((kept_by old).counts)
     turned refl refl refl (merged_stay old.opens new s1 turned nodes old.formation) refl refl in
     let left1 : live_in new ≡ live_of old = live_stays old.opens new s1 turned nodes refl in
-    ap is_locking (ap (λ (x : Timed State). x.state.uses number) c.in-Err.ensures.err ∙ is1)
+    ap is_locking (ap (λ (x : Timed State). x.state.uses number) c.in-Err.ensures.stays.state ∙ is1)
 
 pub returns-in-Ok-clause-happens : goal.returns-in-Ok-clause-happens
 returns-in-Ok-clause-happens g c =
@@ -146,9 +146,9 @@ invariant_of-self-in-Err g c =
     turned refl refl refl (merged_stay old.opens new s1 turned nodes old.formation) refl refl in
     let left1 : live_in new ≡ live_of old = live_stays old.opens new s1 turned nodes refl in
     let self2 = c.go_on.new.self in
-    let same = c.in-Err.ensures.err in
+    let same = c.in-Err.ensures.stays.state in
     let uses2 = ap (λ (x : Timed State). x.state.uses number) same ∙ is1 in
-    let names2 = c.go_on.ensures.names ∙ nodes in
+    let names2 = c.go_on.ensures.stays.names ∙ nodes in
     let p2 : Node = name_at (names_of self2) (c.args.peer + 1) in
     let final : Opens = c.take_back_answer.new.self in
     let s2 : State = (count_answer number op parts.update parts.first heard p2 Asked (kept_by self2)).state in
@@ -166,8 +166,8 @@ invariant_of-self-in-Err g c =
       few = self2.few;
     }
 
-pub returns-in-Err-clause-err : goal.returns-in-Err-clause-err
-returns-in-Err-clause-err g c =
+pub returns-in-Err-clause-stays : goal.returns-in-Err-clause-stays
+returns-in-Err-clause-stays g c =
     let old = c.args.self.now in
     let number : ℕ = c.args.number in
     let op : OpId = c.args.op in
@@ -187,9 +187,9 @@ returns-in-Err-clause-err g c =
     turned refl refl refl (merged_stay old.opens new s1 turned nodes old.formation) refl refl in
     let left1 : live_in new ≡ live_of old = live_stays old.opens new s1 turned nodes refl in
     let self2 = c.go_on.new.self in
-    let same = c.in-Err.ensures.err in
+    let same = c.in-Err.ensures.stays.state in
     let uses2 = ap (λ (x : Timed State). x.state.uses number) same ∙ is1 in
-    let names2 = c.go_on.ensures.names ∙ nodes in
+    let names2 = c.go_on.ensures.stays.names ∙ nodes in
     let p2 : Node = name_at (names_of self2) (c.args.peer + 1) in
     let final : Opens = c.take_back_answer.new.self in
     let s2 : State = (count_answer number op parts.update parts.first heard p2 Asked (kept_by self2)).state in
@@ -199,10 +199,16 @@ returns-in-Err-clause-err g c =
     let undone : s2 ≡ kept_by old = (λ i. (count_answer number op parts.update parts.first heard (p_is i) Asked (kept2 i)).state)
     ∙ (λ i. record (kept_by old) { uses = answer_back (kept_by old).uses number op parts.update parts.first parts.st p said parts.is c.requires.new i }) in
     let shown : Shows final (kept_by old) = subst (Shows final) undone back in
-    assembled self2.clock (kept_by old) final (kept_by self2).table (kept_by self2).ended (kept_by self2).locks (merged_in (opens_names final) self2.formation) (kept_by self2).processes (kept_by self2).counts
-    shown (ap (λ (x : State). x.table) kept2) (ap (λ (x : State). x.ended) kept2) (ap (λ (x : State). x.locks) kept2)
-    (merged_stay self2.opens final s2 back c.take_back_answer.ensures.nodes self2.formation ∙ ap (λ (x : State). x.merged) kept2) (ap (λ (x : State). x.processes) kept2) (ap (λ (x : State). x.counts) kept2)
-    ∙ ap (λ (n : ℕ). at_time n (kept_by old)) (ap (λ (x : Timed State). x.clock) same)
+    record {
+      state =
+          assembled self2.clock (kept_by old) final (kept_by self2).table (kept_by self2).ended (kept_by self2).locks (merged_in (opens_names final) self2.formation) (kept_by self2).processes (kept_by self2).counts
+          shown (ap (λ (x : State). x.table) kept2) (ap (λ (x : State). x.ended) kept2) (ap (λ (x : State). x.locks) kept2)
+          (merged_stay self2.opens final s2 back c.take_back_answer.ensures.nodes self2.formation ∙ ap (λ (x : State). x.merged) kept2) (ap (λ (x : State). x.processes) kept2) (ap (λ (x : State). x.counts) kept2)
+          ∙ ap (λ (n : ℕ). at_time n (kept_by old)) (ap (λ (x : Timed State). x.clock) same);
+      answers = c.in-Err.ensures.stays.answers;
+      names = c.take_back_answer.ensures.nodes ∙ names2;
+      ports = c.go_on.ensures.stays.ports;
+    }
 
 pub returns-in-Ok-clause-fits : goal.returns-in-Ok-clause-fits
 returns-in-Ok-clause-fits g c = subst (λ (names : List Node). AreSendable names c.in-Ok.done.sends.items) c.count_answer.ensures.nodes c.in-Ok.ensures.fits

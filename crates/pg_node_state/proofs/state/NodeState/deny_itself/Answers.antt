@@ -11,7 +11,8 @@ use Rattle.pg_step.specs.State.{State, Use}
 use Rattle.pg_step.specs.State.Use.{Locking, Spent}
 use Rattle.pg_step.specs.State.Stage.{Waiting}
 use Rattle.pg_node_state.specs.Ports.{merged_in}
-use Rattle.pg_node_state.specs.States.{names_of, live_of, kept_by, sends_in}
+use Rattle.pg_node_state.specs.States.{names_of, live_of, kept_by}
+use Rattle.pg_sends.specs.Sent.{sends_in}
 use Rattle.pg_node_state.proofs.Attempted.{statuses, attempt_denied, denied_turn, denied_sends, denied_locks}
 use Rattle.pg_node_state.proofs.First.{WaitsWith, waits_with, first_state, first_given, asked_under}
 use Rattle.pg_node_state.proofs.Given.{given_use, given_stage, of_none, waiting_came}

@@ -41,11 +41,11 @@ invariant_of-self-2 g c =
       peers = old.peers;
       own = old.own;
       forgotten = old.forgotten;
-      within = c.requires.within;
-      made = omega (arith, old.made, c.requires.later);
-      counted = counts_within old.ports.items c.end_at.new.ports.items c.args.port c.end_at.ensures.len done.counts old.clock c.args.clock old.counted c.requires.later;
+      within = c.requires.now.within;
+      made = omega (arith, old.made, c.requires.now.later);
+      counted = counts_within old.ports.items c.end_at.new.ports.items c.args.port c.end_at.ensures.len done.counts old.clock c.args.clock old.counted c.requires.now.later;
       given = given_later old.ports.items c.end_at.new.ports.items c.args.port c.end_at.ensures.len done.counts old.given;
-      few = few_without (2 ^ 32 + old.clock) (2 ^ 32 + c.args.clock) (contents old.table) (contents c.end_at.new.table) c.args.pid.now (omega (arith, c.requires.later)) old.few done.dropped;
+      few = few_without (2 ^ 32 + old.clock) (2 ^ 32 + c.args.clock) (contents old.table) (contents c.end_at.new.table) c.args.pid.now (omega (arith, c.requires.now.later)) old.few done.dropped;
     }
 
 pub returns-clause-happens : goal.returns-clause-happens

@@ -6,11 +6,13 @@ use Rattle.pg_ends.specs.Processes.{node_of}
 use Rattle.pg_opens.specs.Opens.{Shows, names_of as opens_names}
 use Rattle.pg_opens.specs.Readings.{update_of}
 use Rattle.pg_step.specs.State.{State}
-use Rattle.pg_node_state.specs.Ports.{merged_in, port_commands}
+use Rattle.pg_node_state.specs.Ports.{merged_in}
+use Rattle.pg_ports.specs.Ports.{port_commands}
 use Rattle.pg_node_state.specs.States.{live_of, kept_by}
 use Rattle.pg_node_state.proofs.Kept.{shows, assembled}
 use Rattle.pg_node_state.proofs.Steady.{peers_stay, own_stays, merged_stay, lost_stay, made_stay, given_stay}
-use Rattle.pg_node_state.proofs.Turned.{Updates, updates_by, update_is}
+use Rattle.pg_node_state.proofs.Turned.{Updates, updates_by}
+use Rattle.pg_sends.proofs.Updates.{update_is}
 use Rattle.pg_step.specs.Attempts.{finish}
 use Rattle.pg_step.specs.declared.answer.Reply.TheVariants as reply
 use Rattle.pg_step.specs.State.Use.{Spent}
@@ -77,12 +79,12 @@ invariant_of-self-2 g c =
       peers = peers_stay old.opens new s turned nodes old.formation old.peers;
       own = own_stays old.opens new s turned nodes (node_of old.processes) old.own;
       forgotten = lost_stay old.opens new s turned nodes refl old.formation old.forgotten;
-      within = c.requires.within;
-      made = made_stay old.opens new s turned nodes c.args.clock (omega (arith, old.made, c.requires.later));
-      counted = λ port. subst (λ (f : ℕ → ℕ). f port ≤ c.args.clock) (sym counts) (omega (arith, old.counted port, c.requires.later));
+      within = c.requires.now.within;
+      made = made_stay old.opens new s turned nodes c.args.clock (omega (arith, old.made, c.requires.now.later));
+      counted = λ port. subst (λ (f : ℕ → ℕ). f port ≤ c.args.clock) (sym counts) (omega (arith, old.counted port, c.requires.now.later));
       given = given_ports (length old.ports.items) (length c.keep_reserved.new.ports.items) (port_commands old.ports.items) (port_commands c.keep_reserved.new.ports.items) len counts
           (given_stay old.opens new s turned nodes (given_use c.args.number Spent of_none (given_use c.args.lock Spent of_none (given_stage c.args.op Closed (of_any came) old.given))));
-      few = λ name pid. omega (arith, old.few name pid, c.requires.later);
+      few = λ name pid. omega (arith, old.few name pid, c.requires.now.later);
     }
 
 pub returns-clause-happens : goal.returns-clause-happens

@@ -6,7 +6,8 @@ use Rattle.pg_ends.specs.Processes.{made_of}
 use Rattle.pg_opens.specs.Places.{name_at}
 use Rattle.pg_opens.specs.Opens as opens
 use Rattle.pg_step.specs.Nodes.{Node}
-use Rattle.pg_node_state.specs.Ports.{merged_in, port_commands}
+use Rattle.pg_node_state.specs.Ports.{merged_in}
+use Rattle.pg_ports.specs.Ports.{port_commands}
 use Rattle.pg_node_state.specs.States.{names_of, kept_by}
 use Rattle.pg_node_state.proofs.Counts.{few_without_node}
 use Rattle.pg_node_state.proofs.Merged.{merged_set, marks_length, both_set}
@@ -28,12 +29,12 @@ invariant_of-self-2 g c =
       own = old.own ∙ sym (ap (λ (ns : List Node). name_at ns 0) nodes);
       forgotten = λ q. both_set (opens.lost_of old.opens) (merged_in names old.formation) (opens.lost_of c.lose.new.self) (merged_in (opens.names_of c.lose.new.self) c.forget.new.self) name q
           (sym turned.lost_peers) merged (old.forgotten q);
-      within = c.requires.within;
-      made = subst (λ n. n ≤ 2 * c.args.clock) turned.references (omega (arith, old.made, c.requires.later));
-      counted = λ port. omega (arith, old.counted port, c.requires.later);
+      within = c.requires.now.within;
+      made = subst (λ n. n ≤ 2 * c.args.clock) turned.references (omega (arith, old.made, c.requires.now.later));
+      counted = λ port. omega (arith, old.counted port, c.requires.now.later);
       given = given_same turned.uses turned.stages (given_without name old.given);
       few = few_without_node (2 ^ 32 + old.clock) (2 ^ 32 + c.args.clock) (contents old.table) (contents c.drop_node.new.self) c.name-name.result.now
-          (omega (arith, c.requires.later)) old.few c.drop_node.ensures;
+          (omega (arith, c.requires.now.later)) old.few c.drop_node.ensures;
     }
 
 pub returns-clause-state : goal.returns-clause-state

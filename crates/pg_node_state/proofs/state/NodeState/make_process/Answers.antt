@@ -1,11 +1,13 @@
-use Rattle.std.proofs.Common.{◌∙◌, ◌+◌, ℕ, List, ap, arith}
+use Rattle.std.proofs.Common.{◌∙◌, ◌+◌, ℕ, List, refl, ap, arith}
 use Rattle.pg_ends.specs.Numbers.{pid_of}
 use Rattle.pg_ends.specs.Processes.{made_of}
 use Rattle.pg_step.specs.declared.answer.Reply.TheVariants.{Made}
-use Rattle.pg_node_state.specs.Issued.{counted_at}
-use Rattle.pg_node_state.specs.Ports.{port_commands, answers_in}
-use Rattle.pg_node_state.specs.States.{names_of, kept_by, sends_in}
-use Rattle.pg_node_state.proofs.Answered.{counts_within, given_later, given_still, counts_still, answered_on}
+use Rattle.pg_ports.specs.Ports.{counted_at}
+use Rattle.pg_ports.specs.Ports.{port_commands, answers_in}
+use Rattle.pg_node_state.specs.States.{names_of, kept_by}
+use Rattle.pg_sends.specs.Sent.{sends_in}
+use Rattle.pg_node_state.proofs.Answered.{counts_within, given_later, given_still, counts_still}
+use Rattle.pg_ports.proofs.Answered.{answered_on}
 use Rattle.pg_node_state.proofs.state.NodeState.make_process.Goals as goal
 
 pub invariant_of-self : goal.invariant_of-self
@@ -50,11 +52,11 @@ invariant_of-self-2 g c =
       peers = old.peers;
       own = c.make.ensures.kept ∙ old.own;
       forgotten = old.forgotten;
-      within = c.requires.within;
-      made = omega (arith, old.made, c.requires.later);
-      counted = counts_within old.ports.items c.give.new.ports.items c.args.port same counted old.clock c.args.clock old.counted c.requires.later;
+      within = c.requires.now.within;
+      made = omega (arith, old.made, c.requires.now.later);
+      counted = counts_within old.ports.items c.give.new.ports.items c.args.port same counted old.clock c.args.clock old.counted c.requires.now.later;
       given = given_later old.ports.items c.give.new.ports.items c.args.port same counted old.given;
-      few = λ name pid. omega (arith, old.few name pid, c.requires.later);
+      few = λ name pid. omega (arith, old.few name pid, c.requires.now.later);
     }
 
 pub returns-clause-happens : goal.returns-clause-happens
@@ -72,10 +74,12 @@ returns-clause-happens g c =
       );
     }
 
-pub returns-in_default-clause-err : goal.returns-in_default-clause-err
-returns-in_default-clause-err g c =
+pub returns-in_default-clause-stays : goal.returns-in_default-clause-stays
+returns-in_default-clause-stays g c =
     let old = c.args.self.now in
-    λ i. record { clock = old.clock; state = record (kept_by old) { counts = c.reserve_answer.ensures.counts i; processes = c.in_default.ensures.err i } }
-
-pub returns-in_default-clause-err_answers : goal.returns-in_default-clause-err_answers
-returns-in_default-clause-err_answers g c = c.reserve_answer.ensures.answers
+    record {
+      state = λ i. record { clock = old.clock; state = record (kept_by old) { counts = c.reserve_answer.ensures.counts i; processes = c.in_default.ensures.err i } };
+      answers = c.reserve_answer.ensures.answers;
+      names = refl;
+      ports = c.reserve_answer.ensures.len;
+    }

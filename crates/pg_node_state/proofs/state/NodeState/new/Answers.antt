@@ -3,8 +3,9 @@ use Rattle.pg_group.specs.Table.{Table}
 use Rattle.pg_machine.specs.Clocked.{Timed}
 use Rattle.pg_step.specs.Nodes.{Nodes}
 use Rattle.pg_step.specs.State.{State}
-use Rattle.pg_node_state.specs.Opening.{Announces}
-use Rattle.pg_node_state.specs.States.{names_of, nodes_of, sends_in}
+use Rattle.pg_sends.specs.Opening.{Announces}
+use Rattle.pg_node_state.specs.States.{names_of, nodes_of}
+use Rattle.pg_sends.specs.Sent.{sends_in}
 use Rattle.pg_node_state.proofs.Announced.{none_lost}
 use Rattle.pg_node_state.proofs.state.NodeState.new.Goals as goal
 

@@ -19,8 +19,9 @@ use Rattle.pg_step.specs.State.{State, Stage}
 use Rattle.pg_step.specs.State.Stage.{Waiting}
 use Rattle.pg_step.specs.Step.{at_clock}
 use Rattle.pg_step.specs.Turns.{NodeTurn}
-use Rattle.pg_node_state.specs.Issued.{counted_at}
-use Rattle.pg_node_state.specs.Ports.{merged_in, port_commands, answers_in, CameIn}
+use Rattle.pg_ports.specs.Ports.{counted_at}
+use Rattle.pg_node_state.specs.Ports.{merged_in, CameIn}
+use Rattle.pg_ports.specs.Ports.{port_commands, answers_in}
 use Rattle.pg_node_state.specs.States.{names_of, live_of, kept_by, state_of, answers_of, Happens}
 use Rattle.pg_node_state.proofs.Answered.{counts_within, given_later, next_came, next_closed}
 use Rattle.pg_node_state.proofs.Coming.{on_err}
@@ -29,7 +30,7 @@ use Rattle.pg_node_state.proofs.Kept.{shows, assembled, assembled_state, happens
 use Rattle.pg_node_state.proofs.Opened.{counted_state, opened_state, shows_counted, shows_undone}
 use Rattle.pg_node_state.proofs.Steady.{peers_stay, own_stays, merged_stay}
 use Rattle.pg_node_state.proofs.Steady.{lost_stay, made_stay, given_stay, live_stays}
-use Rattle.pg_node_state.proofs.Turned.{update_is}
+use Rattle.pg_sends.proofs.Updates.{update_is}
 use Rattle.pg_node_state.proofs.state.NodeState.open.Goals as goal
 
 pub invariant_of-self : goal.invariant_of-self
@@ -49,13 +50,18 @@ invariant_of-self g c =
       few = old.few;
     }
 
-pub returns-in_err-update-clause-err : goal.returns-in_err-update-clause-err
-returns-in_err-update-clause-err g c =
+pub returns-in_err-update-clause-stays : goal.returns-in_err-update-clause-stays
+returns-in_err-update-clause-stays g c =
     let old = c.args.self.now in
     let new = c.prepared.new.opens in
     let turned : Shows new (kept_by old) = c.prepared.ensures.same (kept_by old) (shows old) in
-    on_err c.from_residual.result _ (assembled old.clock (kept_by old) new (kept_by old).table (kept_by old).ended (kept_by old).locks (merged_in (opens_names new) old.formation) (kept_by old).processes (kept_by old).counts
-    turned refl refl refl (merged_stay old.opens new (kept_by old) turned c.prepared.ensures.nodes old.formation) refl refl)
+    record {
+      state = on_err c.from_residual.result _ (assembled old.clock (kept_by old) new (kept_by old).table (kept_by old).ended (kept_by old).locks (merged_in (opens_names new) old.formation) (kept_by old).processes (kept_by old).counts
+          turned refl refl refl (merged_stay old.opens new (kept_by old) turned c.prepared.ensures.nodes old.formation) refl refl);
+      answers = on_err c.from_residual.result (answers_of old ≡ answers_of old) refl;
+      names = c.prepared.ensures.nodes;
+      ports = refl;
+    }
 
 pub count-requires-clause-few : goal.count-requires-clause-few
 count-requires-clause-few g c = omega (arith, c.args.self.now.counted c.args.port, c.args.self.now.within)
@@ -87,11 +93,11 @@ invariant_of-self-2 g c =
       peers = peers_stay old.opens new s turned nodes old.formation old.peers;
       own = own_stays old.opens new s turned nodes (node_of old.processes) old.own;
       forgotten = lost_stay old.opens new s turned nodes refl old.formation old.forgotten;
-      within = c.requires.within;
-      made = made_stay old.opens new s turned nodes c.args.clock (omega (arith, old.made, c.requires.later));
-      counted = counts_within old.ports.items ports port c.count.ensures.len c.count.ensures.counts old.clock c.args.clock old.counted c.requires.later;
+      within = c.requires.now.within;
+      made = made_stay old.opens new s turned nodes c.args.clock (omega (arith, old.made, c.requires.now.later));
+      counted = counts_within old.ports.items ports port c.count.ensures.len c.count.ensures.counts old.clock c.args.clock old.counted c.requires.now.later;
       given = given_stay old.opens new s turned nodes (given_stage op (Waiting update) came (given_later old.ports.items ports port c.count.ensures.len c.count.ensures.counts old.given));
-      few = λ name pid. omega (arith, old.few name pid, c.requires.later);
+      few = λ name pid. omega (arith, old.few name pid, c.requires.now.later);
     }
 
 pub attempt-requires : goal.attempt-requires
@@ -103,9 +109,9 @@ attempt-requires g c =
     let turned : Shows c.add.new.self (opened_state port op update (kept_by old)) = c.add.ensures.turned (counted_state port (kept_by old)) (shows_counted c.prepared.new.opens port (kept_by old) (c.prepared.ensures.same (kept_by old) (shows old))) in
     record {
       later = omega arith;
-      within = c.requires.within;
-      made = omega (arith, sym turned.references, old.made, c.requires.later);
-      few = λ name pid. omega (arith, old.few name pid, c.requires.later);
+      within = c.requires.now.within;
+      made = omega (arith, sym turned.references, old.made, c.requires.now.later);
+      few = λ name pid. omega (arith, old.few name pid, c.requires.now.later);
       waits = ap stage_seen (ap (λ (stages : OpId → Stage). stages op) (sym turned.stages) ∙ upd_at same_op (kept_by old).stages op (Waiting update) (op_same op));
     }
 
@@ -153,16 +159,16 @@ take_back-requires g c =
     let update : Update = c.in_ok-update.update in
     let turned : Shows c.add.new.self (opened_state port op update (kept_by old)) = c.add.ensures.turned (counted_state port (kept_by old)) (shows_counted c.prepared.new.opens port (kept_by old) (c.prepared.ensures.same (kept_by old) (shows old))) in
     record {
-      waits = ap (λ (x : Timed State). stage_seen (x.state.stages op)) c.in-Err.ensures.err
+      waits = ap (λ (x : Timed State). stage_seen (x.state.stages op)) c.in-Err.ensures.stays.state
           ∙ (ap (λ (stages : OpId → Stage). stage_seen (stages op)) (sym turned.stages) ∙ ap stage_seen (upd_at same_op (kept_by old).stages op (Waiting update) (op_same op)));
     }
 
 pub uncount-requires : goal.uncount-requires
 uncount-requires g c =
     let old = c.args.self.now in
-    let counted : port_commands c.attempt.new.self.ports.items ≡ counted_at c.args.port (port_commands old.ports.items) = ap (λ (x : Timed State). x.state.counts) c.in-Err.ensures.err ∙ c.count.ensures.counts in
+    let counted : port_commands c.attempt.new.self.ports.items ≡ counted_at c.args.port (port_commands old.ports.items) = ap (λ (x : Timed State). x.state.counts) c.in-Err.ensures.stays.state ∙ c.count.ensures.counts in
     record {
-      place = subst (λ n. c.args.port < n) (sym (c.attempt.ensures.ports ∙ c.count.ensures.len)) c.requires.place;
+      place = subst (λ n. c.args.port < n) (sym (c.attempt.ensures.stays.ports ∙ c.count.ensures.len)) c.requires.place;
       some = omega (arith, ap (λ (f : ℕ → ℕ). f c.args.port) counted ∙ upd_at nat_eq (port_commands old.ports.items) c.args.port (port_commands old.ports.items c.args.port + 1) (eq-eqb c.args.port c.args.port refl));
     }
 
@@ -179,14 +185,14 @@ invariant_of-self-in-Err g c =
     turned refl refl refl (merged_stay old.opens new s turned (c.add.ensures.nodes ∙ c.prepared.ensures.nodes) old.formation) refl c.count.ensures.counts in
     let tried = c.attempt.new.self in
     let final : Opens = c.take_back.new.self in
-    let kept : kept_by tried ≡ s = ap (λ (x : Timed State). x.state) c.in-Err.ensures.err ∙ whole in
+    let kept : kept_by tried ≡ s = ap (λ (x : Timed State). x.state) c.in-Err.ensures.stays.state ∙ whole in
     let back : Shows final (command_taken_back op (kept_by tried)).state = c.take_back.ensures.turned (kept_by tried) (shows tried) in
     let closed = ap (λ (o : OpId). (kept_by old).stages o) c.next_op-op.ensures ∙ next_closed (length old.ports.items) port (port_commands old.ports.items) old.given in
     let undone : Shows final (kept_by old) = shows_undone final port op update (kept_by old) closed (subst (λ (t : State). Shows final (command_taken_back op t).state) kept back) in
     let nodes = c.take_back.ensures.nodes in
-    let all_nodes : opens_names final ≡ names_of old = nodes ∙ (c.attempt.ensures.names ∙ (c.add.ensures.nodes ∙ c.prepared.ensures.nodes)) in
-    let counts : port_commands c.uncount.new.ports.items ≡ port_commands old.ports.items = c.uncount.ensures.counts (port_commands old.ports.items) (ap (λ (x : Timed State). x.state.counts) c.in-Err.ensures.err ∙ c.count.ensures.counts) in
-    let len : length c.uncount.new.ports.items ≡ length old.ports.items = c.uncount.ensures.len ∙ (c.attempt.ensures.ports ∙ c.count.ensures.len) in
+    let all_nodes : opens_names final ≡ names_of old = nodes ∙ (c.attempt.ensures.stays.names ∙ (c.add.ensures.nodes ∙ c.prepared.ensures.nodes)) in
+    let counts : port_commands c.uncount.new.ports.items ≡ port_commands old.ports.items = c.uncount.ensures.counts (port_commands old.ports.items) (ap (λ (x : Timed State). x.state.counts) c.in-Err.ensures.stays.state ∙ c.count.ensures.counts) in
+    let len : length c.uncount.new.ports.items ≡ length old.ports.items = c.uncount.ensures.len ∙ (c.attempt.ensures.stays.ports ∙ c.count.ensures.len) in
     record {
       peers = peers_stay tried.opens final (command_taken_back op (kept_by tried)).state back nodes tried.formation tried.peers;
       own = own_stays tried.opens final (command_taken_back op (kept_by tried)).state back nodes (node_of tried.processes) tried.own;
@@ -198,8 +204,8 @@ invariant_of-self-in-Err g c =
       few = λ name pid. subst (λ (t : Table). count_in (t name) pid ≤ 2 ^ 32 + old.clock) (sym (ap (λ (x : State). x.table) kept)) (old.few name pid);
     }
 
-pub returns-in-Err-clause-err : goal.returns-in-Err-clause-err
-returns-in-Err-clause-err g c =
+pub returns-in-Err-clause-stays : goal.returns-in-Err-clause-stays
+returns-in-Err-clause-stays g c =
     let old = c.args.self.now in
     let port : ℕ = c.args.port in
     let op : OpId = c.next_op-op.result in
@@ -211,11 +217,17 @@ returns-in-Err-clause-err g c =
     turned refl refl refl (merged_stay old.opens new s turned (c.add.ensures.nodes ∙ c.prepared.ensures.nodes) old.formation) refl c.count.ensures.counts in
     let tried = c.attempt.new.self in
     let final : Opens = c.take_back.new.self in
-    let kept : kept_by tried ≡ s = ap (λ (x : Timed State). x.state) c.in-Err.ensures.err ∙ whole in
+    let kept : kept_by tried ≡ s = ap (λ (x : Timed State). x.state) c.in-Err.ensures.stays.state ∙ whole in
     let back : Shows final (command_taken_back op (kept_by tried)).state = c.take_back.ensures.turned (kept_by tried) (shows tried) in
     let closed = ap (λ (o : OpId). (kept_by old).stages o) c.next_op-op.ensures ∙ next_closed (length old.ports.items) port (port_commands old.ports.items) old.given in
     let undone : Shows final (kept_by old) = shows_undone final port op update (kept_by old) closed (subst (λ (t : State). Shows final (command_taken_back op t).state) kept back) in
-    let counts : port_commands c.uncount.new.ports.items ≡ port_commands old.ports.items = c.uncount.ensures.counts (port_commands old.ports.items) (ap (λ (x : Timed State). x.state.counts) c.in-Err.ensures.err ∙ c.count.ensures.counts) in
-    assembled old.clock (kept_by old) final (kept_by tried).table (kept_by tried).ended (kept_by tried).locks (merged_in (opens_names final) tried.formation) (kept_by tried).processes (port_commands c.uncount.new.ports.items)
-    undone (ap (λ (x : State). x.table) kept) (ap (λ (x : State). x.ended) kept) (ap (λ (x : State). x.locks) kept)
-    (merged_stay tried.opens final (command_taken_back op (kept_by tried)).state back c.take_back.ensures.nodes tried.formation ∙ ap (λ (x : State). x.merged) kept) (ap (λ (x : State). x.processes) kept) counts
+    let counts : port_commands c.uncount.new.ports.items ≡ port_commands old.ports.items = c.uncount.ensures.counts (port_commands old.ports.items) (ap (λ (x : Timed State). x.state.counts) c.in-Err.ensures.stays.state ∙ c.count.ensures.counts) in
+    record {
+      state =
+          assembled old.clock (kept_by old) final (kept_by tried).table (kept_by tried).ended (kept_by tried).locks (merged_in (opens_names final) tried.formation) (kept_by tried).processes (port_commands c.uncount.new.ports.items)
+          undone (ap (λ (x : State). x.table) kept) (ap (λ (x : State). x.ended) kept) (ap (λ (x : State). x.locks) kept)
+          (merged_stay tried.opens final (command_taken_back op (kept_by tried)).state back c.take_back.ensures.nodes tried.formation ∙ ap (λ (x : State). x.merged) kept) (ap (λ (x : State). x.processes) kept) counts;
+      answers = c.uncount.ensures.answers ∙ (c.in-Err.ensures.stays.answers ∙ c.count.ensures.answers);
+      names = c.take_back.ensures.nodes ∙ (c.attempt.ensures.stays.names ∙ (c.add.ensures.nodes ∙ c.prepared.ensures.nodes));
+      ports = c.uncount.ensures.len ∙ (c.attempt.ensures.stays.ports ∙ c.count.ensures.len);
+    }

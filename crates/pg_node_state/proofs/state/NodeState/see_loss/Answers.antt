@@ -4,11 +4,11 @@ use Rattle.pg_opens.specs.Opens.{lost_of}
 use Rattle.pg_step.specs.Nodes.{Node}
 use Rattle.pg_step.specs.Step.{CLOCK_LIMIT}
 use Rattle.pg_node_state.specs.States.{names_of, state_of, answers_of}
-use Rattle.pg_node_state.proofs.Coming.{on_err, loss_comes}
+use Rattle.pg_node_state.proofs.Coming.{stays_too, loss_comes}
 use Rattle.pg_node_state.proofs.state.NodeState.see_loss.Goals as goal
 
-pub returns-in_err-forget_peer-clause-err : goal.returns-in_err-forget_peer-clause-err
-returns-in_err-forget_peer-clause-err g c = on_err c.from_residual.result _ c.in_err-forget_peer.ensures.err
+pub returns-in_err-forget_peer-clause-stays : goal.returns-in_err-forget_peer-clause-stays
+returns-in_err-forget_peer-clause-stays g c = stays_too c.from_residual.result c.in_err-forget_peer.ensures.stays
 
 pub returns-clause-event : goal.returns-clause-event
 returns-clause-event g c =

@@ -9,7 +9,7 @@ invariant_of-self-clause-few g c =
     let old = c.args.self.now in
     let contents = g.T.GroupTable.contents in
     few_changed (2 ^ 32 + old.clock) (2 ^ 32 + c.args.clock) (contents old.table) (contents c.apply.new.self) c.args.update.now (ended_of old.ended)
-    (omega (arith, c.requires.later)) old.few c.in-Ok.ensures.ok
+    (omega (arith, c.requires.now.later)) old.few c.in-Ok.ensures.ok
 
 pub returns-in-Ok-clause-told : goal.returns-in-Ok-clause-told
 returns-in-Ok-clause-told g c = record {

@@ -8,12 +8,14 @@ use Rattle.pg_step.specs.Attempts.{give_up}
 use Rattle.pg_step.specs.State.{State}
 use Rattle.pg_step.specs.State.Use.{Spent}
 use Rattle.pg_step.specs.State.Stage.{Waiting}
-use Rattle.pg_node_state.specs.Ports.{merged_in, port_commands}
+use Rattle.pg_node_state.specs.Ports.{merged_in}
+use Rattle.pg_ports.specs.Ports.{port_commands}
 use Rattle.pg_node_state.specs.States.{live_of, kept_by}
 use Rattle.pg_node_state.proofs.Given.{given_use, given_stage, of_none, locking_came, gathered_named}
 use Rattle.pg_node_state.proofs.Kept.{shows, assembled}
 use Rattle.pg_node_state.proofs.Steady.{peers_stay, own_stays, merged_stay, lost_stay, made_stay, given_stay}
-use Rattle.pg_node_state.proofs.Turned.{LockParts, parts_by, update_is}
+use Rattle.pg_node_state.proofs.Turned.{LockParts, parts_by}
+use Rattle.pg_sends.proofs.Updates.{update_is}
 use Rattle.pg_node_state.proofs.state.NodeState.stop_asking.Goals as goal
 
 pub invariant_of-self-2 : goal.invariant_of-self-2
@@ -29,11 +31,11 @@ invariant_of-self-2 g c =
       peers = peers_stay old.opens new s turned nodes old.formation old.peers;
       own = own_stays old.opens new s turned nodes (node_of old.processes) old.own;
       forgotten = lost_stay old.opens new s turned nodes refl old.formation old.forgotten;
-      within = c.requires.within;
-      made = made_stay old.opens new s turned nodes c.args.clock (omega (arith, old.made, c.requires.later));
-      counted = λ port. omega (arith, old.counted port, c.requires.later);
+      within = c.requires.now.within;
+      made = made_stay old.opens new s turned nodes c.args.clock (omega (arith, old.made, c.requires.now.later));
+      counted = λ port. omega (arith, old.counted port, c.requires.now.later);
       given = given_stay old.opens new s turned nodes (given_use c.args.number Spent of_none (given_stage parts.op (Waiting parts.update) came old.given));
-      few = λ name pid. omega (arith, old.few name pid, c.requires.later);
+      few = λ name pid. omega (arith, old.few name pid, c.requires.now.later);
     }
 
 pub returns-clause-happens : goal.returns-clause-happens

@@ -9,22 +9,23 @@ use Rattle.pg_step.specs.Attempts.{reply_taken}
 use Rattle.pg_step.specs.Peers.{lock_request, update_request, lock_freed, process_end}
 use Rattle.pg_step.specs.Step.{CLOCK_LIMIT, taken}
 use Rattle.pg_node_state.specs.States.{names_of, nodes_of, live_of, kept_by}
-use Rattle.pg_node_state.specs.States.{state_of, answers_of, stamped_of, takes_none}
-use Rattle.pg_node_state.proofs.Coming.{on_err, comes, comes_at, groups_come}
+use Rattle.pg_node_state.specs.States.{state_of, answers_of, takes_none}
+use Rattle.pg_sends.specs.Sent.{stamped_of}
+use Rattle.pg_node_state.proofs.Coming.{stays_too, comes, comes_at, groups_come}
 use Rattle.pg_node_state.proofs.state.NodeState.take.Goals as goal
 
 not_true : (b : Bool) → not b ≡ true → b ≡ false
 not_true true e = absurd (cc)
 not_true false e = refl
 
-pub returns-in_err-serve_lock-in-SetLock-clause-err : goal.returns-in_err-serve_lock-in-SetLock-clause-err
-returns-in_err-serve_lock-in-SetLock-clause-err g c = on_err c.from_residual.result _ c.in_err-serve_lock-in-SetLock.ensures.err
+pub returns-in_err-serve_lock-in-SetLock-clause-stays : goal.returns-in_err-serve_lock-in-SetLock-clause-stays
+returns-in_err-serve_lock-in-SetLock-clause-stays g c = stays_too c.from_residual.result c.in_err-serve_lock-in-SetLock.ensures.stays
 
-pub returns-in_err-serve_update-in-Change-clause-err : goal.returns-in_err-serve_update-in-Change-clause-err
-returns-in_err-serve_update-in-Change-clause-err g c = on_err c.from_residual-in_err-serve_update-in-Change.result _ c.in_err-serve_update-in-Change.ensures.err
+pub returns-in_err-serve_update-in-Change-clause-stays : goal.returns-in_err-serve_update-in-Change-clause-stays
+returns-in_err-serve_update-in-Change-clause-stays g c = stays_too c.from_residual-in_err-serve_update-in-Change.result c.in_err-serve_update-in-Change.ensures.stays
 
-pub returns-in_err-take_end-in-Down-clause-err : goal.returns-in_err-take_end-in-Down-clause-err
-returns-in_err-take_end-in-Down-clause-err g c = on_err c.from_residual-in_err-take_end-in-Down.result _ c.in_err-take_end-in-Down.ensures.err
+pub returns-in_err-take_end-in-Down-clause-stays : goal.returns-in_err-take_end-in-Down-clause-stays
+returns-in_err-take_end-in-Down-clause-stays g c = stays_too c.from_residual-in_err-take_end-in-Down.result c.in_err-take_end-in-Down.ensures.stays
 
 pub returns-in_ok-serve_lock-in-SetLock-clause-event : goal.returns-in_ok-serve_lock-in-SetLock-clause-event
 returns-in_ok-serve_lock-in-SetLock-clause-event g c =

@@ -7,4 +7,4 @@ invariant_of-self-2-clause-few g c =
     let old = c.args.self.now in
     let contents = g.T.GroupTable.contents in
     few_without (2 ^ 32 + old.clock) (2 ^ 32 + c.args.clock) (contents old.table) (contents c.take_end.new.table) c.args.pid.now
-    (omega (arith, c.requires.later)) old.few c.in_ok-take_end.ensures.dropped
+    (omega (arith, c.requires.now.later)) old.few c.in_ok-take_end.ensures.dropped

@@ -36,12 +36,12 @@ invariant_of-self-2 g c =
       peers = ap (λ (ms : List Bool). length ms + 1) marks ∙ marks_length old.formation c.args.peer (length (names_of old)) old.peers;
       own = old.own;
       forgotten = λ q lost. merged_stays (merged_in (names_of old) old.formation) (merged_in (names_of old) c.take.new.self) (name_at (names_of old) (c.args.peer + 1)) q merged (old.forgotten q lost);
-      within = c.requires.within;
-      made = omega (arith, old.made, c.requires.later);
-      counted = λ port. omega (arith, old.counted port, c.requires.later);
+      within = c.requires.now.within;
+      made = omega (arith, old.made, c.requires.now.later);
+      counted = λ port. omega (arith, old.counted port, c.requires.now.later);
       given = old.given;
       few = few_merged (2 ^ 32 + old.clock) (2 ^ 32 + c.args.clock) (2 ^ 32) (contents old.table) (contents c.take.new.table) c.args.groups.now (ended_of old.ended)
-          (omega (arith, c.requires.later)) (omega arith) c.requires.few old.few c.in-Ok.ensures.merged;
+          (omega (arith, c.requires.now.later)) (omega arith) c.requires.few old.few c.in-Ok.ensures.merged;
     }
 
 pub returns-clause-state : goal.returns-clause-state

@@ -24,8 +24,12 @@ returns-clause-light g c = λ light.
     c.take_looked_for.ensures.light
     ((λ i. is_counted (what_of true (gathered (use_of (c.look_for.ensures.live i) (numbered (c.look_for.ensures.live i).own c.args.number) (c.look_for.ensures.state i).state) (name_at (c.look_for.ensures.names i) (c.args.peer + 1))))) ∙ light)
 
-pub returns-clause-err : goal.returns-clause-err
-returns-clause-err g c = subst (λ (s : Timed State). OnErr c.take_looked_for.result (state_of c.take_looked_for.new.self ≡ s)) c.look_for.ensures.state c.take_looked_for.ensures.err
-
-pub returns-clause-err_answers : goal.returns-clause-err_answers
-returns-clause-err_answers g c = subst (λ (answers : ℕ → List Answer). OnErr c.take_looked_for.result (answers_of c.take_looked_for.new.self ≡ answers)) c.look_for.ensures.answers c.take_looked_for.ensures.err_answers
+pub returns-clause-stays : goal.returns-clause-stays
+returns-clause-stays g c =
+    let h = c.take_looked_for.ensures.stays in
+    record {
+      state = subst (λ (s : Timed State). OnErr c.take_looked_for.result (state_of c.take_looked_for.new.self ≡ s)) c.look_for.ensures.state h.state;
+      answers = subst (λ (answers : ℕ → List Answer). OnErr c.take_looked_for.result (answers_of c.take_looked_for.new.self ≡ answers)) c.look_for.ensures.answers h.answers;
+      names = h.names ∙ c.look_for.ensures.names;
+      ports = h.ports ∙ c.look_for.ensures.ports;
+    }

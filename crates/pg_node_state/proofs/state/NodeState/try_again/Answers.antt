@@ -12,10 +12,10 @@ pub attempt-requires : goal.attempt-requires
 attempt-requires g c =
     let old = c.args.self.now in
     record {
-      later = omega (arith, c.requires.later);
-      within = c.requires.within;
-      made = omega (arith, old.made, c.requires.later);
-      few = λ name pid. omega (arith, old.few name pid, c.requires.later);
+      later = omega (arith, c.requires.now.later);
+      within = c.requires.now.within;
+      made = omega (arith, old.made, c.requires.now.later);
+      few = λ name pid. omega (arith, old.few name pid, c.requires.now.later);
       waits = sym c.stage.ensures ∙ c.in-Waiting.is;
     }
 

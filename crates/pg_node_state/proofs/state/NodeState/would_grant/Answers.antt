@@ -5,7 +5,7 @@ use Rattle.pg_opens.specs.Opens.{lost_of}
 use Rattle.pg_opens.specs.Readings.{update_of}
 use Rattle.pg_node_state.specs.States.{names_of}
 use Rattle.pg_node_state.proofs.Formed.{formed_is}
-use Rattle.pg_node_state.proofs.Turned.{update_is}
+use Rattle.pg_sends.proofs.Updates.{update_is}
 use Rattle.pg_node_state.proofs.state.NodeState.would_grant.Goals as goal
 
 pub returns : goal.returns

@@ -3,7 +3,7 @@ use Rattle.pg_group.specs.Value.{name_of}
 use Rattle.pg_lock.specs.Locks.{locks_of, grants}
 use Rattle.pg_opens.specs.Opens.{lost_of}
 use Rattle.pg_node_state.specs.States.{names_of}
-use Rattle.pg_node_state.proofs.First.{same_update}
+use Rattle.pg_sends.proofs.Updates.{same_update}
 use Rattle.pg_node_state.proofs.Formed.{formed_is}
 use Rattle.pg_node_state.proofs.state.NodeState.would_grant_to.Goals as goal
 

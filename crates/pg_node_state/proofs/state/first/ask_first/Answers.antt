@@ -4,10 +4,10 @@ use Rattle.pg_term.specs.Same.{same_atom}
 use Rattle.pg_group.specs.Value.{name_of}
 use Rattle.pg_group.proofs.Changes.{upd_at}
 use Rattle.std.proofs.lemmas.Bool.{eq-eqb}
+use Rattle.pg_marks.specs.declared.mark.Asked.TheVariants.{One}
 use Rattle.pg_opens.specs.Opens.{Shows, names_of, live_of, uses_of, stages_of, references_of}
 use Rattle.pg_opens.specs.Places.{name_at}
-use Rattle.pg_opens.specs.Marks.{whom}
-use Rattle.pg_opens.specs.declared.mark.Asked.TheVariants.{One}
+use Rattle.pg_opens.specs.Named.{whom}
 use Rattle.pg_opens.specs.Readings.{is_locking}
 use Rattle.pg_step.specs.Attempts.{ask, new_attempt}
 use Rattle.pg_step.specs.Nodes.{Node, Nodes, greatest}

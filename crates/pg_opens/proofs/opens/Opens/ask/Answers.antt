@@ -1,6 +1,6 @@
 use Rattle.std.proofs.Common.{ap, ◌∙◌, false, get_or}
-use Rattle.pg_opens.specs.declared.mark.Mark.TheVariants.{Unasked}
-use Rattle.pg_opens.specs.Marks.{mark_at}
+use Rattle.pg_marks.specs.declared.mark.Mark.TheVariants.{Unasked}
+use Rattle.pg_marks.specs.Marks.{mark_at}
 use Rattle.pg_opens.proofs.Found.{stands, no_locking}
 use Rattle.pg_opens.proofs.Followed.{ask_follows, same_known}
 use Rattle.pg_opens.proofs.opens.Opens.ask.Goals as goal

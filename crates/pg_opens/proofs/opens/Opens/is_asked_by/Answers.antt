@@ -1,6 +1,6 @@
 use Rattle.std.proofs.Common.{false, get_or, ap, ◌∙◌}
-use Rattle.pg_opens.specs.declared.mark.Mark.TheVariants.{Unasked}
-use Rattle.pg_opens.specs.Marks.{asked_in}
+use Rattle.pg_marks.specs.declared.mark.Mark.TheVariants.{Unasked}
+use Rattle.pg_marks.specs.Marks.{asked_in}
 use Rattle.pg_opens.proofs.Requested.{asked_counts, asked_own, asked_peer}
 use Rattle.pg_opens.proofs.Found.{stands, no_locking}
 use Rattle.pg_opens.proofs.opens.Opens.is_asked_by.Goals as goal

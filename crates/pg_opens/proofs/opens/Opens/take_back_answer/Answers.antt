@@ -1,4 +1,4 @@
-use Rattle.pg_opens.specs.declared.mark.Mark.TheVariants.{Asked}
+use Rattle.pg_marks.specs.declared.mark.Mark.TheVariants.{Asked}
 use Rattle.pg_opens.proofs.Found.{stands, no_locking}
 use Rattle.pg_opens.proofs.Followed.{lock_mark_follows, same_known}
 use Rattle.pg_opens.proofs.opens.Opens.take_back_answer.Goals as goal

@@ -13,12 +13,12 @@ returns-then-is_err-clause-acted g c =
 pub returns-in-Ok-clause-acted : goal.returns-in-Ok-clause-acted
 returns-in-Ok-clause-acted g c =
     loss_acts g.L.Link.accepts g.I.Inlet.gives g.met.L.Link.rests g.met.I.Inlet.rests c.args.self.now c.keep.new.self c.see_loss.new.self c.args.peer c.args.last _
-    (omega (arith, c.requires.place, c.args.self.now.linked)) c.in-Ok.ensures.event c.in-Ok.ensures.closed c.see_loss.ensures.names c.see_loss.ensures.ports c.keep.ensures.node
+    (omega (arith, c.requires.place, c.args.self.now.linked)) c.in-Ok.ensures.event c.in-Ok.ensures.closed c.see_loss.ensures.stays.names c.see_loss.ensures.stays.ports c.keep.ensures.node
     (log_after _ _ _ _ c.keep.ensures.log c.reserve.ensures.items) c.keep.ensures.peers
 
 pub returns-in-Err-clause-acted : goal.returns-in-Err-clause-acted
 returns-in-Err-clause-acted g c =
-    nothing_done g.L.Link.accepts g.I.Inlet.gives g.met.L.Link.rests g.met.I.Inlet.rests c.args.self.now _ c.see_loss.ensures.names c.see_loss.ensures.ports c.in-Err.ensures.err c.in-Err.ensures.err_answers c.reserve.ensures.items refl c.in-Err.ensures.kept
+    nothing_done g.L.Link.accepts g.I.Inlet.gives g.met.L.Link.rests g.met.I.Inlet.rests c.args.self.now _ c.see_loss.ensures.stays.names c.see_loss.ensures.stays.ports c.in-Err.ensures.stays.state c.in-Err.ensures.stays.answers c.reserve.ensures.items refl c.in-Err.ensures.kept
 
 pub returns-in-Err-clause-fault : goal.returns-in-Err-clause-fault
 returns-in-Err-clause-fault g c =

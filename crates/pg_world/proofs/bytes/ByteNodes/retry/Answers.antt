@@ -20,7 +20,7 @@ returns-in-Ok g c = record {
       let at = c.index_mut-state.ensures.value in
       let l = port_place nodes i c.args.op.port c.requires.port in
       own_shown config lost (crossing_of c.args.self.now) _ (account_of c.args.self.now.histories) _ w shows (λ packets others bytes are. c.sending_adds_packets.ensures written_of packets others bytes are)
-      i stays (Retry c.args.op) (node_of node) (node_of node2) c.in-Ok.done (seen_there nodes rings i node l at) (nodes_set nodes rings i node2) c.in-Ok.ensures.names c.in-Ok.ensures.ports c.in-Ok.ensures.fits c.in-Ok.ensures.small
+      i stays (Retry c.args.op) (node_of node) (node_of node2) c.in-Ok.done (seen_there nodes rings i node l at) (nodes_set nodes rings i node2) c.in-Ok.ensures.stays.names c.in-Ok.ensures.stays.ports c.in-Ok.ensures.fits c.in-Ok.ensures.small
       (own_acts nodes rings i node node2 c.in-Ok.done.sends.items l at (Retry c.args.op) c.in-Ok.ensures.sent)
       (grew_own (account_of c.args.self.now.histories) _ i c.in-Ok.done.began c.in-Ok.done.began refl c.begin.ensures.history c.begin.ensures.applied c.begin.ensures.marked) c.of-effect.result c.of-effect.ensures c.in-Ok.ensures.event;
   changes = alone c.args.self.now.nodes.items c.args.self.now.rings.items c.args.node c.retry.new.self;
@@ -39,7 +39,7 @@ returns-in-Err g c = record {
       let node2 = c.retry.new.self in
       let at = c.index_mut-state.ensures.value in
       let l = port_place nodes i c.args.op.port c.requires.port in
-      let seen = seen_kept node node2 c.in-Err.ensures.names c.in-Err.ensures.ports c.in-Err.ensures.err c.in-Err.ensures.err_answers in
+      let seen = seen_kept node node2 c.in-Err.ensures.stays.names c.in-Err.ensures.stays.ports c.in-Err.ensures.stays.state c.in-Err.ensures.stays.answers in
       let same = node_same nodes rings i node node2 l at seen c.in-Err.ensures.kept in
       own_err config lost (crossing_of c.args.self.now) w shows.traffic _ i (Retry c.args.op) (node_of node) (state_of (held_by node2)) (answers_of (held_by node2)) (seen_there nodes rings i node l at) c.in-Err.fault c.in-Err.ensures.event
       (subst (λ (crossing : Crossing). ShowsBytesPast config lost crossing (account_of c.args.self.now.histories) w) (sym same) shows);
@@ -49,7 +49,7 @@ returns-in-Err g c = record {
       let node = c.index_mut-state.result.now in
       let node2 = c.retry.new.self in
       let l = port_place nodes i c.args.op.port c.requires.port in
-      let seen = seen_kept node node2 c.in-Err.ensures.names c.in-Err.ensures.ports c.in-Err.ensures.err c.in-Err.ensures.err_answers in
+      let seen = seen_kept node node2 c.in-Err.ensures.stays.names c.in-Err.ensures.stays.ports c.in-Err.ensures.stays.state c.in-Err.ensures.stays.answers in
       (nodes_kept nodes i node node2 l c.index_mut-state.ensures.value seen, alone nodes c.args.self.now.rings.items i node2);
   formed = refl;
   lost = refl;

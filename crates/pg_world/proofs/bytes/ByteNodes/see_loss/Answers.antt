@@ -40,7 +40,7 @@ returns-in-Err-clause-changes g c =
     let over = c.index_mut-over.result.now in
     let after = c.see_loss.new.self in
     let l = first_there nodes rings c.args.node c.args.peer c.requires.pair c.args.self.now.rows in
-    node_same nodes rings c.args.node over after l c.index_mut-over.ensures.value (seen_kept over after c.in-Err.ensures.names c.in-Err.ensures.ports c.in-Err.ensures.err c.in-Err.ensures.err_answers) c.in-Err.ensures.kept
+    node_same nodes rings c.args.node over after l c.index_mut-over.ensures.value (seen_kept over after c.in-Err.ensures.stays.names c.in-Err.ensures.stays.ports c.in-Err.ensures.stays.state c.in-Err.ensures.stays.answers) c.in-Err.ensures.kept
 
 pub returns-in-Err-clause-barred : goal.returns-in-Err-clause-barred
 returns-in-Err-clause-barred g c =
@@ -80,7 +80,7 @@ returns-in-Ok-clause-losing g c = λ config u shows.
     let gone = sym c.has.ensures ∙ c.if-not-has.false in
     sight_made config crossing _ account account u i p lost lost shows c.requires.pair c.requires.lives (λ first others bytes. c.front_is_first_of_cut.ensures.whole written_of first others bytes)
     gone (sym c.has_bytes.ensures ∙ c.if-has_bytes.false) (node_of over) (seen_there nodes rings i over l at) c.clock-last.result clock refl
-    (node_of after) c.in-Ok.done (nodes_set nodes rings i after) c.in-Ok.ensures.names c.in-Ok.ensures.ports refl
+    (node_of after) c.in-Ok.done (nodes_set nodes rings i after) c.in-Ok.ensures.stays.names c.in-Ok.ensures.stays.ports refl
     (closed_bytes nodes rings i p over after l at links lost gone (pair_is _ i p c.requires.pair).2 (length config))
     (λ x y. part_kept nodes rings rings i (peer_place i p) over after closed l at links (λ (k : Link). k.damaged) (λ k. refl) x (peer_place x y))
     (step_there c.peer_place.result (peer_place i p) c.peer_place.ensures over after c.clock-last.result (Ok c.in-Ok.done) (links_here nodes rings i over l at) c.in-Ok.ensures.event)
@@ -104,7 +104,7 @@ returns-in-Err-clause-losing g c = λ config u shows.
     sight_held config crossing _ account account u i p lost lost shows c.requires.pair c.requires.lives (λ first others bytes. c.front_is_first_of_cut.ensures.whole written_of first others bytes)
     (sym c.has.ensures ∙ c.if-not-has.false) (sym c.has_bytes.ensures ∙ c.if-has_bytes.false) (node_of over) (seen_there nodes rings i over l at) c.clock-last.result clock refl
     c.in-Err.fault (state_of (held_by after)) (answers_of (held_by after))
-    (node_same nodes rings i over after l at (seen_kept over after c.in-Err.ensures.names c.in-Err.ensures.ports c.in-Err.ensures.err c.in-Err.ensures.err_answers) c.in-Err.ensures.kept) refl
+    (node_same nodes rings i over after l at (seen_kept over after c.in-Err.ensures.stays.names c.in-Err.ensures.stays.ports c.in-Err.ensures.stays.state c.in-Err.ensures.stays.answers) c.in-Err.ensures.kept) refl
     (step_there c.peer_place.result (peer_place i p) c.peer_place.ensures over after c.clock-last.result (Err c.in-Err.fault) (links_here nodes rings i over l at) c.in-Err.ensures.event)
 
 pub returns-then-has_bytes-clause-undrained : goal.returns-then-has_bytes-clause-undrained

@@ -5,7 +5,8 @@ use Rattle.pg_step.specs.Step.{step_take}
 use Rattle.pg_node.specs.Bytes.{next_packet, passed}
 use Rattle.pg_node.specs.Links.{Link, at_link}
 use Rattle.pg_node.specs.Nodes.{held_by, links_of, sent_out, ComesInRoom}
-use Rattle.pg_node_state.specs.States.{names_of, nodes_of, state_of, answers_of, stamped_of}
+use Rattle.pg_node_state.specs.States.{names_of, nodes_of, state_of, answers_of}
+use Rattle.pg_sends.specs.Sent.{stamped_of}
 use Rattle.pg_world.specs.Crossings.{Crossing, crossing_in, crossing_of, node_of, written_of, ShowsBytesPast}
 use Rattle.pg_account.specs.Histories.{account_of, update_asked_by}
 use Rattle.pg_frame_world.specs.Views.{peer_place}
@@ -49,7 +50,7 @@ returns-in-Ok-take_read g c = record {
       (reads_first (λ packets bytes body. c.front_is_first_packet.ensures.first written_of packets bytes body) (λ packets bytes body. c.front_is_first_of_cut.ensures.first written_of packets bytes body)) packet c.requires.front in
       taken_shown config lost crossing _ (account_of c.args.self.now.histories) _ w shows (λ packets others bytes are. c.sending_adds_packets.ensures written_of packets others bytes are)
       i p stays c.requires.pair packet first (node_of node) (seen_there nodes rings i node l at) (node_of node2) done (nodes_set nodes rings i node2)
-      c.in-Ok-take_read.ensures.names c.in-Ok-take_read.ensures.ports c.in-Ok-take_read.ensures.fits c.in-Ok-take_read.ensures.small
+      c.in-Ok-take_read.ensures.stays.names c.in-Ok-take_read.ensures.stays.ports c.in-Ok-take_read.ensures.fits c.in-Ok-take_read.ensures.small
       (take_acts nodes rings i node node2 done.sends.items l at p apart
       (subst (λ k. (j : ℕ) → links_of node2 j ≡ at_link k passed (sent_out done.sends.items (links_of node)) j) place c.in-Ok-take_read.ensures.sent))
       (grew_taken (account_of c.args.self.now.histories) _ i (update_asked_by packet.message) done.began done.began (account_of c.make_room.new.self) (account_of c.serve.new.self) refl
@@ -79,7 +80,7 @@ returns-in-Err-take_read g c = record {
       let fault = c.in-Err-take_read.fault in
       let first = first_read config lost crossing w i p shows.traffic c.requires.pair stays
       (reads_first (λ packets bytes body. c.front_is_first_packet.ensures.first written_of packets bytes body) (λ packets bytes body. c.front_is_first_of_cut.ensures.first written_of packets bytes body)) packet c.requires.front in
-      let seen = seen_kept node node2 c.in-Err-take_read.ensures.names c.in-Err-take_read.ensures.ports c.in-Err-take_read.ensures.err c.in-Err-take_read.ensures.err_answers in
+      let seen = seen_kept node node2 c.in-Err-take_read.ensures.stays.names c.in-Err-take_read.ensures.stays.ports c.in-Err-take_read.ensures.stays.state c.in-Err-take_read.ensures.stays.answers in
       let account : account_of c.make_room.new.self ≡ account_of c.args.self.now.histories = c.make_room.ensures.account in
       take_err config lost crossing w shows.traffic _ i p c.requires.pair packet first welcome (node_of node) (seen_there nodes rings i node l at) (state_of (held_by node2)) (answers_of (held_by node2)) fault
       (subst (λ k. ComesInRoom (names_of (held_by node)) (step_take (nodes_of (held_by node)) (name_at (names_of (held_by node)) (k + 1)) (stamped_of packet) (state_of (held_by node))) (Err fault) (state_of (held_by node2)) (answers_of (held_by node)) (answers_of (held_by node2)))
@@ -94,7 +95,7 @@ returns-in-Err-take_read g c = record {
       let node = c.index_mut-taker.result.now in
       let node2 = c.take_read.new.self in
       let l = first_there nodes rings i c.args.peer c.requires.pair c.args.self.now.rows in
-      let seen = seen_kept node node2 c.in-Err-take_read.ensures.names c.in-Err-take_read.ensures.ports c.in-Err-take_read.ensures.err c.in-Err-take_read.ensures.err_answers in
+      let seen = seen_kept node node2 c.in-Err-take_read.ensures.stays.names c.in-Err-take_read.ensures.stays.ports c.in-Err-take_read.ensures.stays.state c.in-Err-take_read.ensures.stays.answers in
       (nodes_kept nodes i node node2 l c.index_mut-taker.ensures.value seen, alone nodes rings i node2);
   formed = ap (λ (a : Account). a.formed) c.make_room.ensures.account;
   lost = refl;

@@ -1,8 +1,0 @@
-use Rattle.pg_opens.specs.Opens.{names_of, live_of}
-use Rattle.pg_node_state.specs.States.{sends_in}
-use Rattle.pg_node_state.proofs.Announced.{announced}
-use Rattle.pg_node_state.proofs.state.opening.opening.Goals as goal
-
-pub returns : goal.returns
-returns g c =
-    announced c.copies_to_live-sends.result (λ sends. sends_in (names_of c.args.opens.now) sends.items) (g.T.GroupTable.contents c.args.table.now) (live_of c.args.opens.now) c.in_ok-packet.packet c.in_ok-packet.ensures c.copies_to_live-sends.ensures

@@ -1,0 +1,4 @@
+pub mod Answered
+pub mod IdlePorts
+pub mod Picked
+pub mod SamePorts

@@ -1,0 +1,23 @@
+-- The frames of packets that a node sends.
+use Rattle.std.specs.Prelude.{◌≡◌, ◌≤◌, ◌+◌, ℕ, nat_eq, cond, List, [], ◌∷◌, ◌++◌, length, Ok}
+use Rattle.std.specs.List.{AllByRecursion}
+use Rattle.pg_message.specs.declared.packet.Packet.{Packet}
+use Rattle.pg_message.specs.Reading.{packet_spelled}
+use Rattle.pg_message.specs.Writing.{term_of_packet}
+use Rattle.pg_term_io.specs.Writing.{written}
+use Rattle.pg_writer.specs.Frames.{frame_of}
+use Rattle.pg_writer.specs.declared.size.TheConstants.{MAX_SMALL_LEN}
+
+-- a small packet stands in a frame as it is: it is read there, and takes no more room than a small frame
+pub record IsSmallFrame (packet : Packet) : Type 0 where
+  pub read : packet_spelled (written (term_of_packet packet)) ≡ Ok packet
+  pub small : length (frame_of packet) ≤ 4 + MAX_SMALL_LEN
+
+-- the same of packets that go to places
+abbrev pub AreSmallFrames : List (ℕ × Packet) → Type 0
+AreSmallFrames sends = AllByRecursion (λ sent. IsSmallFrame sent.1) sends
+
+-- the frames of the packets that go to a place
+abbrev pub frames_to : List (ℕ × Packet) → ℕ → List ℕ
+frames_to [] place = []
+frames_to (sent ∷ others) place = cond (nat_eq sent.0 place) (frame_of sent.1) [] ++ frames_to others place

@@ -1,0 +1,6 @@
+pub mod Frames
+pub mod Marked
+pub mod Opening
+pub mod Orders
+pub mod Sendable
+pub mod Sent

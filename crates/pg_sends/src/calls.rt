@@ -1,0 +1,167 @@
+//! What the turns after answers send, made before anything changes.
+
+ghost use Rattle.std.specs.Prelude.{◌≡◌, ◌≤◌, ◌<◌, ◌+◌, ◌^◌, ℕ, Bool, true, Some, None, is_some, IfOk};
+ghost use Rattle.pg_group.specs.declared.update.Update.{Update};
+ghost use Rattle.pg_group.specs.Value.{name_of};
+ghost use Rattle.pg_machine.specs.Clocked.{stamped};
+ghost use Rattle.pg_message.specs.declared.message.Message.TheVariants as messages;
+ghost use Rattle.pg_message.specs.declared.message.Request.TheVariants as requests;
+ghost use Rattle.pg_opens.specs.Opens.{names_of, live_of, uses_of, references_of};
+ghost use Rattle.pg_opens.specs.Readings.{is_locking, is_updating, update_of};
+ghost use Rattle.pg_step.specs.declared.command.OpId.{OpId};
+ghost use Rattle.pg_step.specs.Attempts.{asks, is_yes, own_reference};
+ghost use Rattle.pg_step.specs.Nodes.{Node, to_peers};
+ghost use Rattle.pg_step.specs.State.{Status};
+ghost use Rattle.pg_step.specs.State.Use.{Locking, Updating};
+ghost use Rattle.pg_sends.specs.Sent.{sends_in};
+ghost use Rattle.pg_sends.specs.Sendable.{AreSendable};
+ghost use Rattle.pg_message.specs.Name.{is_name};
+ghost use Rattle.pg_message.specs.declared.packet.TheConstants.{MAX_STAMP};
+
+use crate::done::Done;
+use crate::orders::{Order, own_under};
+use crate::sends::{to_asked, to_granted, to_live};
+use pg_group::Update;
+use pg_message::Packet;
+use pg_opens::Opens;
+use pg_step::OpId;
+use std::alloc::{AllocError, Global};
+
+/// An attempt is given up: each peer that granted frees the lock.
+///
+/// Errors: `AllocError`.
+pub fn freed(alloc: Global, clock: u32, opens: &Opens, number: u32) -> Result<Done, AllocError>
+    requires locking { is_locking (uses_of opens.now number) ≡ true }
+    requires within { clock ≤ MAX_STAMP }
+    requires named { (update : Update) → update_of (uses_of opens.now number) ≡ Some update → is_name (name_of update) ≡ true }
+    ensures sends { (op : OpId) (update : Update) (first : Node) (st : Node → Status) → uses_of opens.now number ≡ Locking op update first st
+        → IfOk result (λ done. sends_in (names_of opens.now) done.sends.items ≡ (λ q. stamped clock (to_peers (live_of opens.now)
+        (λ q. is_yes (st q)) (messages.DelLock (name_of update) (own_reference (live_of opens.now) number)) q))) }
+    ensures began { IfOk result (λ done. done.began ≡ None) }
+    ensures odd { IfOk result (λ done. done.odd ≡ None) }
+    ensures fits { IfOk result (λ done. AreSendable (names_of opens.now) done.sends.items) }
+{
+    let update = update_under(opens, number);
+    let order = Order::Free(update.name(), own_under(opens, number));
+    let sends = to_granted(alloc, clock, order, opens, number)?;
+    Ok(done_with(sends, None))
+}
+
+/// The rest is asked for the lock.
+///
+/// Errors: `AllocError`.
+pub fn asked(alloc: Global, clock: u32, opens: &Opens, number: u32) -> Result<Done, AllocError>
+    requires locking { is_locking (uses_of opens.now number) ≡ true }
+    requires within { clock ≤ MAX_STAMP }
+    requires named { (update : Update) → update_of (uses_of opens.now number) ≡ Some update → is_name (name_of update) ≡ true }
+    ensures sends { (op : OpId) (update : Update) (first : Node) (st : Node → Status) → uses_of opens.now number ≡ Locking op update first st
+        → IfOk result (λ done. sends_in (names_of opens.now) done.sends.items ≡ (λ q. stamped clock (to_peers (live_of opens.now)
+        (asks (λ q. true) st) (messages.Call (own_reference (live_of opens.now) number) (requests.SetLock (name_of update))) q))) }
+    ensures began { IfOk result (λ done. done.began ≡ None) }
+    ensures odd { IfOk result (λ done. done.odd ≡ None) }
+    ensures fits { IfOk result (λ done. AreSendable (names_of opens.now) done.sends.items) }
+{
+    let update = update_under(opens, number);
+    let order = Order::Lock(update.name(), own_under(opens, number));
+    let sends = to_asked(alloc, clock, order, opens, number)?;
+    Ok(done_with(sends, None))
+}
+
+/// The update goes to every live peer, under the next reference.
+///
+/// Errors: `AllocError`.
+pub fn begun(
+    alloc: Global,
+    clock: u32,
+    opens: &Opens,
+    number: u32,
+    op: OpId,
+) -> Result<Done, AllocError>
+    requires locking { is_locking (uses_of opens.now number) ≡ true }
+    requires within { clock ≤ MAX_STAMP }
+    requires named { (update : Update) → update_of (uses_of opens.now number) ≡ Some update → is_name (name_of update) ≡ true }
+    requires next { references_of opens.now + 1 < 2 ^ 32 }
+    ensures sends { (other : OpId) (update : Update) (first : Node) (st : Node → Status) → uses_of opens.now number ≡ Locking other update first st
+        → IfOk result (λ done. sends_in (names_of opens.now) done.sends.items ≡ (λ q. stamped clock (to_peers (live_of opens.now)
+        (λ q. true) (messages.Call (own_reference (live_of opens.now) (references_of opens.now + 1)) (requests.Change update)) q))) }
+    ensures began { (update : Update) → update_of (uses_of opens.now number) ≡ Some update → IfOk result (λ done. done.began ≡ Some (op, update)) }
+    ensures odd { IfOk result (λ done. done.odd ≡ None) }
+    ensures fits { IfOk result (λ done. AreSendable (names_of opens.now) done.sends.items) }
+{
+    let update = update_under(opens, number);
+    let call = own_under(opens, opens.references() + 1);
+    let sends = to_live(alloc, clock, Order::Change(update, call), opens)?;
+    match update.copy(alloc) {
+        Ok(update) => Ok(done_with(sends, Some((op, update)))),
+        Err(fault) => {
+            drop(sends);
+            Err(fault)
+        }
+    }
+}
+
+/// The command ends: every live peer frees the lock. `lock`: the number of its reference.
+///
+/// Errors: `AllocError`.
+pub fn ended(
+    alloc: Global,
+    clock: u32,
+    opens: &Opens,
+    number: u32,
+    lock: u32,
+) -> Result<Done, AllocError>
+    requires updating { is_updating (uses_of opens.now number) ≡ true }
+    requires within { clock ≤ MAX_STAMP }
+    requires named { (update : Update) → update_of (uses_of opens.now number) ≡ Some update → is_name (name_of update) ≡ true }
+    ensures sends { (op : OpId) (update : Update) (holder : ℕ) (replied : Node → Bool) → uses_of opens.now number ≡ Updating op update holder replied
+        → IfOk result (λ done. sends_in (names_of opens.now) done.sends.items ≡ (λ q. stamped clock (to_peers (live_of opens.now)
+        (λ q. true) (messages.DelLock (name_of update) (own_reference (live_of opens.now) lock)) q))) }
+    ensures began { IfOk result (λ done. done.began ≡ None) }
+    ensures odd { IfOk result (λ done. done.odd ≡ None) }
+    ensures fits { IfOk result (λ done. AreSendable (names_of opens.now) done.sends.items) }
+{
+    let update = update_under(opens, number);
+    let order = Order::Free(update.name(), own_under(opens, lock));
+    let sends = to_live(alloc, clock, order, opens)?;
+    Ok(done_with(sends, None))
+}
+
+/// What a turn sends, with no odd reply.
+pub fn done_with(sends: Vec<(usize, Packet)>, began: Option<(OpId, Update)>) -> Done
+    ensures sends { result.sends.items ≡ sends.items }
+    ensures began { result.began ≡ began }
+    ensures odd { result.odd ≡ None }
+{
+    Done {
+        sends,
+        began,
+        odd: None,
+    }
+}
+
+/// The update of the command that gathers under the reference of this number. It takes no memory: O(open commands).
+pub fn update_under(opens: &Opens, number: u32) -> &Update
+    requires { is_some (update_of (uses_of opens.now number)) ≡ true }
+    ensures { update_of (uses_of opens.now number) ≡ Some result.now }
+{
+    match opens.update(number) {
+        Some(update) => update,
+        None => unreachable!(),
+    }
+}
+
+ghost use Rattle.std.specs.Prelude.{false};
+ghost use Rattle.pg_step.specs.Nodes.{is_peer};
+
+/// Whether a peer counts. It takes no memory: O(nodes).
+pub fn has_peer(opens: &Opens) -> bool
+    ensures some { result ≡ true → (q : Node) × (is_peer (live_of opens.now) q ≡ true) }
+    ensures none { result ≡ false → (q : Node) → is_peer (live_of opens.now) q ≡ false }
+{
+    for place in 1..opens.node_count() {
+        if opens.is_live(place) {
+            return true;
+        }
+    }
+    false
+}

@@ -1,0 +1,54 @@
+//! What a node answers a peer.
+
+ghost use Rattle.std.specs.Prelude.{◌≡◌, ◌≤◌, ◌<◌, ◌+◌, List, None, IfOk, length};
+ghost use Rattle.pg_step.specs.Nodes.{Node, to_one};
+ghost use Rattle.pg_machine.specs.Clocked.{stamped};
+ghost use Rattle.pg_message.specs.declared.message.Message.TheVariants as messages;
+ghost use Rattle.pg_opens.specs.Places.{name_at};
+ghost use Rattle.pg_sends.specs.Sent.{sends_in};
+ghost use Rattle.pg_sends.specs.Sendable.{AreSendable};
+ghost use Rattle.pg_step.specs.Peers.{verdict};
+ghost use Rattle.pg_message.specs.declared.packet.TheConstants.{MAX_STAMP};
+
+use crate::done::Done;
+use pg_message::{Message, Packet, Said};
+use pg_term::Reference;
+use std::alloc::{AllocError, Global};
+
+/// A reply to a peer, and nothing else. `peer`: its place among the peers.
+///
+/// Errors: `AllocError`.
+pub fn reply(
+    alloc: Global,
+    clock: u32,
+    peer: usize,
+    reference: &Reference,
+    said: Said,
+) -> Result<Done, AllocError>
+    requires within { clock ≤ MAX_STAMP }
+    ensures sends { (names : List Node) → IfOk result (λ done. sends_in names done.sends.items
+        ≡ (λ q. stamped clock (to_one (name_at names (peer + 1)) (messages.Reply reference.now said) q))) }
+    ensures began { IfOk result (λ done. done.began ≡ None) }
+    ensures odd { IfOk result (λ done. done.odd ≡ None) }
+    ensures fits { (names : List Node) → peer + 1 < length names → IfOk result (λ done. AreSendable names done.sends.items) }
+{
+    let reference = reference.copy()?;
+    let mut sends = Vec::with_capacity(alloc, 1)?;
+    let packet = Packet {
+        stamp: clock,
+        message: Message::Reply(reference, said),
+    };
+    sends.push_reserved((peer, packet));
+    Ok(Done {
+        sends,
+        began: None,
+        odd: None,
+    })
+}
+
+/// What is said to a request for a lock.
+pub fn verdict(granted: bool) -> Said
+    ensures { result ≡ verdict granted }
+{
+    if granted { Said::Granted } else { Said::Denied }
+}
