@@ -15,7 +15,7 @@ use Rattle.pg_step.specs.Step.{Action}
 use Rattle.pg_step.specs.Turns.{Report}
 use Rattle.pg_step.specs.declared.command.OpId.{OpId}
 use Rattle.pg_history.specs.History.{Entry, entries, entry_of, history, of_group}
-use Rattle.pg_history.specs.WithLosses.{Marked, all_of, has_seen}
+use Rattle.pg_history.specs.WithLosses.{Marked, all_entries, has_seen}
 use Rattle.pg_loss.specs.Reached.{LosingReaches}
 use Rattle.pg_loss.proofs.Bridge.{not_true}
 use Rattle.pg_loss.proofs.Bridges.{Bridged, bridged}
@@ -31,7 +31,7 @@ use Rattle.pg_frame_world.proofs.Barred.{pair_here, seen_is}
 use Rattle.pg_frame_world.proofs.Turning.{is_pair_so, no_pair}
 
 -- the same is missed where the same losses were seen, of the nodes of entries
-pub missed_same : (seen other : ℕ → Bool) (marked : Marked) → AllByRecursion (λ (e : Entry). seen e.node ≡ other e.node) (all_of marked) → missed_of seen marked ≡ missed_of other marked
+pub missed_same : (seen other : ℕ → Bool) (marked : Marked) → AllByRecursion (λ (e : Entry). seen e.node ≡ other e.node) (all_entries marked) → missed_of seen marked ≡ missed_of other marked
 missed_same seen other [] all = refl
 missed_same seen other (m ∷ ms) all = λ i. cond (not m.1 && all.0 i) (m.0 ∷ missed_same seen other ms all.1 i) (missed_same seen other ms all.1 i)
 
@@ -59,7 +59,7 @@ module _ (config : Config) where
   module _ (apart : IsDistinct same_atom (names_of config)) (few : length config ≤ 16) (nodes : List Seen) (account : Account) (lost : List ℕ) (frames : TimedFrameWorld) (u : LosingFrameWorld)
       (shows : ShowsNodes config nodes frames) (updates : ShowsUpdates account frames) (is : u ≡ losing_of config frames lost) (events : List (LosingEvent Action)) (reached : LosingReaches config events u)
       (i : ℕ) (name : Term) (within : i < length nodes) (lives : is_lost lost i ≡ false)
-      (whole : all_of (marks i name u.world.reported) ≡ history name u.world.reported) where
+      (whole : all_entries (marks i name u.world.reported) ≡ history name u.world.reported) where
     bridge : Bridged config apart (bare u)
     bridge = bridged config apart events u reached
 
@@ -87,5 +87,5 @@ module _ (config : Config) where
 
     pub missed_is : missed_in nodes account i name ≡ missed config u i name
     missed_is = ap (missed_of (has_seen_in nodes i)) marked_is ∙ missed_same (has_seen_in nodes i) (has_seen config u i) (marks i name u.world.reported)
-        (mapped_all (all_of (marks i name u.world.reported)) (λ e there. seen_same e.node there)
+        (mapped_all (all_entries (marks i name u.world.reported)) (λ e there. seen_same e.node there)
         (subst (AllByRecursion (λ (e : Entry). IsHere e.node)) (sym whole) (of_places name u.world.reported bridge.places)))

@@ -44,8 +44,8 @@ NonePendingLive config w = (home i : ℕ) (pid : Pid) → is_place (length confi
 abbrev pub Marked : Type 0
 Marked = List (Entry × Bool)
 
-abbrev pub all_of : Marked → List Entry
-all_of marked = map (λ m. m.0) marked
+abbrev pub all_entries : Marked → List Entry
+all_entries marked = map (λ m. m.0) marked
 
 abbrev pub left_of : Marked → List Entry
 left_of [] = []
@@ -59,7 +59,7 @@ left_out node (m ∷ ms) = cond (nat_eq m.0.node node && cond m.1 false true) 1 
 -- Some entries left out of others: of each node one at most, and none of a node that is not among these.
 pub record Thinned (thin whole : List Entry) (among : ℕ → Bool) : Type 0 where
   pub marked : Marked
-  pub all : all_of marked ≡ whole
+  pub all : all_entries marked ≡ whole
   pub stay : left_of marked ≡ thin
   pub few : (node : ℕ) → left_out node marked ≤ cond (among node) 1 0
 

@@ -20,7 +20,7 @@ use Rattle.pg_term.specs.contracts.atom.AtomEq.TheImpl.Laws as atom_laws
 use Rattle.pg_group.specs.Table.{AreNames}
 use Rattle.pg_members.specs.declared.row.Row.{Row}
 use Rattle.pg_index.specs.declared.listing.Listing.{Listing}
-use Rattle.pg_index.specs.Groups.{Numbered, counts_at, counts_in, is_used}
+use Rattle.pg_index.specs.Groups.{Numbered, counts_at, counts_by_number, is_used}
 use Rattle.pg_index.specs.Index.{Numbers, number_of, contents_of}
 use Rattle.pg_index.specs.Listings.{listed_in, listing_of}
 use Rattle.pg_index.proofs.Listed.{Nodes, has, nodes_tie}
@@ -131,7 +131,7 @@ slots_alike (x ∷ xs) (y ∷ ys) a = λ i. slot x y a.0 i ∷ slots_alike xs ys
     slot (Some x) None e = absurd e
     slot (Some x) (Some y) e = ap Some e
 
-pub groups_alike : (groups copy : Slab (List Row)) → IsSlabClone (λ x y. y ≡ x) groups copy → (counts_in copy ≡ counts_in groups) × (is_used copy ≡ is_used groups)
+pub groups_alike : (groups copy : Slab (List Row)) → IsSlabClone (λ x y. y ≡ x) groups copy → (counts_by_number copy ≡ counts_by_number groups) × (is_used copy ≡ is_used groups)
 groups_alike groups copy h =
     let same = slots_alike groups.slots copy.slots h.slots in
     (λ i group. counts_at (slice_index_or (same i) group None), λ i group. is_some (slice_index_or (same i) group None))

@@ -12,7 +12,7 @@ use Rattle.pg_term.specs.Same.{same_term}
 use Rattle.pg_group.specs.Functions.{upd}
 use Rattle.pg_group.specs.Value.{nobody, greater, told}
 use Rattle.pg_group.proofs.Changes.{upd_other, upd_twice}
-use Rattle.pg_index.specs.Groups.{Numbered, counts_in, is_used, counts_raised, IsPartlyRaised}
+use Rattle.pg_index.specs.Groups.{Numbered, counts_by_number, is_used, counts_raised, IsPartlyRaised}
 use Rattle.pg_index.specs.Index.{Numbers, number_of, table_of, HasGroups, AreNumberedApart}
 use Rattle.pg_index.specs.Grown.{IsGrown}
 use Rattle.pg_index.specs.declared.memberships.Memberships.{Memberships}
@@ -90,7 +90,7 @@ module _ (n : Numbers) (m : Memberships) (numbers : Numbers) (now : Memberships)
   -- no other name
   grown_still : (numbers' : Numbers) (then : Memberships) → numbers'.entries ≡ numbers.entries
       → ((k : ℕ) → is_used m.groups k ≡ true → is_used then.groups k ≡ is_used now.groups k)
-      → ((k : ℕ) → is_used m.groups k ≡ true → counts_in then.groups k ≡ counts_in now.groups k)
+      → ((k : ℕ) → is_used m.groups k ≡ true → counts_by_number then.groups k ≡ counts_by_number now.groups k)
       → IsGrown n m numbers' then
   grown_still numbers' then same used counts = record {
     more = grown.more;
@@ -100,10 +100,10 @@ module _ (n : Numbers) (m : Memberships) (numbers : Numbers) (now : Memberships)
     kept = λ k busy. counts k busy ∙ grown.kept k busy;
   }
 
-  pub grown_same : (then : Memberships) → is_used then.groups ≡ is_used now.groups → counts_in then.groups ≡ counts_in now.groups → IsGrown n m numbers then
+  pub grown_same : (then : Memberships) → is_used then.groups ≡ is_used now.groups → counts_by_number then.groups ≡ counts_by_number now.groups → IsGrown n m numbers then
   grown_same then used counts = grown_still numbers then refl (λ k busy. ap (λ (u : ℕ → Bool). u k) used) (λ k busy. ap (λ (c : Numbered). c k) counts)
 
-  module _ (then : Memberships) (group : ℕ) (free : is_used now.groups group ≡ false) (opened : is_used then.groups ≡ upd nat_eq (is_used now.groups) group true) (counts : counts_in then.groups ≡ counts_in now.groups) where
+  module _ (then : Memberships) (group : ℕ) (free : is_used now.groups group ≡ false) (opened : is_used then.groups ≡ upd nat_eq (is_used now.groups) group true) (counts : counts_by_number then.groups ≡ counts_by_number now.groups) where
     distinct : (k : ℕ) → is_used m.groups k ≡ true → nat_eq group k ≡ false
     distinct k busy = apart_number (is_used now.groups) group k free (grown.used k busy)
 
@@ -119,16 +119,16 @@ module _ (n : Numbers) (m : Memberships) (numbers : Numbers) (now : Memberships)
 
     -- the number is given up
     pub grown_given_up : (numbers' : Numbers) (last : Memberships) → numbers'.entries ≡ numbers.entries → is_used last.groups ≡ upd nat_eq (is_used then.groups) group false
-        → counts_in last.groups ≡ upd nat_eq (counts_in then.groups) group nobody → IsGrown n m numbers' last
+        → counts_by_number last.groups ≡ upd nat_eq (counts_by_number then.groups) group nobody → IsGrown n m numbers' last
     grown_given_up numbers' last same closed dropped = grown_still numbers' last same
         (λ k busy. ap (λ (u : ℕ → Bool). u k) (closed ∙ ap (λ (u : ℕ → Bool). upd nat_eq u group false) opened ∙ upd_twice nat_eq (is_used now.groups) group true false) ∙ upd_other nat_eq (is_used now.groups) group false k (distinct k busy))
-        (λ k busy. ap (λ (c : Numbered). c k) dropped ∙ upd_other nat_eq (counts_in then.groups) group nobody k (distinct k busy) ∙ ap (λ (c : Numbered). c k) counts)
+        (λ k busy. ap (λ (c : Numbered). c k) dropped ∙ upd_other nat_eq (counts_by_number then.groups) group nobody k (distinct k busy) ∙ ap (λ (c : Numbered). c k) counts)
 
   -- counts are raised in a group whose name came
   pub grown_raised : (then : Memberships) (name : Term) (group : ℕ) (pids : List Pid) (ended : Pid → Bool) {T E : Type 0} (result : Result T E)
       → number_of n name ≡ None → number_of numbers name ≡ Some group → is_used then.groups ≡ is_used now.groups
-      → OnOk result (counts_in then.groups ≡ counts_raised (counts_in now.groups) group pids ended)
-      → OnErr result (IsPartlyRaised (counts_in now.groups) (counts_in then.groups) group pids ended) → IsGrown n m numbers then
+      → OnOk result (counts_by_number then.groups ≡ counts_raised (counts_by_number now.groups) group pids ended)
+      → OnErr result (IsPartlyRaised (counts_by_number now.groups) (counts_by_number then.groups) group pids ended) → IsGrown n m numbers then
   grown_raised then name group pids ended result none has used whole partly = grown_still numbers then refl (λ k busy. ap (λ (u : ℕ → Bool). u k) used) (λ k busy. others result whole partly k (distinct k busy))
     where
       free : is_used m.groups group ≡ false
@@ -137,14 +137,14 @@ module _ (n : Numbers) (m : Memberships) (numbers : Numbers) (now : Memberships)
       distinct : (k : ℕ) → is_used m.groups k ≡ true → nat_eq group k ≡ false
       distinct k busy = apart_number (is_used m.groups) group k free busy
 
-      others : {T E : Type 0} (r : Result T E) → OnOk r (counts_in then.groups ≡ counts_raised (counts_in now.groups) group pids ended)
-          → OnErr r (IsPartlyRaised (counts_in now.groups) (counts_in then.groups) group pids ended) → (k : ℕ) → nat_eq group k ≡ false → counts_in then.groups k ≡ counts_in now.groups k
-      others (Ok v) h g k other = ap (λ (c : Numbered). c k) h ∙ upd_other nat_eq (counts_in now.groups) group (greater (counts_in now.groups group) (told pids ended)) k other
+      others : {T E : Type 0} (r : Result T E) → OnOk r (counts_by_number then.groups ≡ counts_raised (counts_by_number now.groups) group pids ended)
+          → OnErr r (IsPartlyRaised (counts_by_number now.groups) (counts_by_number then.groups) group pids ended) → (k : ℕ) → nat_eq group k ≡ false → counts_by_number then.groups k ≡ counts_by_number now.groups k
+      others (Ok v) h g k other = ap (λ (c : Numbered). c k) h ∙ upd_other nat_eq (counts_by_number now.groups) group (greater (counts_by_number now.groups group) (told pids ended)) k other
       others (Err e) h g k other = g.others k other
 
   -- the last name goes
   pub grown_less : (numbers' : Numbers) (then : Memberships) (name : Term) (group : ℕ) → length n.entries < length numbers.entries → numbers.entries ≡ numbers'.entries ++ (name, group) ∷ []
-      → is_used then.groups ≡ upd nat_eq (is_used now.groups) group false → counts_in then.groups ≡ upd nat_eq (counts_in now.groups) group nobody → IsGrown n m numbers' then
+      → is_used then.groups ≡ upd nat_eq (is_used now.groups) group false → counts_by_number then.groups ≡ upd nat_eq (counts_by_number now.groups) group nobody → IsGrown n m numbers' then
   grown_less numbers' then name group longer popped closed dropped =
       let last = last_of numbers'.entries n.entries grown.more (name, group) (sym popped ∙ grown.entries) (subst (λ (es : List (Term × ℕ)). length n.entries < length es) popped longer) in
       let parts = all_but_one (λ entry. is_used m.groups entry.1 ≡ false) last.0 (name, group) (subst (AllByRecursion (λ entry. is_used m.groups entry.1 ≡ false)) last.1.0 grown.free) in
@@ -153,7 +153,7 @@ module _ (n : Numbers) (m : Memberships) (numbers : Numbers) (now : Memberships)
         entries = last.1.1;
         free = parts.0;
         used = λ k busy. ap (λ (u : ℕ → Bool). u k) closed ∙ upd_other nat_eq (is_used now.groups) group false k (apart_number (is_used m.groups) group k parts.1 busy) ∙ grown.used k busy;
-        kept = λ k busy. ap (λ (c : Numbered). c k) dropped ∙ upd_other nat_eq (counts_in now.groups) group nobody k (apart_number (is_used m.groups) group k parts.1 busy) ∙ grown.kept k busy;
+        kept = λ k busy. ap (λ (c : Numbered). c k) dropped ∙ upd_other nat_eq (counts_by_number now.groups) group nobody k (apart_number (is_used m.groups) group k parts.1 busy) ∙ grown.kept k busy;
       }
 
   -- all that came are gone
@@ -171,9 +171,9 @@ module _ (n : Numbers) (m : Memberships) (numbers : Numbers) (now : Memberships)
     back_apart apart one other group e f = apart one other group (sym (number_back one) ∙ e) (sym (number_back other) ∙ f)
 
     pub table_back : table_of numbers now ≡ table_of n m
-    table_back = fun_ext (λ name. ap (option_map (counts_in now.groups)) (number_back name) ∙ go name (number_of n name) refl)
+    table_back = fun_ext (λ name. ap (option_map (counts_by_number now.groups)) (number_back name) ∙ go name (number_of n name) refl)
       where
-        go : (name : Term) (o : Option ℕ) → number_of n name ≡ o → option_map (counts_in now.groups) o ≡ option_map (counts_in m.groups) o
+        go : (name : Term) (o : Option ℕ) → number_of n name ≡ o → option_map (counts_by_number now.groups) o ≡ option_map (counts_by_number m.groups) o
         go name None e = refl
         go name (Some k) e = ap Some (grown.kept k (there name k e))
 
@@ -181,6 +181,6 @@ module _ (n : Numbers) (m : Memberships) (numbers : Numbers) (now : Memberships)
 pub unnumbered : (n : Numbers) (m : Memberships) (name : Term) → table_of n m name ≡ None → number_of n name ≡ None
 unnumbered n m name absent = go (number_of n name) absent
   where
-    go : (o : Option ℕ) → option_map (counts_in m.groups) o ≡ None → o ≡ None
+    go : (o : Option ℕ) → option_map (counts_by_number m.groups) o ≡ None → o ≡ None
     go None e = refl
     go (Some k) e = absurd cc

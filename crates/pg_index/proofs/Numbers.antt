@@ -16,7 +16,7 @@ use Rattle.pg_group.specs.Scope.{at_node}
 use Rattle.pg_group.proofs.Changes.{upd_from, upd_same}
 use Rattle.pg_members.specs.declared.row.Row.{Row}
 use Rattle.pg_members.specs.Rows.{counts_of}
-use Rattle.pg_index.specs.Groups.{counts_at, counts_in, without_node}
+use Rattle.pg_index.specs.Groups.{counts_at, counts_by_number, without_node}
 
 pub number_is : (m n : ℕ) → nat_eq m n ≡ true → m ≡ n
 number_is = eqb-true
@@ -25,24 +25,24 @@ pub number_itself : (n : ℕ) → nat_eq n n ≡ true
 number_itself n = search rules
 
 -- one slot has other members
-pub slot_changed : (old new : Slab (List Row)) (group : ℕ) (slot : Option (List Row)) (counts : Counts) → Updates old new group slot → counts_at slot ≡ counts → counts_in new ≡ upd nat_eq (counts_in old) group counts
-slot_changed old new group slot counts u is = upd_from nat_eq (counts_in old) group (counts_in new) counts (λ n. go n (nat_eq group n) refl)
+pub slot_changed : (old new : Slab (List Row)) (group : ℕ) (slot : Option (List Row)) (counts : Counts) → Updates old new group slot → counts_at slot ≡ counts → counts_by_number new ≡ upd nat_eq (counts_by_number old) group counts
+slot_changed old new group slot counts u is = upd_from nat_eq (counts_by_number old) group (counts_by_number new) counts (λ n. go n (nat_eq group n) refl)
   where
-    go : (n : ℕ) (t : Bool) → nat_eq group n ≡ t → counts_in new n ≡ cond t counts (counts_in old n)
-    go n true e = ap (counts_in new) (sym (number_is group n e)) ∙ ap counts_at u.changed ∙ is
+    go : (n : ℕ) (t : Bool) → nat_eq group n ≡ t → counts_by_number new n ≡ cond t counts (counts_by_number old n)
+    go n true e = ap (counts_by_number new) (sym (number_is group n e)) ∙ ap counts_at u.changed ∙ is
     go n false e = ap counts_at (u.others n (λ same. differ same))
       where
         differ : n ≡ group → ⊥
         differ same = let f : nat_eq group group ≡ false = ap (nat_eq group) (sym same) ∙ e in let g : nat_eq group group ≡ true = number_itself group in cc
 
-pub written : (groups : Slab (List Row)) (group : ℕ) (old new : List Row) (counts : Counts) → Some old ≡ get groups group → counts_of new ≡ counts → counts_in (with_value groups group new) ≡ upd nat_eq (counts_in groups) group counts
+pub written : (groups : Slab (List Row)) (group : ℕ) (old new : List Row) (counts : Counts) → Some old ≡ get groups group → counts_of new ≡ counts → counts_by_number (with_value groups group new) ≡ upd nat_eq (counts_by_number groups) group counts
 written groups group old new counts had is = slot_changed groups (with_value groups group new) group (Some new) counts (Updates-with_value groups group new (subst (λ (o : Option (List Row)). IsSome o) had refl)) is
 
 -- what leaves nobody as it is does not change a number that is free
-pub nobody_there : (groups : Slab (List Row)) (group : ℕ) (f : Counts → Counts) → None ≡ get groups group → f nobody ≡ nobody → counts_in groups ≡ upd nat_eq (counts_in groups) group (f (counts_in groups group))
+pub nobody_there : (groups : Slab (List Row)) (group : ℕ) (f : Counts → Counts) → None ≡ get groups group → f nobody ≡ nobody → counts_by_number groups ≡ upd nat_eq (counts_by_number groups) group (f (counts_by_number groups group))
 nobody_there groups group f free kept =
-    let none : counts_in groups group ≡ nobody = ap counts_at (sym free) in
-    sym (upd_same nat_eq (counts_in groups) group (number_is group) (f (counts_in groups group)) (ap f none ∙ kept ∙ sym none))
+    let none : counts_by_number groups group ≡ nobody = ap counts_at (sym free) in
+    sym (upd_same nat_eq (counts_by_number groups) group (number_is group) (f (counts_by_number groups group)) (ap f none ∙ kept ∙ sym none))
 
 pub nobody_less : (pid : Pid) → upd same_pid nobody pid 0 ≡ nobody
 nobody_less pid = upd_same same_pid nobody pid (pid_is pid) 0 refl
@@ -59,8 +59,8 @@ counts_alone f g e = ap (λ (v : Value). unwrap_or v nobody) e
 
 pub added_at : (groups : Slab (List Row)) (group : ℕ) (old new : List Row) (pid : Pid) (more : ℕ) {T E : Type 0} (result : Result T E) → Some old ≡ get groups group
     → OnOk result (counts_of new ≡ upd same_pid (counts_of old) pid (counts_of old pid + more))
-    → OnOk result (counts_in (with_value groups group new) ≡ upd nat_eq (counts_in groups) group (upd same_pid (counts_in groups group) pid (counts_in groups group pid + more)))
+    → OnOk result (counts_by_number (with_value groups group new) ≡ upd nat_eq (counts_by_number groups) group (upd same_pid (counts_by_number groups group) pid (counts_by_number groups group pid + more)))
 added_at groups group old new pid more (Err e) had h = tt
 added_at groups group old new pid more (Ok v) had h =
-    written groups group old new (upd same_pid (counts_in groups group) pid (counts_in groups group pid + more)) had
+    written groups group old new (upd same_pid (counts_by_number groups group) pid (counts_by_number groups group pid + more)) had
     (h ∙ ap (λ o. upd same_pid (counts_at o) pid (counts_at o pid + more)) had)

@@ -18,8 +18,8 @@ abbrev pub counts_at : Option (List Row) → Counts
 counts_at None = nobody
 counts_at (Some rows) = counts_of rows
 
-abbrev pub counts_in : Slab (List Row) → Numbered
-counts_in groups group = counts_at (get groups group)
+abbrev pub counts_by_number : Slab (List Row) → Numbered
+counts_by_number groups group = counts_at (get groups group)
 
 -- whether a group has the number
 abbrev pub is_used : Slab (List Row) → ℕ → Bool

@@ -2,7 +2,7 @@
 use Rattle.std.specs.Prelude.{◌≡◌, ◌++◌, ℕ, true, false, List}
 use Rattle.std.specs.List.{AllByRecursion}
 use Rattle.pg_term.specs.declared.term.Term.{Term}
-use Rattle.pg_index.specs.Groups.{counts_in, is_used}
+use Rattle.pg_index.specs.Groups.{counts_by_number, is_used}
 use Rattle.pg_index.specs.Index.{Numbers}
 use Rattle.pg_index.specs.declared.memberships.Memberships.{Memberships}
 
@@ -12,4 +12,4 @@ pub record IsGrown (numbers : Numbers) (memberships : Memberships) (numbers' : N
   pub entries : numbers'.entries ≡ numbers.entries ++ more
   pub free : AllByRecursion (λ entry. is_used memberships.groups entry.1 ≡ false) more
   pub used : (group : ℕ) → is_used memberships.groups group ≡ true → is_used memberships'.groups group ≡ true
-  pub kept : (group : ℕ) → is_used memberships.groups group ≡ true → counts_in memberships'.groups group ≡ counts_in memberships.groups group
+  pub kept : (group : ℕ) → is_used memberships.groups group ≡ true → counts_by_number memberships'.groups group ≡ counts_by_number memberships.groups group

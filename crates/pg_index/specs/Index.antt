@@ -9,7 +9,7 @@ use Rattle.pg_term.specs.Same.{same_term}
 use Rattle.pg_group.specs.Table.{Table}
 use Rattle.pg_members.specs.declared.row.Row.{Row}
 use Rattle.pg_members.specs.Rows.{counts_of}
-use Rattle.pg_index.specs.Groups.{Numbered, counts_in}
+use Rattle.pg_index.specs.Groups.{Numbered, counts_by_number}
 use Rattle.pg_index.specs.declared.memberships.Memberships.{Memberships}
 
 abbrev pub Numbers : Type 0
@@ -37,4 +37,4 @@ MembersOf table name rows = option_map counts_of rows ≡ table name
 
 -- what an indexed table says: the group of each name
 abbrev pub table_of : Numbers → Memberships → Table
-table_of numbers memberships = contents_of (number_of numbers) (counts_in memberships.groups)
+table_of numbers memberships = contents_of (number_of numbers) (counts_by_number memberships.groups)

@@ -2,7 +2,7 @@ ghost use Rattle.std.specs.Prelude.{◌≡◌, ◌+◌, ◌<◌, ◌⊎◌, true
 ghost use Rattle.pg_term.specs.Same.{same_pid};
 ghost use Rattle.pg_group.specs.Functions.{upd};
 ghost use Rattle.pg_group.specs.Value.{with_one_less};
-ghost use Rattle.pg_index.specs.Groups.{counts_in, is_used, counts_changed, without_node};
+ghost use Rattle.pg_index.specs.Groups.{counts_by_number, is_used, counts_changed, without_node};
 ghost use Rattle.pg_group.specs.Table.{LacksRoom};
 
 use pg_members::Members;
@@ -15,7 +15,7 @@ pub type Groups = Slab<Members>;
 
 /// The count of a pid in a group.
 pub fn count(groups: &Groups, group: u32, pid: &Pid) -> u64
-    ensures { result ≡ counts_in groups.now group pid.now }
+    ensures { result ≡ counts_by_number groups.now group pid.now }
 {
     match groups.get(group as usize) {
         Some(members) => members.count(pid),
@@ -31,12 +31,12 @@ pub fn count(groups: &Groups, group: u32, pid: &Pid) -> u64
 pub fn add(groups: &mut Groups, group: u32, pid: &Pid, more: u64) -> Result<u64, AllocError>
     requires used { is_used groups.old group ≡ true }
     requires some { 0 < more }
-    ensures ok { OnOk result (counts_in groups.new ≡ counts_changed (counts_in groups.old) group pid.now
-        (counts_in groups.old group pid.now + more)) }
-    ensures count { IfOk result (λ count. count ≡ counts_in groups.old group pid.now + more) }
-    ensures err { OnErr result (counts_in groups.new ≡ counts_in groups.old) }
-    ensures memory { OnErr result ((counts_in groups.old group pid.now ≡ 0)
-        ⊎ LacksRoom (Some (counts_in groups.old group)) more) }
+    ensures ok { OnOk result (counts_by_number groups.new ≡ counts_changed (counts_by_number groups.old) group pid.now
+        (counts_by_number groups.old group pid.now + more)) }
+    ensures count { IfOk result (λ count. count ≡ counts_by_number groups.old group pid.now + more) }
+    ensures err { OnErr result (counts_by_number groups.new ≡ counts_by_number groups.old) }
+    ensures memory { OnErr result ((counts_by_number groups.old group pid.now ≡ 0)
+        ⊎ LacksRoom (Some (counts_by_number groups.old group)) more) }
     ensures used { is_used groups.new ≡ is_used groups.old }
 {
     match groups.get_mut(group as usize) {
@@ -49,9 +49,9 @@ pub fn add(groups: &mut Groups, group: u32, pid: &Pid, more: u64) -> Result<u64,
 ///
 /// Cost: no memory.
 pub fn take_one(groups: &mut Groups, group: u32, pid: &Pid) -> u64
-    ensures counts { counts_in groups.new
-        ≡ upd nat_eq (counts_in groups.old) group (with_one_less (counts_in groups.old group) pid.now) }
-    ensures count { result ≡ counts_in groups.old group pid.now }
+    ensures counts { counts_by_number groups.new
+        ≡ upd nat_eq (counts_by_number groups.old) group (with_one_less (counts_by_number groups.old group) pid.now) }
+    ensures count { result ≡ counts_by_number groups.old group pid.now }
     ensures used { is_used groups.new ≡ is_used groups.old }
 {
     match groups.get_mut(group as usize) {
@@ -64,7 +64,7 @@ pub fn take_one(groups: &mut Groups, group: u32, pid: &Pid) -> u64
 ///
 /// Cost: no memory.
 pub fn remove(groups: &mut Groups, group: u32, pid: &Pid)
-    ensures counts { counts_in groups.new ≡ counts_changed (counts_in groups.old) group pid.now 0 }
+    ensures counts { counts_by_number groups.new ≡ counts_changed (counts_by_number groups.old) group pid.now 0 }
     ensures used { is_used groups.new ≡ is_used groups.old }
 {
     match groups.get_mut(group as usize) {
@@ -77,8 +77,8 @@ pub fn remove(groups: &mut Groups, group: u32, pid: &Pid)
 ///
 /// Cost: no memory.
 pub fn drop_node(groups: &mut Groups, group: u32, node: &Atom)
-    ensures counts { counts_in groups.new
-        ≡ upd nat_eq (counts_in groups.old) group (without_node (counts_in groups.old group) node.now) }
+    ensures counts { counts_by_number groups.new
+        ≡ upd nat_eq (counts_by_number groups.old) group (without_node (counts_by_number groups.old group) node.now) }
     ensures used { is_used groups.new ≡ is_used groups.old }
 {
     match groups.get_mut(group as usize) {

@@ -4,7 +4,7 @@ ghost use Rattle.pg_term.specs.declared.pid.Pid.{Pid};
 ghost use Rattle.pg_term.specs.Same.{same_pid};
 ghost use Rattle.pg_group.specs.Scope.{at_node};
 ghost use Rattle.pg_members.specs.Rows.{counts_of};
-ghost use Rattle.pg_index.specs.Groups.{counts_in, is_used, without_pid, without_nodes};
+ghost use Rattle.pg_index.specs.Groups.{counts_by_number, is_used, without_pid, without_nodes};
 ghost use Rattle.pg_index.specs.Listings.{process_of, listing_of, listing_cmp, listed_in};
 ghost use Rattle.pg_index.specs.Listings.{listed_as, IsFirstListing, AreGroupsOf, ListsByMember};
 
@@ -121,8 +121,8 @@ pub fn first_of(set: &BTreeSet<Listing>, process: Process) -> Option<u32>
 ///
 /// Cost: no memory.
 pub fn drop_listed(set: &mut BTreeSet<Listing>, groups: &mut Groups, pid: &Pid)
-    requires { AreGroupsOf set.old (counts_in groups.old) pid.now }
-    ensures counts { counts_in groups.new ≡ without_pid (counts_in groups.old) pid.now }
+    requires { AreGroupsOf set.old (counts_by_number groups.old) pid.now }
+    ensures counts { counts_by_number groups.new ≡ without_pid (counts_by_number groups.old) pid.now }
     ensures used { is_used groups.new ≡ is_used groups.old }
     ensures none { (group : ℕ) → contains listing_cmp set.new (listing_of pid.now group) ≡ false }
     ensures others { (other : Pid) (group : ℕ) → pid.now.node ≡ other.node → same_pid pid.now other ≡ false
@@ -139,10 +139,10 @@ pub fn drop_listed(set: &mut BTreeSet<Listing>, groups: &mut Groups, pid: &Pid)
 ///
 /// Cost: no memory.
 pub fn drop_pid(listings: &mut Listings, groups: &mut Groups, pid: &Pid)
-    requires { ListsByMember (listed_in listings.old) (counts_in groups.old) }
-    ensures counts { counts_in groups.new ≡ without_pid (counts_in groups.old) pid.now }
+    requires { ListsByMember (listed_in listings.old) (counts_by_number groups.old) }
+    ensures counts { counts_by_number groups.new ≡ without_pid (counts_by_number groups.old) pid.now }
     ensures used { is_used groups.new ≡ is_used groups.old }
-    ensures listed { ListsByMember (listed_in listings.new) (counts_in groups.new) }
+    ensures listed { ListsByMember (listed_in listings.new) (counts_by_number groups.new) }
 {
     match listings.get_mut(&pid.node) {
         Some(set) => drop_listed(set, groups, pid),
@@ -154,8 +154,8 @@ pub fn drop_pid(listings: &mut Listings, groups: &mut Groups, pid: &Pid)
 ///
 /// Cost: no memory.
 pub fn drop_each(groups: &mut Groups, set: BTreeSet<Listing>, node: &Atom)
-    requires { (pid : Pid) → at_node node.now pid ≡ true → AreGroupsOf set (counts_in groups.old) pid }
-    ensures counts { counts_in groups.new ≡ without_nodes (counts_in groups.old) node.now }
+    requires { (pid : Pid) → at_node node.now pid ≡ true → AreGroupsOf set (counts_by_number groups.old) pid }
+    ensures counts { counts_by_number groups.new ≡ without_nodes (counts_by_number groups.old) node.now }
     ensures used { is_used groups.new ≡ is_used groups.old }
 {
     for listing in set {
@@ -167,10 +167,10 @@ pub fn drop_each(groups: &mut Groups, set: BTreeSet<Listing>, node: &Atom)
 ///
 /// Cost: no memory.
 pub fn drop_node(listings: &mut Listings, groups: &mut Groups, node: &Atom)
-    requires { ListsByMember (listed_in listings.old) (counts_in groups.old) }
-    ensures counts { counts_in groups.new ≡ without_nodes (counts_in groups.old) node.now }
+    requires { ListsByMember (listed_in listings.old) (counts_by_number groups.old) }
+    ensures counts { counts_by_number groups.new ≡ without_nodes (counts_by_number groups.old) node.now }
     ensures used { is_used groups.new ≡ is_used groups.old }
-    ensures listed { ListsByMember (listed_in listings.new) (counts_in groups.new) }
+    ensures listed { ListsByMember (listed_in listings.new) (counts_by_number groups.new) }
 {
     if let Some(set) = listings.remove(node) {
         drop_each(groups, set, node);

@@ -4,7 +4,7 @@ ghost use Rattle.slab.specs.Slab.{get};
 ghost use Rattle.pg_group.specs.Ended.{ended_of};
 ghost use Rattle.pg_group.specs.Functions.{upd};
 ghost use Rattle.pg_group.specs.Value.{with_one_less, nobody};
-ghost use Rattle.pg_index.specs.Groups.{counts_in, is_used, counts_changed, counts_raised};
+ghost use Rattle.pg_index.specs.Groups.{counts_by_number, is_used, counts_changed, counts_raised};
 ghost use Rattle.pg_index.specs.Groups.{without_pid, without_nodes, IsPartlyRaised};
 ghost use Rattle.pg_group.specs.Table.{LacksRoom};
 ghost use Rattle.pg_index.specs.Listings.{listed_in, ListsByMember};
@@ -24,7 +24,7 @@ pub struct Memberships {
     pub groups: Groups,
     pub listings: Listings,
     alloc: Global,
-    ghost each: { ListsByMember (listed_in listings) (counts_in groups) },
+    ghost each: { ListsByMember (listed_in listings) (counts_by_number groups) },
 }
 
 impl Memberships {
@@ -32,7 +32,7 @@ impl Memberships {
     ///
     /// Cost: no memory.
     pub fn new(alloc: Global) -> Memberships
-        ensures counts { counts_in result.groups ≡ (λ group. nobody) }
+        ensures counts { counts_by_number result.groups ≡ (λ group. nobody) }
         ensures used { is_used result.groups ≡ (λ group. false) }
     {
         Memberships {
@@ -55,7 +55,7 @@ impl Memberships {
     ///
     /// Cost: no memory.
     pub fn count(&self, group: u32, pid: &Pid) -> u64
-        ensures { result ≡ counts_in self.now.groups group pid.now }
+        ensures { result ≡ counts_by_number self.now.groups group pid.now }
     {
         groups::count(&self.groups, group, pid)
     }
@@ -68,8 +68,8 @@ impl Memberships {
     pub fn open(&mut self) -> Result<u32, AllocError>
         ensures free { IfOk result (λ group. is_used self.old.groups group ≡ false) }
         ensures used { IfOk result (λ group. is_used self.new.groups ≡ upd nat_eq (is_used self.old.groups) group true) }
-        ensures counts { counts_in self.new.groups ≡ counts_in self.old.groups }
-        ensures nobody { IfOk result (λ group. counts_in self.old.groups group ≡ nobody) }
+        ensures counts { counts_by_number self.new.groups ≡ counts_by_number self.old.groups }
+        ensures nobody { IfOk result (λ group. counts_by_number self.old.groups group ≡ nobody) }
         ensures err { OnErr result (is_used self.new.groups ≡ is_used self.old.groups) }
     {
         let Ok(group) = u32::try_from(self.groups.vacant_key()) else {
@@ -87,11 +87,11 @@ impl Memberships {
     pub fn add(&mut self, group: u32, pid: &Pid, more: u64) -> Result<(), AllocError>
         requires used { is_used self.old.groups group ≡ true }
         requires some { 0 < more }
-        ensures ok { OnOk result (counts_in self.new.groups ≡ counts_changed (counts_in self.old.groups) group pid.now
-            (counts_in self.old.groups group pid.now + more)) }
-        ensures err { OnErr result (counts_in self.new.groups ≡ counts_in self.old.groups) }
-        ensures memory { OnErr result ((counts_in self.old.groups group pid.now ≡ 0)
-            ⊎ LacksRoom (Some (counts_in self.old.groups group)) more) }
+        ensures ok { OnOk result (counts_by_number self.new.groups ≡ counts_changed (counts_by_number self.old.groups) group pid.now
+            (counts_by_number self.old.groups group pid.now + more)) }
+        ensures err { OnErr result (counts_by_number self.new.groups ≡ counts_by_number self.old.groups) }
+        ensures memory { OnErr result ((counts_by_number self.old.groups group pid.now ≡ 0)
+            ⊎ LacksRoom (Some (counts_by_number self.old.groups group)) more) }
         ensures used { is_used self.new.groups ≡ is_used self.old.groups }
     {
         let count = groups::add(&mut self.groups, group, pid, more)?;
@@ -114,9 +114,9 @@ impl Memberships {
     /// Cost: memory for a new member alone.
     pub fn raise(&mut self, group: u32, pid: &Pid, least: u64) -> Result<(), AllocError>
         requires { is_used self.old.groups group ≡ true }
-        ensures ok { OnOk result (counts_in self.new.groups ≡ counts_changed (counts_in self.old.groups) group pid.now
-            (max (counts_in self.old.groups group pid.now) least)) }
-        ensures err { OnErr result (counts_in self.new.groups ≡ counts_in self.old.groups) }
+        ensures ok { OnOk result (counts_by_number self.new.groups ≡ counts_changed (counts_by_number self.old.groups) group pid.now
+            (max (counts_by_number self.old.groups group pid.now) least)) }
+        ensures err { OnErr result (counts_by_number self.new.groups ≡ counts_by_number self.old.groups) }
         ensures used { is_used self.new.groups ≡ is_used self.old.groups }
     {
         let count = groups::count(&self.groups, group, pid);
@@ -134,9 +134,9 @@ impl Memberships {
     /// Cost: memory for new members alone.
     pub fn raise_all(&mut self, group: u32, pids: &[Pid], ended: &Ended) -> Result<(), AllocError>
         requires { is_used self.old.groups group ≡ true }
-        ensures ok { OnOk result (counts_in self.new.groups
-            ≡ counts_raised (counts_in self.old.groups) group pids.now (ended_of ended.now)) }
-        ensures err { OnErr result (IsPartlyRaised (counts_in self.old.groups) (counts_in self.new.groups) group
+        ensures ok { OnOk result (counts_by_number self.new.groups
+            ≡ counts_raised (counts_by_number self.old.groups) group pids.now (ended_of ended.now)) }
+        ensures err { OnErr result (IsPartlyRaised (counts_by_number self.old.groups) (counts_by_number self.new.groups) group
             pids.now (ended_of ended.now)) }
         ensures used { is_used self.new.groups ≡ is_used self.old.groups }
     {
@@ -154,8 +154,8 @@ impl Memberships {
     ///
     /// Cost: no memory.
     pub fn take_one(&mut self, group: u32, pid: &Pid)
-        ensures counts { counts_in self.new.groups
-            ≡ upd nat_eq (counts_in self.old.groups) group (with_one_less (counts_in self.old.groups group) pid.now) }
+        ensures counts { counts_by_number self.new.groups
+            ≡ upd nat_eq (counts_by_number self.old.groups) group (with_one_less (counts_by_number self.old.groups group) pid.now) }
         ensures used { is_used self.new.groups ≡ is_used self.old.groups }
     {
         let count = groups::take_one(&mut self.groups, group, pid);
@@ -170,7 +170,7 @@ impl Memberships {
     ///
     /// Cost: memory for each group, for each member with the name of its node, and for each listing.
     pub fn copy(&self) -> Result<Memberships, AllocError>
-        ensures counts { IfOk result (λ copy. counts_in copy.groups ≡ counts_in self.now.groups) }
+        ensures counts { IfOk result (λ copy. counts_by_number copy.groups ≡ counts_by_number self.now.groups) }
         ensures used { IfOk result (λ copy. is_used copy.groups ≡ is_used self.now.groups) }
     {
         let groups = self.groups.clone()?;
@@ -186,7 +186,7 @@ impl Memberships {
     ///
     /// Cost: no memory, and time for each member.
     pub fn close(&mut self, group: u32)
-        ensures counts { counts_in self.new.groups ≡ upd nat_eq (counts_in self.old.groups) group nobody }
+        ensures counts { counts_by_number self.new.groups ≡ upd nat_eq (counts_by_number self.old.groups) group nobody }
         ensures used { is_used self.new.groups ≡ upd nat_eq (is_used self.old.groups) group false }
     {
         if let Some(members) = self.groups.try_remove(group as usize) {
@@ -198,7 +198,7 @@ impl Memberships {
     ///
     /// Cost: no memory, and time for the groups of that pid alone.
     pub fn drop_pid(&mut self, pid: &Pid)
-        ensures counts { counts_in self.new.groups ≡ without_pid (counts_in self.old.groups) pid.now }
+        ensures counts { counts_by_number self.new.groups ≡ without_pid (counts_by_number self.old.groups) pid.now }
         ensures used { is_used self.new.groups ≡ is_used self.old.groups }
     {
         listings::drop_pid(&mut self.listings, &mut self.groups, pid);
@@ -208,7 +208,7 @@ impl Memberships {
     ///
     /// Cost: no memory, and time for what it removes.
     pub fn drop_node(&mut self, node: &Atom)
-        ensures counts { counts_in self.new.groups ≡ without_nodes (counts_in self.old.groups) node.now }
+        ensures counts { counts_by_number self.new.groups ≡ without_nodes (counts_by_number self.old.groups) node.now }
         ensures used { is_used self.new.groups ≡ is_used self.old.groups }
     {
         listings::drop_node(&mut self.listings, &mut self.groups, node);

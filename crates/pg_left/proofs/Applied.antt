@@ -15,7 +15,7 @@ use Rattle.pg_step.specs.Config.{Config, name_at, names_of}
 use Rattle.pg_step.specs.LossLaws.{LosingFrameWorld}
 use Rattle.pg_step.specs.Step.{Action}
 use Rattle.pg_history.specs.History.{Entry, answered_count, applied_by, entries, history, of_group, times, updates_of}
-use Rattle.pg_history.specs.WithLosses.{Marked, all_of, has_seen, left_of, left_out}
+use Rattle.pg_history.specs.WithLosses.{Marked, all_entries, has_seen, left_of, left_out}
 use Rattle.pg_history.proofs.places.Prefixes.{node_here}
 use Rattle.pg_history.proofs.places.Shown.{IsHere}
 use Rattle.pg_loss.specs.Reached.{LosingReaches}
@@ -30,14 +30,14 @@ use Rattle.pg_left.proofs.Passing.{EachKeeps}
 -- ---- marks
 
 -- none is left out, where none may be
-kept_whole : (among : ℕ → Bool) (marked : Marked) → ((node : ℕ) → left_out node marked ≤ cond {A = ℕ} (among node) 1 0) → AllByRecursion (λ (e : Entry). among e.node ≡ false) (all_of marked) → left_of marked ≡ all_of marked
+kept_whole : (among : ℕ → Bool) (marked : Marked) → ((node : ℕ) → left_out node marked ≤ cond {A = ℕ} (among node) 1 0) → AllByRecursion (λ (e : Entry). among e.node ≡ false) (all_entries marked) → left_of marked ≡ all_entries marked
 kept_whole among [] few all = refl
 kept_whole among (m ∷ ms) few all = go m.1 refl (kept_whole among ms fewer all.1)
   where
     fewer : (node : ℕ) → left_out node ms ≤ cond {A = ℕ} (among node) 1 0
     fewer node = let f = few node in omega (arith, f)
 
-    go : (b : Bool) → m.1 ≡ b → left_of ms ≡ all_of ms → cond m.1 (m.0 ∷ left_of ms) (left_of ms) ≡ m.0 ∷ all_of ms
+    go : (b : Bool) → m.1 ≡ b → left_of ms ≡ all_entries ms → cond m.1 (m.0 ∷ left_of ms) (left_of ms) ≡ m.0 ∷ all_entries ms
     go true is rest = ap (λ b. cond b (m.0 ∷ left_of ms) (left_of ms)) is ∙ ap (λ xs. m.0 ∷ xs) rest
     go false is rest =
         let out : cond {A = ℕ} (nat_eq m.0.node m.0.node && cond m.1 false true) 1 0 ≡ 1 = (λ k. cond {A = ℕ} (eq-eqb m.0.node m.0.node refl k && cond (is k) false true) 1 0) in

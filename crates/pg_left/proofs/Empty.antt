@@ -24,7 +24,7 @@ use Rattle.pg_step.specs.Step.{Action}
 use Rattle.pg_step.specs.Turns.{Report}
 use Rattle.pg_history.specs.History.{Entry, answered_count, applied_by, entries, entry_of}
 use Rattle.pg_history.specs.History.{history, of_group, update_by, update_of, updates_of}
-use Rattle.pg_history.specs.WithLosses.{Marked, Thinned, all_of, left_of}
+use Rattle.pg_history.specs.WithLosses.{Marked, Thinned, all_entries, left_of}
 use Rattle.pg_history.proofs.places.Shown.{IsHere}
 use Rattle.pg_history.proofs.references.Keys.{terms}
 use Rattle.pg_history.proofs.steps.Grows.{entries_append}
@@ -41,7 +41,7 @@ use Rattle.pg_left.proofs.Unlocked.{began_formed, waits}
 
 -- ---- lists
 
-none_kept : (marked : Marked) → all_of marked ≡ [] → left_of marked ≡ []
+none_kept : (marked : Marked) → all_entries marked ≡ [] → left_of marked ≡ []
 none_kept [] e = refl
 none_kept (m ∷ ms) e = absurd (cc)
 

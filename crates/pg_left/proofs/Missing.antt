@@ -37,7 +37,7 @@ use Rattle.pg_step.specs.Turns.{Report, nothing}
 use Rattle.pg_history.specs.Exclusive.{IsUpdateOf}
 use Rattle.pg_history.specs.History.{Entry, answered_count, applied_by, entries, entry_of, history, is_op}
 use Rattle.pg_history.specs.History.{is_update_of, of_group, update_by, update_of, updates_of}
-use Rattle.pg_history.specs.WithLosses.{Marked, all_of, left_of, left_out}
+use Rattle.pg_history.specs.WithLosses.{Marked, all_entries, left_of, left_out}
 use Rattle.pg_history.proofs.ends.Apart.{pair_second}
 use Rattle.pg_history.proofs.locks.Kept.{IsOpOf, carried, live_own, near, near_swap}
 use Rattle.pg_history.proofs.places.Prefixes.{answers_shown}
@@ -95,7 +95,7 @@ last_marked [] e b = refl
 last_marked (x ∷ []) e b = refl
 last_marked (x ∷ y ∷ xs) e b = ap (λ zs. x ∷ zs) (last_marked (y ∷ xs) e b)
 
-same_entries : (xs : Marked) → all_of (last_applied xs) ≡ all_of xs
+same_entries : (xs : Marked) → all_entries (last_applied xs) ≡ all_entries xs
 same_entries [] = refl
 same_entries (x ∷ []) = refl
 same_entries (x ∷ y ∷ xs) = ap (λ zs. x.0 ∷ zs) (same_entries (y ∷ xs))
@@ -137,27 +137,27 @@ module _ (i : ℕ) (name : Term) where
           let one : u ≡ v = some_is same in
           absurd (cc (sym is ∙ same_is same_term terms name (name_of u) (sym named ∙ ap name_of (sym one)))))
 
-  entries_after : (x : ℕ) (o : Option (OpId × Update)) (b : Bool) (ms : Marked) → all_of (marked_after (of_group name (entry_of x o)) b ms) ≡ all_of ms ++ of_group name (entry_of x o)
+  entries_after : (x : ℕ) (o : Option (OpId × Update)) (b : Bool) (ms : Marked) → all_entries (marked_after (of_group name (entry_of x o)) b ms) ≡ all_entries ms ++ of_group name (entry_of x o)
   entries_after x o b ms = go (of_group name (entry_of x o)) (begins x o) b
     where
-      none : (b : Bool) → all_of (marked_after [] b ms) ≡ all_of ms ++ []
-      none true = same_entries ms ∙ sym (append-nil (all_of ms))
-      none false = sym (append-nil (all_of ms))
+      none : (b : Bool) → all_entries (marked_after [] b ms) ≡ all_entries ms ++ []
+      none true = same_entries ms ∙ sym (append-nil (all_entries ms))
+      none false = sym (append-nil (all_entries ms))
 
-      go : (es : List Entry) → Begun x o es → (b : Bool) → all_of (marked_after es b ms) ≡ all_of ms ++ es
-      go es (NoneBegun is never) b = subst (λ zs. all_of (marked_after zs b ms) ≡ all_of ms ++ zs) (sym is) (none b)
-      go es (OneBegun op u some named is) b = subst (λ zs. all_of (marked_after zs b ms) ≡ all_of ms ++ zs) (sym is) (map-append (λ m. m.0) ms ((record { node = x; op = op; update = u }, b) ∷ []))
+      go : (es : List Entry) → Begun x o es → (b : Bool) → all_entries (marked_after es b ms) ≡ all_entries ms ++ es
+      go es (NoneBegun is never) b = subst (λ zs. all_entries (marked_after zs b ms) ≡ all_entries ms ++ zs) (sym is) (none b)
+      go es (OneBegun op u some named is) b = subst (λ zs. all_entries (marked_after zs b ms) ≡ all_entries ms ++ zs) (sym is) (map-append (λ m. m.0) ms ((record { node = x; op = op; update = u }, b) ∷ []))
 
   -- the marked entries are the history
-  entries_from : (ts : List (ℕ × Report)) (ms : Marked) → all_of (marks_from i name ms ts) ≡ all_of ms ++ history name ts
-  entries_from [] ms = sym (append-nil (all_of ms))
+  entries_from : (ts : List (ℕ × Report)) (ms : Marked) → all_entries (marks_from i name ms ts) ≡ all_entries ms ++ history name ts
+  entries_from [] ms = sym (append-nil (all_entries ms))
   entries_from (t ∷ ts) ms =
       entries_from ts (marked_after (of_group name (entry_of t.0 t.1.began)) (applies i name t) ms)
       ∙ (ap (λ zs. zs ++ history name ts) (entries_after t.0 t.1.began (applies i name t) ms)
-      ∙ (append_assoc (all_of ms) (of_group name (entry_of t.0 t.1.began)) (history name ts)
-      ∙ ap (λ zs. all_of ms ++ zs) (sym (of_group_append name (entry_of t.0 t.1.began) (entries ts)))))
+      ∙ (append_assoc (all_entries ms) (of_group name (entry_of t.0 t.1.began)) (history name ts)
+      ∙ ap (λ zs. all_entries ms ++ zs) (sym (of_group_append name (entry_of t.0 t.1.began) (entries ts)))))
 
-  pub marked_history : (ts : List (ℕ × Report)) → all_of (marks i name ts) ≡ history name ts
+  pub marked_history : (ts : List (ℕ × Report)) → all_entries (marks i name ts) ≡ history name ts
   marked_history ts = entries_from ts []
 
 -- a turn of another node answers nothing of this one
@@ -384,8 +384,8 @@ module _ (config : Config) (apart : IsDistinct same_atom (names_of config)) (i :
         (m.0, all.sent y ∙ ap (λ zs. w.world.wire (node_of d) y ++ zs) m.1, m.2)
 
     -- the history behind the turn, by its last entry
-    history_is : (front : Marked) (e : Entry) (b : Bool) → marks i name v.world.reported ≡ front ++ (e, b) ∷ [] → history name v.world.reported ≡ all_of front ++ e ∷ []
-    history_is front e b is = sym (marked_history i name v.world.reported) ∙ (ap all_of is ∙ map-append (λ m. m.0) front ((e, b) ∷ []))
+    history_is : (front : Marked) (e : Entry) (b : Bool) → marks i name v.world.reported ≡ front ++ (e, b) ∷ [] → history name v.world.reported ≡ all_entries front ++ e ∷ []
+    history_is front e b is = sym (marked_history i name v.world.reported) ∙ (ap all_entries is ∙ map-append (λ m. m.0) front ((e, b) ∷ []))
 
     near_now : (p : ℕ) → IsHere config p → (v.world.node i).lost (name_at config p) ≡ false → near bv.has.world (name_at config p) (name_at config i)
     near_now p there unseen = near_at config apart v bv.has i p here there lived unseen
@@ -472,7 +472,7 @@ module _ (config : Config) (apart : IsDistinct same_atom (names_of config)) (i :
             go : (l.e.node ≡ node_of d) ⊎ (l.e.node ≡ node_of d → ⊥) → LastDue v ms
             go (inl same) =
                 let g = way_now (ap (λ (f : ℕ → Bool). f l.e.node) same_gone ∙ (ap w.gone same ∙ alive)) in
-                let b = bringing config apart name v bv l.e.node i l.there here l.other (near_now l.e.node l.there unseen_now) unseen_now g (all_of l.front) l.e l.there (history_is l.front l.e false (are ∙ l.is)) lived in
+                let b = bringing config apart name v bv l.e.node i l.there here l.other (near_now l.e.node l.there unseen_now) unseen_now g (all_entries l.front) l.e l.there (history_is l.front l.e false (are ∙ l.is)) lived in
                 record { front = l.front; e = l.e; is = l.is; good = good_same l.front l.good; there = l.there; other = l.other; unseen = unseen_now; way = way_now; number = b.number; used = b.used; op = b.op }
             go (inr apart_is) = record {
               front = l.front;
@@ -509,7 +509,7 @@ module _ (config : Config) (apart : IsDistinct same_atom (names_of config)) (i :
 
         kept_one : marks i name v.world.reported ≡ ms ++ (entry, false) ∷ [] → AllTaken w ms ⊎ LastDue w ms → LastDue v (ms ++ (entry, false) ∷ [])
         kept_one are (inl t) =
-            let b = bringing config apart name v bv (node_of d) i x_here here other (near_now (node_of d) x_here x_unseen) x_unseen brings_it (all_of ms) entry x_here (history_is ms entry false are) lived in
+            let b = bringing config apart name v bv (node_of d) i x_here here other (near_now (node_of d) x_here x_unseen) x_unseen brings_it (all_entries ms) entry x_here (history_is ms entry false are) lived in
             record {
               front = ms;
               e = entry;
@@ -804,8 +804,8 @@ module _ (config : Config) (apart : IsDistinct same_atom (names_of config)) (i :
 
             module _ (l : LastDue w ms) where
               it_is : Bringing config apart name w bw p i p_here here p_other (near_then p p_here p_unseen) p_unseen l.e u
-              it_is = bringing config apart name w bw p i p_here here p_other (near_then p p_here p_unseen) p_unseen it_brings (all_of l.front) l.e l.there
-                  (sym (marked_history i name w.world.reported) ∙ (ap all_of l.is ∙ map-append (λ m. m.0) l.front ((l.e, false) ∷ []))) lives
+              it_is = bringing config apart name w bw p i p_here here p_other (near_then p p_here p_unseen) p_unseen it_brings (all_entries l.front) l.e l.there
+                  (sym (marked_history i name w.world.reported) ∙ (ap all_entries l.is ∙ map-append (λ m. m.0) l.front ((l.e, false) ∷ []))) lives
 
               are_taken : marks i name v.world.reported ≡ l.front ++ (l.e, true) ∷ []
               are_taken = marks_own [] true empty (ap (is_update_of name) applied_ ∙ yes_) ∙ (ap last_applied l.is ∙ last_marked l.front l.e false)

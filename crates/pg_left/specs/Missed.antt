@@ -14,7 +14,7 @@ use Rattle.pg_step.specs.Step.{Action}
 use Rattle.pg_step.specs.Turns.{Report}
 use Rattle.pg_history.specs.History.{Entry, answered_count, applied_by, entry_of, history, is_update_of, known}
 use Rattle.pg_history.specs.History.{of_group, replay, updates_of}
-use Rattle.pg_history.specs.WithLosses.{Marked, all_of, has_seen, left_of}
+use Rattle.pg_history.specs.WithLosses.{Marked, all_entries, has_seen, left_of}
 use Rattle.pg_left.specs.Heard.{Heard}
 
 -- ---- which entries a node has applied
@@ -78,7 +78,7 @@ count_of node (e ∷ es) = cond (nat_eq e.node node) 1 0 + count_of node es
 -- What the losses that node i has seen took along of a group.
 pub record TakenAlong (config : Config) (events : List (LosingEvent Action)) (w : LosingFrameWorld) (i : ℕ) (name : Term) : Type 0 where
   -- the marked entries are the history, and those that it has applied have the updates that it reported, in their order
-  pub whole : all_of (marks i name w.world.reported) ≡ history name w.world.reported
+  pub whole : all_entries (marks i name w.world.reported) ≡ history name w.world.reported
   pub applied : updates_of (has_applied w i name) ≡ applied_by i name w.world.reported
   -- it has applied the history without those that it missed, or all of that but the last entry
   pub others : (has_applied w i name ≡ not_missed config w i name) ⊎ ((last : Entry) × (has_applied w i name ++ last ∷ [] ≡ not_missed config w i name))

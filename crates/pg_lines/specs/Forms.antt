@@ -6,7 +6,7 @@ use Rattle.pg_term.specs.declared.term.Term.{Term}
 use Rattle.pg_step.specs.declared.command.Command.{Command}
 use Rattle.pg_step.specs.declared.command.Command.TheVariants.{Create, Delete, Join, Leave, Make, Finish}
 use Rattle.pg_step.specs.declared.command.Command.TheVariants.{Members, LocalMembers, WhichGroups, Closest}
-use Rattle.pg_text.specs.Reading.{atom_of, term_of, pid_of, number_of}
+use Rattle.pg_text.specs.Reading.{atom_from_text, term_of, pid_of, number_of}
 use Rattle.pg_lines.specs.declared.forms.TheConstants.{MAX_MOVED, MAX_ROUNDS}
 use Rattle.pg_lines.specs.declared.keyword.Keyword.{Keyword}
 use Rattle.pg_lines.specs.declared.keyword.Keyword.TheVariants as keyword
@@ -51,7 +51,7 @@ first_as value [] = None
 first_as value (word ∷ words) = with_rest words (value (chars word))
 
 abbrev pub atom_in : List (List ℕ) → Worded (List ℕ)
-atom_in = first_as atom_of
+atom_in = first_as atom_from_text
 
 abbrev pub term_in : List (List ℕ) → Worded Term
 term_in = first_as term_of

@@ -12,11 +12,11 @@ use Rattle.pg_step.specs.LossLaws.{LosingFrameWorld}
 use Rattle.pg_step.specs.State.{State}
 use Rattle.pg_step.specs.Nodes.{Node}
 use Rattle.pg_history.specs.History.{Entry, answered_count, history, updates_of}
-use Rattle.pg_history.specs.WithLosses.{Marked, all_of, has_seen, left_of, left_out}
+use Rattle.pg_history.specs.WithLosses.{Marked, all_entries, has_seen, left_of, left_out}
 use Rattle.pg_history.proofs.locks.Kept.{Excused, Tale, answers_of}
 use Rattle.pg_history.proofs.locks.Named.{World, Entry as Named, of_name, on, updates}
 use Rattle.pg_history.proofs.locks.Thins.{EachMissed, Marks, Thin, kept_of, misses}
-use Rattle.pg_history.proofs.locks.Thins.{all_of as all_named}
+use Rattle.pg_history.proofs.locks.Thins.{all_entries as all_named}
 use Rattle.pg_history.proofs.locks.Unique.{update_holds, update_is}
 use Rattle.pg_history.proofs.places.Prefixes.{answers_shown, group_shown, node_here}
 use Rattle.pg_history.proofs.places.Shown.{IsHere, by_name}
@@ -36,7 +36,7 @@ module _ (config : Config) where
   -- marks of entries by names, of entries by places
   record Unnamed (F : Named → Type 0) (ms : Marks) (es : List Entry) : Type 0 where
     marked : Marked
-    all : all_of marked ≡ es
+    all : all_entries marked ≡ es
     kept : updates_of (left_of marked) ≡ updates (kept_of ms)
     few : (node : ℕ) → left_out node marked ≤ misses (name_at config node) ms
     each : EachOut (λ e. F (by_name config e)) marked
@@ -98,7 +98,7 @@ module _ (config : Config) where
       more head (first, d, all, named, is) = (e ∷ first, d, ap (λ xs. e ∷ xs) all, (λ k. head k ∷ named k), is)
 
 -- an entry that has no excuse stays
-stays_there : (F : Entry → Type 0) (marked : Marked) (first rest : List Entry) (e : Entry) → all_of marked ≡ first ++ e ∷ rest → EachOut F marked → (F e → ⊥)
+stays_there : (F : Entry → Type 0) (marked : Marked) (first rest : List Entry) (e : Entry) → all_entries marked ≡ first ++ e ∷ rest → EachOut F marked → (F e → ⊥)
     → (kept : List Entry) × (later : List Entry) × (left_of marked ≡ kept ++ e ∷ later)
 stays_there F [] [] rest e same each none = absurd (cc)
 stays_there F [] (x ∷ first) rest e same each none = absurd (cc)
@@ -111,7 +111,7 @@ stays_there F (m ∷ ms) [] rest e same each none = go m.1 each.0
     go true _ = ([], left_of ms, ap (λ x. x ∷ left_of ms) head)
     go false out = absurd (none (subst F head out))
 stays_there F (m ∷ ms) (x ∷ first) rest e same each none =
-    let tail : all_of ms ≡ first ++ e ∷ rest = cc same in
+    let tail : all_entries ms ≡ first ++ e ∷ rest = cc same in
     let later = stays_there F ms first rest e tail each.1 none in
     go m.1 later.0 later.1 later.2
   where

@@ -25,9 +25,9 @@ use Rattle.pg_message.specs.declared.packet.TheConstants.{MAX_STAMP}
 use Rattle.pg_message.specs.Name.{is_name}
 use Rattle.pg_message.specs.Parts.{elements_of, items_of, is_word, atom_of, reference_of, pid_of}
 use Rattle.pg_message.specs.Reading.{Groups, request_on, request_in, membership_of, request_of}
-use Rattle.pg_message.specs.Reading.{said_of, all_of, group_in, group_of, is_named_once, named_once}
+use Rattle.pg_message.specs.Reading.{said_of, read_each, group_in, group_of, is_named_once, named_once}
 use Rattle.pg_message.specs.Reading.{groups_of, freed, read_exchange, cast_in, cast_of, referred}
-use Rattle.pg_message.specs.Reading.{message_in, message_of, stamp_of, stamped, packet_in, packet_of}
+use Rattle.pg_message.specs.Reading.{message_in, message_of, stamp_of, stamped_message, packet_in, packet_of}
 use Rattle.pg_message.specs.Writing.{pair, triple, request_term, said_term, group_term}
 use Rattle.pg_message.specs.Writing.{message_term, term_of_packet, is_sayable, sendable}
 
@@ -99,16 +99,16 @@ said_back Applied = said_words (codes "ok")
 
 -- ---- what an exchange tells
 
-pids_back : (ps : List Pid) → all_of pid_of (map Process ps) ≡ Some ps
+pids_back : (ps : List Pid) → read_each pid_of (map Process ps) ≡ Some ps
 pids_back [] = refl
 pids_back (p ∷ ps) =
-    ap (option_and_then (λ x. option_map (λ xs. x ∷ xs) (all_of pid_of (map Process ps)))) (pid_is p) ∙ ap (option_map (λ xs. p ∷ xs)) (pids_back ps)
+    ap (option_and_then (λ x. option_map (λ xs. x ∷ xs) (read_each pid_of (map Process ps)))) (pid_is p) ∙ ap (option_map (λ xs. p ∷ xs)) (pids_back ps)
 
 group_back : (g : Term × List Pid) → group_of (group_term g) ≡ cond (is_name g.0) (Some g) None
 group_back g =
     let tell = λ (o : Option (List Pid)). cond (is_name g.0) (option_map (λ pids. (g.0, pids)) o) None in
     ap (option_and_then group_in) (items_is (g.0 ∷ Listed (map Process g.1) ∷ []))
-    ∙ ap (λ (o : Option (List Term)). tell (option_and_then (all_of pid_of) o)) (items_is (map Process g.1))
+    ∙ ap (λ (o : Option (List Term)). tell (option_and_then (read_each pid_of) o)) (items_is (map Process g.1))
     ∙ ap tell (pids_back g.1)
 
 both : (b c : Bool) (g : Term × List Pid) (gs : Groups) → option_and_then (λ x. option_map (λ xs. x ∷ xs) (cond c (Some gs) None)) (cond b (Some g) None) ≡ cond (b && c) (Some (g ∷ gs)) None
@@ -116,7 +116,7 @@ both true true g gs = refl
 both true false g gs = refl
 both false c g gs = refl
 
-all_back : (gs : Groups) → all_of group_of (map group_term gs) ≡ cond (list_all (λ g. is_name g.0) gs) (Some gs) None
+all_back : (gs : Groups) → read_each group_of (map group_term gs) ≡ cond (list_all (λ g. is_name g.0) gs) (Some gs) None
 all_back [] = refl
 all_back (g ∷ gs) =
     (λ i. option_and_then (λ x. option_map (λ xs. x ∷ xs) (all_back gs i)) (group_back g i)) ∙ both (is_name g.0) (list_all (λ g. is_name g.0) gs) g gs
@@ -131,7 +131,7 @@ kept false gs = refl
 
 groups_back : (gs : Groups) → groups_of (Listed (map group_term gs)) ≡ cond (list_all (λ g. is_name g.0) gs && is_named_once gs) (Some gs) None
 groups_back gs =
-    ap (λ (o : Option (List Term)). option_and_then named_once (option_and_then (all_of group_of) o)) (items_is (map group_term gs))
+    ap (λ (o : Option (List Term)). option_and_then named_once (option_and_then (read_each group_of) o)) (items_is (map group_term gs))
     ∙ ap (option_and_then named_once) (all_back gs) ∙ kept (list_all (λ g. is_name g.0) gs) gs
 
 -- ---- messages
@@ -181,7 +181,7 @@ message_back (Down p) = refers_not (codes "down") (Process p) ∙ ap (option_map
 stamp_back : (n : ℕ) → stamp_of (Int (pos n)) ≡ cond (nat_le n MAX_STAMP) (Ok n) (Err faults.StampTooLarge)
 stamp_back n = search (rules, the_lemmas)
 
-settled : (b c : Bool) (n : ℕ) (m : Message) → stamped (cond b (Some m) None) (cond c (Ok n) (Err faults.StampTooLarge))
+settled : (b c : Bool) (n : ℕ) (m : Message) → stamped_message (cond b (Some m) None) (cond c (Ok n) (Err faults.StampTooLarge))
     ≡ cond b (cond c (Ok (record { stamp = n; message = m })) (Err faults.StampTooLarge)) (Err faults.NotAMessage)
 settled true true n m = refl
 settled true false n m = refl
@@ -190,5 +190,5 @@ settled false c n m = refl
 pub read_back : (p : Packet) → packet_of (term_of_packet p) ≡ sendable p
 read_back p =
     ap packet_in (elements_is (Int (pos p.stamp) ∷ message_term p.message ∷ []))
-    ∙ (λ i. stamped (message_back p.message i) (stamp_back p.stamp i))
+    ∙ (λ i. stamped_message (message_back p.message i) (stamp_back p.stamp i))
     ∙ settled (is_sayable p.message) (nat_le p.stamp MAX_STAMP) p.stamp p.message

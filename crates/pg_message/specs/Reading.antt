@@ -70,13 +70,13 @@ abbrev pub Groups : Type 0
 Groups = List (Term × List Pid)
 
 -- what terms are one after the other, where each of them is something
-abbrev pub all_of : {A : Type 0} → (Term → Option A) → List Term → Option (List A)
-all_of read [] = Some []
-all_of read (t ∷ ts) = option_and_then (λ x. option_map (λ xs. x ∷ xs) (all_of read ts)) (read t)
+abbrev pub read_each : {A : Type 0} → (Term → Option A) → List Term → Option (List A)
+read_each read [] = Some []
+read_each read (t ∷ ts) = option_and_then (λ x. option_map (λ xs. x ∷ xs) (read_each read ts)) (read t)
 
 -- [Name, Members]
 abbrev pub group_in : List Term → Option (Term × List Pid)
-group_in (name ∷ members ∷ []) = if is_name name then option_map (λ pids. (name, pids)) (option_and_then (all_of pid_of) (items_of members)) else None
+group_in (name ∷ members ∷ []) = if is_name name then option_map (λ pids. (name, pids)) (option_and_then (read_each pid_of) (items_of members)) else None
 group_in _ = None
 
 abbrev pub group_of : Term → Option (Term × List Pid)
@@ -91,7 +91,7 @@ abbrev pub named_once : Groups → Option Groups
 named_once groups = if is_named_once groups then Some groups else None
 
 abbrev pub groups_of : Term → Option Groups
-groups_of t = option_and_then named_once (option_and_then (all_of group_of) (items_of t))
+groups_of t = option_and_then named_once (option_and_then (read_each group_of) (items_of t))
 
 -- ---- messages
 
@@ -146,14 +146,14 @@ abbrev pub stamp_of : Term → Result ℕ MessageFault
 stamp_of t = stamp_in (out-Term t)
 
 -- what is wrong with the stamp is told only where all else is right
-abbrev pub stamped : Option Message → Result ℕ MessageFault → Result Packet MessageFault
-stamped None stamp = Err faults.NotAMessage
-stamped (Some message) (Ok stamp) = Ok (record { stamp = stamp; message = message })
-stamped (Some message) (Err fault) = Err fault
+abbrev pub stamped_message : Option Message → Result ℕ MessageFault → Result Packet MessageFault
+stamped_message None stamp = Err faults.NotAMessage
+stamped_message (Some message) (Ok stamp) = Ok (record { stamp = stamp; message = message })
+stamped_message (Some message) (Err fault) = Err fault
 
 -- {Stamp, Message}
 abbrev pub packet_in : Option (List Term) → Result Packet MessageFault
-packet_in (Some (stamp ∷ message ∷ [])) = stamped (message_of message) (stamp_of stamp)
+packet_in (Some (stamp ∷ message ∷ [])) = stamped_message (message_of message) (stamp_of stamp)
 packet_in _ = Err faults.NotAMessage
 
 -- the packet that a term is, or why it is none

@@ -10,7 +10,7 @@ use Rattle.std.proofs.lemmas.Bool.{eqb-true}
 use Rattle.pg_term.specs.declared.fault.TermFault.{TermFault}
 use Rattle.pg_term.specs.declared.pid.Pid.{Pid}
 use Rattle.pg_term.specs.declared.term.Term.{Term}
-use Rattle.pg_term.specs.Fault.{Gives, atom_of}
+use Rattle.pg_term.specs.Fault.{Gives, checked_atom}
 use Rattle.pg_term.specs.Same.{same_atom}
 use Rattle.pg_group.specs.Table.{Table}
 use Rattle.pg_group.specs.Value.{count_in}
@@ -35,19 +35,19 @@ unfolding chars
 nothing = refl
 
 -- the name of this letter is not the empty one
-pub letter_apart : (r : Result (List ℕ) TermFault) (name : List ℕ) → Gives (λ a. a) r (atom_of (chars (97 ∷ []))) → name ≡ [] → IfOk r (λ other. same_atom other name ≡ false)
+pub letter_apart : (r : Result (List ℕ) TermFault) (name : List ℕ) → Gives (λ a. a) r (checked_atom (chars (97 ∷ []))) → name ≡ [] → IfOk r (λ other. same_atom other name ≡ false)
 letter_apart (Ok other) name gives none = (λ i. same_atom (is i) (none i))
   where
     is : other ≡ 97 ∷ []
-    is = let given : Ok other ≡ atom_of (97 ∷ []) = sym gives ∙ ap atom_of letter in cc
+    is = let given : Ok other ≡ checked_atom (97 ∷ []) = sym gives ∙ ap checked_atom letter in cc
 letter_apart (Err fault) name gives none = tt
 
 -- the empty name is none that has characters
-pub empty_apart : (r : Result (List ℕ) TermFault) (name : List ℕ) → Gives (λ a. a) r (atom_of (chars [])) → (name ≡ [] → ⊥) → IfOk r (λ other. same_atom other name ≡ false)
+pub empty_apart : (r : Result (List ℕ) TermFault) (name : List ℕ) → Gives (λ a. a) r (checked_atom (chars [])) → (name ≡ [] → ⊥) → IfOk r (λ other. same_atom other name ≡ false)
 empty_apart (Ok other) name gives some = go name some
   where
     is : other ≡ []
-    is = let given : Ok other ≡ atom_of [] = sym gives ∙ ap atom_of nothing in cc
+    is = let given : Ok other ≡ checked_atom [] = sym gives ∙ ap checked_atom nothing in cc
 
     go : (name : List ℕ) → (name ≡ [] → ⊥) → same_atom other name ≡ false
     go [] some = absurd (some refl)

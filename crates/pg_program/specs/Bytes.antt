@@ -1,6 +1,6 @@
 -- What becomes of an input that is served by a node of a given name.
 use Rattle.std.specs.Prelude.{◌≡◌, ◌⊎◌, ⊤, ℕ, List, Option, Result, Ok, Err}
-use Rattle.pg_term.specs.Fault.{atom_of}
+use Rattle.pg_term.specs.Fault.{checked_atom}
 use Rattle.pg_term.specs.declared.fault.TermFault.TheVariants.{BadAtom, OutOfMemory}
 use Rattle.pg_message.specs.declared.fault.MessageFault.TheVariants.{Term}
 use Rattle.pg_replica.specs.Causes.{Cause}
@@ -15,12 +15,12 @@ pair_of_texts own peer = record { own = own; peer = peer }
 
 -- a text is no name: it is too long; or there was no memory
 abbrev pub NameFault : List ℕ → BytesFault → Type 0
-NameFault text (Names number) = (number ≡ 6) × (atom_of text ≡ Err BadAtom)
+NameFault text (Names number) = (number ≡ 6) × (checked_atom text ≡ Err BadAtom)
 NameFault text (Serve fault) = fault ≡ Message (Term OutOfMemory)
 
 -- two texts are no names of two nodes: one is too long, or they are equal; or there was no memory
 abbrev pub NamesFault : List ℕ → List ℕ → BytesFault → Type 0
-NamesFault own peer (Names number) = ((number ≡ 6) × ((atom_of own ≡ Err BadAtom) ⊎ (atom_of peer ≡ Err BadAtom))) ⊎ ((number ≡ 15) × (own ≡ peer))
+NamesFault own peer (Names number) = ((number ≡ 6) × ((checked_atom own ≡ Err BadAtom) ⊎ (checked_atom peer ≡ Err BadAtom))) ⊎ ((number ≡ 15) × (own ≡ peer))
 NamesFault own peer (Serve fault) = fault ≡ Message (Term OutOfMemory)
 
 -- an input was served; or the names are none, and nothing was written

@@ -3,7 +3,7 @@ use Rattle.std.proofs.Common.{◌≡◌, List, [], ◌∷◌, ◌++◌, reverse,
 use Rattle.std.specs.Option.{option_map, option_and_then}
 use Rattle.std.proofs.lemmas.List.{reverse-append, reverse-reverse, append-nil}
 use Rattle.pg_term.specs.declared.term.Term.{Term}
-use Rattle.pg_message.specs.Reading.{all_of}
+use Rattle.pg_message.specs.Reading.{read_each}
 
 -- those that were found, and those to come
 abbrev pub following : {A : Type 0} → List A → Option (List A) → Option (List A)
@@ -14,8 +14,8 @@ module _ {A : Type 0} (read : Term → Option A) where
   following_none None = refl
   following_none (Some xs) = refl
 
-  pub started : (ts rest : List Term) → rest ≡ reverse ts → following [] (all_of read (reverse rest)) ≡ all_of read ts
-  started ts rest e = following_none (all_of read (reverse rest)) ∙ ap (λ (us : List Term). all_of read (reverse us)) e ∙ ap (all_of read) (reverse-reverse ts)
+  pub started : (ts rest : List Term) → rest ≡ reverse ts → following [] (read_each read (reverse rest)) ≡ read_each read ts
+  started ts rest e = following_none (read_each read (reverse rest)) ∙ ap (λ (us : List Term). read_each read (reverse us)) e ∙ ap (read_each read) (reverse-reverse ts)
 
   turned : (rest left : List Term) (t : Term) → rest ≡ left ++ t ∷ [] → reverse rest ≡ t ∷ reverse left
   turned rest left t e = ap reverse e ∙ reverse-append left (t ∷ [])
@@ -25,16 +25,16 @@ module _ {A : Type 0} (read : Term → Option A) where
   one_more front x (Some xs) = ap Some (sym (append_assoc front (x ∷ []) xs))
 
   module _ (rest left : List Term) (t : Term) (e : rest ≡ left ++ t ∷ []) (front : List A) where
-    pub took : (x : A) → read t ≡ Some x → following front (all_of read (reverse rest)) ≡ following (front ++ x ∷ []) (all_of read (reverse left))
+    pub took : (x : A) → read t ≡ Some x → following front (read_each read (reverse rest)) ≡ following (front ++ x ∷ []) (read_each read (reverse left))
     took x h =
-        ap (λ (us : List Term). following front (all_of read us)) (turned rest left t e)
-        ∙ ap (λ (o : Option A). following front (option_and_then (λ y. option_map (λ ys. y ∷ ys) (all_of read (reverse left))) o)) h
-        ∙ one_more front x (all_of read (reverse left))
+        ap (λ (us : List Term). following front (read_each read us)) (turned rest left t e)
+        ∙ ap (λ (o : Option A). following front (option_and_then (λ y. option_map (λ ys. y ∷ ys) (read_each read (reverse left))) o)) h
+        ∙ one_more front x (read_each read (reverse left))
 
-    pub stopped : read t ≡ None → following front (all_of read (reverse rest)) ≡ None
+    pub stopped : read t ≡ None → following front (read_each read (reverse rest)) ≡ None
     stopped h =
-        ap (λ (us : List Term). following front (all_of read us)) (turned rest left t e)
-        ∙ ap (λ (o : Option A). following front (option_and_then (λ y. option_map (λ ys. y ∷ ys) (all_of read (reverse left))) o)) h
+        ap (λ (us : List Term). following front (read_each read us)) (turned rest left t e)
+        ∙ ap (λ (o : Option A). following front (option_and_then (λ y. option_map (λ ys. y ∷ ys) (read_each read (reverse left))) o)) h
 
-  pub finished : (rest : List Term) (front : List A) → rest ≡ [] → following front (all_of read (reverse rest)) ≡ Some front
-  finished rest front e = ap (λ (us : List Term). following front (all_of read (reverse us))) e ∙ ap Some (append-nil front)
+  pub finished : (rest : List Term) (front : List A) → rest ≡ [] → following front (read_each read (reverse rest)) ≡ Some front
+  finished rest front e = ap (λ (us : List Term). following front (read_each read (reverse us))) e ∙ ap Some (append-nil front)

@@ -17,9 +17,9 @@ use Rattle.pg_message.specs.declared.packet.Packet.{Packet}
 use Rattle.pg_message.specs.Members.{HasFewMembers, IsShort}
 use Rattle.pg_message.specs.Name.{is_name}
 use Rattle.pg_message.specs.Parts.{tuple_in, elements_of, list_in, items_of, is_word, atom_of, reference_of, pid_of}
-use Rattle.pg_message.specs.Reading.{Groups, request_of, said_of, all_of, group_in, group_of, is_named_once}
+use Rattle.pg_message.specs.Reading.{Groups, request_of, said_of, read_each, group_in, group_of, is_named_once}
 use Rattle.pg_message.specs.Reading.{named_once, groups_of, freed, read_exchange, cast_in, cast_of, referred}
-use Rattle.pg_message.specs.Reading.{unreferred, message_in, message_of, stamp_of, stamped, packet_in, SpellsPacket}
+use Rattle.pg_message.specs.Reading.{unreferred, message_in, message_of, stamp_of, stamped_message, packet_in, SpellsPacket}
 
 -- ---- what an answer comes from
 
@@ -65,11 +65,11 @@ items_light t ts e = rw (weight_out t) (list_parts (out-Term t) ts e)
 -- ---- members
 
 -- each of the values comes from a term of its own
-pids_few : (ts : List Term) (ps : List Pid) → all_of pid_of ts ≡ Some ps → length ps ≤ total_weight ts
+pids_few : (ts : List Term) (ps : List Pid) → read_each pid_of ts ≡ Some ps → length ps ≤ total_weight ts
 pids_few [] ps e = omega (arith, ap length (same_Some [] ps e))
 pids_few (t ∷ ts) ps e =
-    option_and_then_some (λ p. option_map (λ ps. p ∷ ps) (all_of pid_of ts)) (pid_of t) ps e (λ p is more.
-    mapped (λ ps. p ∷ ps) (all_of pid_of ts) ps more (λ qs rest same.
+    option_and_then_some (λ p. option_map (λ ps. p ∷ ps) (read_each pid_of ts)) (pid_of t) ps e (λ p is more.
+    mapped (λ ps. p ∷ ps) (read_each pid_of ts) ps more (λ qs rest same.
     omega (arith, ap length same, pids_few ts qs rest, weight_some t)))
 
 told : (ts : List Term) (g : Term × List Pid) → group_in ts ≡ Some g → length g.1 ≤ total_weight ts
@@ -77,26 +77,26 @@ told [] g e = absurd cc
 told (n ∷ []) g e = absurd cc
 told (n ∷ t ∷ u ∷ ts) g e = absurd cc
 told (n ∷ t ∷ []) g e =
-    only (is_name n) (option_map (λ pids. (n, pids)) (option_and_then (all_of pid_of) (items_of t))) g e (λ e.
-    mapped (λ pids. (n, pids)) (option_and_then (all_of pid_of) (items_of t)) g e (λ ps found same.
-    option_and_then_some (all_of pid_of) (items_of t) ps found (λ ts is each.
+    only (is_name n) (option_map (λ pids. (n, pids)) (option_and_then (read_each pid_of) (items_of t))) g e (λ e.
+    mapped (λ pids. (n, pids)) (option_and_then (read_each pid_of) (items_of t)) g e (λ ps found same.
+    option_and_then_some (read_each pid_of) (items_of t) ps found (λ ts is each.
     omega (arith, ap (λ (g : Term × List Pid). length g.1) same, pids_few ts ps each, items_light t ts is))))
 
 group_few : (t : Term) (g : Term × List Pid) → group_of t ≡ Some g → length g.1 ≤ weight t
 group_few t g e = option_and_then_some group_in (items_of t) g e (λ ts is e. omega (arith, told ts g e, items_light t ts is))
 
-all_few : (limit : ℕ) (ts : List Term) (gs : Groups) → total_weight ts ≤ limit → all_of group_of ts ≡ Some gs → HasFewMembers limit gs
+all_few : (limit : ℕ) (ts : List Term) (gs : Groups) → total_weight ts ≤ limit → read_each group_of ts ≡ Some gs → HasFewMembers limit gs
 all_few limit [] gs h e = subst (HasFewMembers limit) (same_Some [] gs e) tt
 all_few limit (t ∷ ts) gs h e =
-    option_and_then_some (λ g. option_map (λ gs. g ∷ gs) (all_of group_of ts)) (group_of t) gs e (λ g is more.
-    mapped (λ gs. g ∷ gs) (all_of group_of ts) gs more (λ hs rest same.
+    option_and_then_some (λ g. option_map (λ gs. g ∷ gs) (read_each group_of ts)) (group_of t) gs e (λ g is more.
+    mapped (λ gs. g ∷ gs) (read_each group_of ts) gs more (λ hs rest same.
     subst (HasFewMembers limit) same (omega (arith, group_few t g is), all_few limit ts hs (omega arith) rest)))
 
 groups_few : (limit : ℕ) (t : Term) (gs : Groups) → weight t ≤ limit → groups_of t ≡ Some gs → HasFewMembers limit gs
 groups_few limit t gs h e =
-    option_and_then_some named_once (option_and_then (all_of group_of) (items_of t)) gs e (λ hs found once.
+    option_and_then_some named_once (option_and_then (read_each group_of) (items_of t)) gs e (λ hs found once.
     only (is_named_once hs) (Some hs) gs once (λ same.
-    option_and_then_some (all_of group_of) (items_of t) hs found (λ ts is each.
+    option_and_then_some (read_each group_of) (items_of t) hs found (λ ts is each.
     subst (HasFewMembers limit) (same_Some hs gs same) (all_few limit ts hs (omega (arith, items_light t ts is)) each))))
 
 -- ---- messages
@@ -149,7 +149,7 @@ module _ (limit : ℕ) (m : Message) where
 
 -- ---- packets
 
-stamped_short : (limit : ℕ) (o : Option Message) (stamp : Result ℕ MessageFault) (p : Packet) → ((m : Message) → o ≡ Some m → IsShort limit m) → stamped o stamp ≡ Ok p → IsShort limit p.message
+stamped_short : (limit : ℕ) (o : Option Message) (stamp : Result ℕ MessageFault) (p : Packet) → ((m : Message) → o ≡ Some m → IsShort limit m) → stamped_message o stamp ≡ Ok p → IsShort limit p.message
 stamped_short limit None stamp p short e = absurd cc
 stamped_short limit (Some m) (Err fault) p short e = absurd cc
 stamped_short limit (Some m) (Ok stamp) p short e =

@@ -13,7 +13,7 @@ use Rattle.pg_term.specs.declared.term.Term.TheVariants.{Int, Atom, Ref}
 use Rattle.pg_term.specs.RefParts.{RefParts}
 use Rattle.pg_term_io.specs.Reading.{Read, ◌>>=◌, item_at, items_at, number_at, atom_at, words_at, new_reference_at}
 use Rattle.pg_term_io.specs.Spelling.{IsAtom}
-use Rattle.pg_term_io.specs.Writing.{int_bytes, big_bytes, text_bytes, atom_bytes, reference_bytes, item_bytes, written}
+use Rattle.pg_term_io.specs.Writing.{int_bytes, big_bytes, tagged_text, atom_bytes, reference_bytes, item_bytes, written}
 use Rattle.pg_term_io.proofs.Again.{word_again, half_again, atom_again}
 use Rattle.pg_term_io.proofs.Written.{tuple_is}
 use Rattle.pg_message.specs.declared.message.Said.{Said}
@@ -144,9 +144,9 @@ reference_written r = search (rules, the_lemmas)
 name_written : (a : List ℕ) → item_bytes (Atom a) ≡ atom_bytes a
 name_written a = search (rules, the_lemmas)
 
-word_written : (w : List ℕ) → is_plain w ≡ true → item_bytes (Atom w) ≡ text_bytes w
+word_written : (w : List ℕ) → is_plain w ≡ true → item_bytes (Atom w) ≡ tagged_text w
 unfolding atom_bytes
-word_written w plain = name_written w ∙ ap text_bytes (plain_text w plain)
+word_written w plain = name_written w ∙ ap tagged_text (plain_text w plain)
 
 reply_written : item_bytes (Atom (codes "reply")) ≡ word_bytes (codes "reply")
 reply_written = word_written (codes "reply") refl

@@ -3,7 +3,7 @@
 ghost use Rattle.std.specs.Prelude.{◌≡◌, IfOk};
 ghost use Rattle.std.specs.Option.{option_and_then, option_map};
 ghost use Rattle.pg_message.specs.Parts.{items_of, pid_of};
-ghost use Rattle.pg_message.specs.Reading.{all_of, group_in, group_of, groups_of};
+ghost use Rattle.pg_message.specs.Reading.{read_each, group_in, group_of, groups_of};
 
 use crate::parts::{items, pid, two};
 use pg_message::{are_told_once, is_name};
@@ -33,7 +33,7 @@ fn all_groups(
     alloc: Global,
     terms: Vec<Term>,
 ) -> Result<Option<Vec<(Term, Items<Pid>)>>, AllocError>
-    ensures { IfOk result (λ groups. option_map (λ v. v.items) groups ≡ all_of group_of terms.items) }
+    ensures { IfOk result (λ groups. option_map (λ v. v.items) groups ≡ read_each group_of terms.items) }
 {
     let mut rest = terms;
     rest.reverse();
@@ -84,7 +84,7 @@ fn group_in(alloc: Global, parts: Vec<Term>) -> Result<Option<(Term, Items<Pid>)
 }
 
 fn members(alloc: Global, term: Term) -> Result<Option<Items<Pid>>, AllocError>
-    ensures { IfOk result (λ pids. pids ≡ option_and_then (all_of pid_of) (items_of term)) }
+    ensures { IfOk result (λ pids. pids ≡ option_and_then (read_each pid_of) (items_of term)) }
 {
     let Some(terms) = items(term) else {
         return Ok(None);
@@ -96,7 +96,7 @@ fn members(alloc: Global, term: Term) -> Result<Option<Items<Pid>>, AllocError>
 }
 
 fn all_pids(alloc: Global, terms: Vec<Term>) -> Result<Option<Vec<Pid>>, AllocError>
-    ensures { IfOk result (λ pids. option_map (λ v. v.items) pids ≡ all_of pid_of terms.items) }
+    ensures { IfOk result (λ pids. option_map (λ v. v.items) pids ≡ read_each pid_of terms.items) }
 {
     let mut rest = terms;
     rest.reverse();

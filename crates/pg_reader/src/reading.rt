@@ -10,7 +10,7 @@ ghost use Rattle.pg_message.specs.Name.{is_name};
 ghost use Rattle.pg_message.specs.Parts.{pid_of};
 ghost use Rattle.pg_message.specs.Reading.{stamp_of, message_in, message_of, unreferred, referred, cast_in, cast_of};
 ghost use Rattle.pg_message.specs.Reading.{freed, read_exchange, request_in, request_of, request_on, membership_of};
-ghost use Rattle.pg_message.specs.Reading.{said_of, stamped, packet_in, packet_of, packet_spelled, SpellsPacket};
+ghost use Rattle.pg_message.specs.Reading.{said_of, stamped_message, packet_in, packet_of, packet_spelled, SpellsPacket};
 ghost use Rattle.pg_message.specs.declared.packet.Packet.{Packet};
 
 use crate::direct::{Detour, direct_packet};
@@ -90,17 +90,17 @@ fn packet_in(alloc: Global, parts: Vec<Term>) -> Result<Packet, MessageFault>
     let stamp = stamp(&first);
     drop(first);
     match message(alloc, said) {
-        Ok(message) => stamped(message, stamp),
+        Ok(message) => stamped_message(message, stamp),
         Err(AllocError) => Err(MessageFault::Term(TermFault::OutOfMemory)),
     }
 }
 
 // What is wrong with the stamp is given only where all else is right.
-fn stamped(
+fn stamped_message(
     message: Option<Message>,
     stamp: Result<u32, MessageFault>,
 ) -> Result<Packet, MessageFault>
-    ensures { Gives (λ packet. packet) result (stamped message stamp) }
+    ensures { Gives (λ packet. packet) result (stamped_message message stamp) }
 {
     let Some(message) = message else {
         return Err(MessageFault::NotAMessage);

@@ -4,7 +4,7 @@ use Rattle.std.proofs.Common.{Some, None, refl, sym, ap, ◌∙◌, append_assoc
 use Rattle.std.specs.Option.{option_map, option_and_then}
 use Rattle.std.proofs.lemmas.List.{reverse-append, reverse-reverse, append-nil}
 use Rattle.pg_term.specs.declared.term.Term.{Term}
-use Rattle.pg_message.specs.Reading.{all_of}
+use Rattle.pg_message.specs.Reading.{read_each}
 use Rattle.pg_step.specs.declared.start.Start.{Start}
 use Rattle.pg_requests.specs.Members.{node_of, put_told, told_all}
 
@@ -20,27 +20,27 @@ module _ {A : Type 0} (read : Term → Option A) where
   following_none None = refl
   following_none (Some xs) = refl
 
-  pub started : (ts rest : List Term) → rest ≡ reverse ts → following [] (all_of read (reverse rest)) ≡ all_of read ts
-  started ts rest e = following_none (all_of read (reverse rest)) ∙ ap (λ (us : List Term). all_of read (reverse us)) e ∙ ap (all_of read) (reverse-reverse ts)
+  pub started : (ts rest : List Term) → rest ≡ reverse ts → following [] (read_each read (reverse rest)) ≡ read_each read ts
+  started ts rest e = following_none (read_each read (reverse rest)) ∙ ap (λ (us : List Term). read_each read (reverse us)) e ∙ ap (read_each read) (reverse-reverse ts)
 
   one_more : (front : List A) (x : A) (later : Option (List A)) → following front (option_map (λ xs. x ∷ xs) later) ≡ following (front ++ x ∷ []) later
   one_more front x None = refl
   one_more front x (Some xs) = ap Some (sym (append_assoc front (x ∷ []) xs))
 
   module _ (rest left : List Term) (t : Term) (e : rest ≡ left ++ t ∷ []) (front : List A) where
-    pub took : (x : A) → read t ≡ Some x → following front (all_of read (reverse rest)) ≡ following (front ++ x ∷ []) (all_of read (reverse left))
+    pub took : (x : A) → read t ≡ Some x → following front (read_each read (reverse rest)) ≡ following (front ++ x ∷ []) (read_each read (reverse left))
     took x h =
-        ap (λ (us : List Term). following front (all_of read us)) (turned rest left t e)
-        ∙ ap (λ (o : Option A). following front (option_and_then (λ y. option_map (λ ys. y ∷ ys) (all_of read (reverse left))) o)) h
-        ∙ one_more front x (all_of read (reverse left))
+        ap (λ (us : List Term). following front (read_each read us)) (turned rest left t e)
+        ∙ ap (λ (o : Option A). following front (option_and_then (λ y. option_map (λ ys. y ∷ ys) (read_each read (reverse left))) o)) h
+        ∙ one_more front x (read_each read (reverse left))
 
-    pub stopped : read t ≡ None → following front (all_of read (reverse rest)) ≡ None
+    pub stopped : read t ≡ None → following front (read_each read (reverse rest)) ≡ None
     stopped h =
-        ap (λ (us : List Term). following front (all_of read us)) (turned rest left t e)
-        ∙ ap (λ (o : Option A). following front (option_and_then (λ y. option_map (λ ys. y ∷ ys) (all_of read (reverse left))) o)) h
+        ap (λ (us : List Term). following front (read_each read us)) (turned rest left t e)
+        ∙ ap (λ (o : Option A). following front (option_and_then (λ y. option_map (λ ys. y ∷ ys) (read_each read (reverse left))) o)) h
 
-  pub finished : (rest : List Term) (front : List A) → rest ≡ [] → following front (all_of read (reverse rest)) ≡ Some front
-  finished rest front e = ap (λ (us : List Term). following front (all_of read (reverse us))) e ∙ ap Some (append-nil front)
+  pub finished : (rest : List Term) (front : List A) → rest ≡ [] → following front (read_each read (reverse rest)) ≡ Some front
+  finished rest front e = ap (λ (us : List Term). following front (read_each read (reverse us))) e ∙ ap Some (append-nil front)
 
 -- ---- what is told of nodes, one term after another
 

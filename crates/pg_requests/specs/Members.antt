@@ -6,7 +6,7 @@ use Rattle.pg_term.specs.declared.pid.Pid.{Pid}
 use Rattle.pg_term.specs.declared.term.Term.{Term}
 use Rattle.pg_term.specs.Same.{same_atom}
 use Rattle.pg_message.specs.Parts.{atom_of, elements_of, items_of, pid_of}
-use Rattle.pg_message.specs.Reading.{all_of}
+use Rattle.pg_message.specs.Reading.{read_each}
 use Rattle.pg_step.specs.declared.start.Start.{Start}
 use Rattle.pg_text.specs.Reading.{term_of}
 use Rattle.pg_requests.specs.Requests.{number_of}
@@ -24,7 +24,7 @@ Group = Term × List Pid
 
 -- [Pid, ..]
 abbrev pub pids_of : Term → Option (List Pid)
-pids_of term = option_and_then (all_of pid_of) (items_of term)
+pids_of term = option_and_then (read_each pid_of) (items_of term)
 
 -- {Name, [Pid, ..]}
 abbrev pub group_in : List Term → Option Group
@@ -36,7 +36,7 @@ group_of term = option_and_then group_in (elements_of term)
 
 -- [{Name, [Pid, ..]}, ..]
 abbrev pub groups_of : Term → Option (List Group)
-groups_of term = option_and_then (all_of group_of) (items_of term)
+groups_of term = option_and_then (read_each group_of) (items_of term)
 
 abbrev pub starting : ℕ → Option (List ℕ) → Option ℕ → Option (List Group) → Option Start
 starting ports (Some name) (Some made) (Some groups) = Some (record { name = name; made = made; ports = ports; groups = groups })

@@ -4,7 +4,7 @@ ghost use Rattle.std.specs.Prelude.{◌≡◌, ◌<◌, Some, None, IfOk, IfErr,
 ghost use Rattle.std.specs.Option.{option_and_then, option_map};
 ghost use Rattle.std.specs.Str.{chars};
 ghost use Rattle.pg_message.specs.Parts.{atom_of, items_of, pid_of};
-ghost use Rattle.pg_message.specs.Reading.{all_of};
+ghost use Rattle.pg_message.specs.Reading.{read_each};
 ghost use Rattle.pg_requests.specs.Members.{AreNumbered, bare, group_in, group_of, groups_of, is_bare};
 ghost use Rattle.pg_requests.specs.Members.{node_name as name_by, node_in, node_of, pids_of, place_among};
 ghost use Rattle.pg_requests.specs.Members.{put_at, put_told, starting, starts_by, starts_said, told_all};
@@ -277,7 +277,7 @@ fn all_groups(
     alloc: Global,
     terms: Vec<Term>,
 ) -> Result<Option<Vec<(Term, Items<Pid>)>>, AllocError>
-    ensures { IfOk result (λ groups. option_map (λ v. v.items) groups ≡ all_of group_of terms.items) }
+    ensures { IfOk result (λ groups. option_map (λ v. v.items) groups ≡ read_each group_of terms.items) }
 {
     let mut rest = terms;
     rest.reverse();
@@ -340,7 +340,7 @@ fn pids_of(alloc: Global, term: Term) -> Result<Option<Items<Pid>>, AllocError>
 }
 
 fn all_pids(alloc: Global, terms: Vec<Term>) -> Result<Option<Vec<Pid>>, AllocError>
-    ensures { IfOk result (λ pids. option_map (λ v. v.items) pids ≡ all_of pid_of terms.items) }
+    ensures { IfOk result (λ pids. option_map (λ v. v.items) pids ≡ read_each pid_of terms.items) }
 {
     let mut rest = terms;
     rest.reverse();

@@ -13,7 +13,7 @@ use Rattle.pg_term_io.specs.Reading.{item_at}
 use Rattle.pg_term_io.proofs.Lists.{is_list}
 use Rattle.pg_message.specs.Groups.{IsNamed}
 use Rattle.pg_message.specs.Parts.{list_in, items_of}
-use Rattle.pg_message.specs.Reading.{Groups, all_of, group_of, groups_of, is_named_once, named_once}
+use Rattle.pg_message.specs.Reading.{Groups, read_each, group_of, groups_of, is_named_once, named_once}
 use Rattle.pg_message.proofs.Ascents.{is_among, told_push, told_again}
 use Rattle.pg_message.proofs.ReadBack.{items_is}
 
@@ -35,7 +35,7 @@ pub record Seen (kept : Term → Bool) (elements : List Term) (gs : Groups) : Ty
   pub front : Groups
   pub back : Groups
   pub are : gs ≡ front ++ back
-  pub left : all_of group_of elements ≡ Some back
+  pub left : read_each group_of elements ≡ Some back
   pub names : (n : Term) → kept n ≡ is_among n front
 
 name_is : (name : Term) (group : Option (Term × List Pid)) (g : Term × List Pid) → group ≡ Some g → IsNamed name group → g.0 ≡ name
@@ -50,7 +50,7 @@ module _ (t : Term) (rest : List ℕ) where
   pub record IsKept (kept : Term → Bool) (room count : ℕ) (left : List ℕ) : Type 0 where
     pub elements : List Term
     pub read : list_from room count left ≡ Ok (elements, rest)
-    pub seen : (gs : Groups) → option_and_then (all_of group_of) (items_of t) ≡ Some gs → Seen kept elements gs
+    pub seen : (gs : Groups) → option_and_then (read_each group_of) (items_of t) ≡ Some gs → Seen kept elements gs
 
   pub none_kept : (kept : Term → Bool) → ((n : Term) → kept n ≡ false) → (room : ℕ) (bytes : List ℕ) → item_at room bytes ≡ Ok (t, rest) → kind_of t ≡ 5 → IsKept kept room 0 bytes
   none_kept kept none room bytes e five =
@@ -62,23 +62,23 @@ module _ (t : Term) (rest : List ℕ) where
           front = [];
           back = gs;
           are = refl;
-          left = sym (ap (λ (t : Term). option_and_then (all_of group_of) (items_of t)) list.is ∙ ap (option_and_then (all_of group_of)) (items_is list.elements)) ∙ all;
+          left = sym (ap (λ (t : Term). option_and_then (read_each group_of) (items_of t)) list.is ∙ ap (option_and_then (read_each group_of)) (items_is list.elements)) ∙ all;
           names = none;
         };
       }
 
   -- an element that is no group
   pub kept_nothing : (kept : Term → Bool) (room count : ℕ) (left : List ℕ) (before : IsKept kept room count left) (first : Term) (others : List Term) → before.elements ≡ first ∷ others → group_of first ≡ None → groups_of t ≡ None
-  kept_nothing kept room count left before first others are none = twice_named (option_and_then (all_of group_of) (items_of t))
+  kept_nothing kept room count left before first others are none = twice_named (option_and_then (read_each group_of) (items_of t))
       (λ gs all.
       let seen = before.seen gs all in
-      let p = parts (group_of first) (all_of group_of others) seen.back (sym (ap (all_of group_of) are) ∙ seen.left) in
+      let p = parts (group_of first) (read_each group_of others) seen.back (sym (ap (read_each group_of) are) ∙ seen.left) in
       let no : None ≡ Some p.group = sym none ∙ p.is in
       absurd cc)
 
   module _ (kept : Term → Bool) (room count : ℕ) (left : List ℕ) (before : IsKept kept room count left) (below more : ℕ) (bytes : List ℕ) (goes : ListGoesOn below more bytes before.elements rest) (name : Term) (named : IsNamed name (group_of goes.first)) where
-    next : (gs : Groups) (seen : Seen kept before.elements gs) → Parts (group_of goes.first) (all_of group_of goes.others) seen.back
-    next gs seen = parts (group_of goes.first) (all_of group_of goes.others) seen.back (sym (ap (all_of group_of) goes.are) ∙ seen.left)
+    next : (gs : Groups) (seen : Seen kept before.elements gs) → Parts (group_of goes.first) (read_each group_of goes.others) seen.back
+    next gs seen = parts (group_of goes.first) (read_each group_of goes.others) seen.back (sym (ap (read_each group_of) goes.are) ∙ seen.left)
 
     pub one_kept : (after : Term → Bool) → ((n : Term) → after n ≡ cond (is_eq (term_cmp name n)) true (kept n)) → (behind : List ℕ) → goes.behind ≡ behind → IsKept after below more behind
     one_kept after more_kept behind ends = record {
@@ -97,7 +97,7 @@ module _ (t : Term) (rest : List ℕ) where
     }
 
     pub kept_twice : kept name ≡ true → groups_of t ≡ None
-    kept_twice there = twice_named (option_and_then (all_of group_of) (items_of t))
+    kept_twice there = twice_named (option_and_then (read_each group_of) (items_of t))
         (λ gs all.
         let seen = before.seen gs all in
         let p = next gs seen in
@@ -108,7 +108,7 @@ module _ (t : Term) (rest : List ℕ) where
 pub groups_by_lists : (t : Term) → (kind_of t ≡ 5 → groups_of t ≡ None) → groups_of t ≡ None
 groups_by_lists t why = at (out-Term t) why
   where
-    at : (l : Term-F Term) → (kind_step l ≡ 5 → option_and_then named_once (option_and_then (all_of group_of) (list_in l)) ≡ None) → option_and_then named_once (option_and_then (all_of group_of) (list_in l)) ≡ None
+    at : (l : Term-F Term) → (kind_step l ≡ 5 → option_and_then named_once (option_and_then (read_each group_of) (list_in l)) ≡ None) → option_and_then named_once (option_and_then (read_each group_of) (list_in l)) ≡ None
     at (Term-F.List ts) h = h refl
     at (Term-F.Int z) h = refl
     at (Term-F.Atom a) h = refl

@@ -14,7 +14,7 @@ use Rattle.pg_term.specs.Order.{kind_of}
 use Rattle.pg_term_io.specs.Reading.{Read, item_at}
 use Rattle.pg_term_io.specs.Spelling.{IsAtom, Item}
 use Rattle.pg_term_io.specs.Spelling as s
-use Rattle.pg_term_io.specs.Writing.{item_bytes, written, text_bytes, atom_bytes}
+use Rattle.pg_term_io.specs.Writing.{item_bytes, written, tagged_text, atom_bytes}
 use Rattle.pg_term.proofs.Texts.{length_encodes}
 use Rattle.pg_term_io.specs.Faults.{BreaksItem}
 use Rattle.pg_term_io.specs.Numbers.{big_value}
@@ -28,7 +28,7 @@ few_characters _ _ (s.IsAtom.large text few utf8 le) = le
 few_characters _ _ (s.IsAtom.small_latin text le fits) = le
 few_characters _ _ (s.IsAtom.latin text le fits) = le
 
-bytes_few : (text : List ℕ) → length (text_bytes text) ≤ 3 + length text
+bytes_few : (text : List ℕ) → length (tagged_text text) ≤ 3 + length text
 bytes_few text = at (nat_lt (length text) 256)
   where
     at : (b : Bool) → length (cond b (119 ∷ length text ∷ text) (118 ∷ to_be_bytes w16 (length text) ++ text)) ≤ 3 + length text

@@ -18,7 +18,7 @@ use Rattle.pg_term_io.proofs.Lists.{is_list}
 use Rattle.pg_message.specs.Groups.{IsNamed}
 use Rattle.pg_message.specs.Name.{is_name}
 use Rattle.pg_message.specs.Parts.{items_of, pid_in, pid_of}
-use Rattle.pg_message.specs.Reading.{all_of, group_in, group_of}
+use Rattle.pg_message.specs.Reading.{read_each, group_in, group_of}
 use Rattle.pg_message.proofs.ReadBack.{items_is}
 use Rattle.pg_shape.specs.Lists.{EndsAlike}
 use Rattle.pg_shape.proofs.Shapes.{no_items, none_if}
@@ -72,8 +72,8 @@ is_nothing None e = refl
 is_nothing (Some x) e = absurd cc
 
 module _ {A : Type 0} (each : Term → Option A) where
-  first_none : (t : Term) (ts : List Term) → each t ≡ None → all_of each (t ∷ ts) ≡ None
-  first_none t ts why = ap (option_and_then (λ x. option_map (λ xs. x ∷ xs) (all_of each ts))) why
+  first_none : (t : Term) (ts : List Term) → each t ≡ None → read_each each (t ∷ ts) ≡ None
+  first_none t ts why = ap (option_and_then (λ x. option_map (λ xs. x ∷ xs) (read_each each ts))) why
 
   -- behind what is something
   behind_some : (o : Option A) (others : Option (List A)) → is_some o ≡ true → is_some (option_and_then (λ x. option_map (λ xs. x ∷ xs) others) o) ≡ is_some others
@@ -81,47 +81,47 @@ module _ {A : Type 0} (each : Term → Option A) where
   behind_some (Some x) None e = refl
   behind_some None others e = absurd cc
 
-  pub at_first : (room : ℕ) (bytes : List ℕ) (t : Term) (rest : List ℕ) → item_at room bytes ≡ Ok (t, rest) → kind_of t ≡ 5 → EndsAlike each room 0 bytes (option_and_then (all_of each) (items_of t)) rest
+  pub at_first : (room : ℕ) (bytes : List ℕ) (t : Term) (rest : List ℕ) → item_at room bytes ≡ Ok (t, rest) → kind_of t ≡ 5 → EndsAlike each room 0 bytes (option_and_then (read_each each) (items_of t)) rest
   at_first room bytes t rest e five =
       let list = is_list room bytes t rest e five in
-      record { elements = list.elements; read = list.read; same = ap (λ (t : Term). is_some (option_and_then (all_of each) (items_of t))) list.is ∙ ap (λ (o : Option (List Term)). is_some (option_and_then (all_of each) o)) (items_is list.elements) }
+      record { elements = list.elements; read = list.read; same = ap (λ (t : Term). is_some (option_and_then (read_each each) (items_of t))) list.is ∙ ap (λ (o : Option (List Term)). is_some (option_and_then (read_each each) o)) (items_is list.elements) }
 
   module _ (whole : Option (List A)) (rest : List ℕ) (room count : ℕ) (left : List ℕ) (before : EndsAlike each room count left whole rest) where
     module _ (below more : ℕ) (bytes : List ℕ) (goes : ListGoesOn below more bytes before.elements rest) where
       pub no_first : each goes.first ≡ None → whole ≡ None
-      no_first none = is_nothing whole (before.same ∙ ap (λ (ts : List Term). is_some (all_of each ts)) goes.are ∙ ap (λ (o : Option (List A)). is_some o) (first_none goes.first goes.others none))
+      no_first none = is_nothing whole (before.same ∙ ap (λ (ts : List Term). is_some (read_each each ts)) goes.are ∙ ap (λ (o : Option (List A)). is_some o) (first_none goes.first goes.others none))
 
       pub behind_first : is_some (each goes.first) ≡ true → (behind : List ℕ) → goes.behind ≡ behind → EndsAlike each below more behind whole rest
       behind_first some behind ends = record {
         elements = goes.others;
         read = subst (λ (b : List ℕ). list_from below more b ≡ Ok (goes.others, rest)) ends goes.after;
-        same = before.same ∙ ap (λ (ts : List Term). is_some (all_of each ts)) goes.are ∙ behind_some (each goes.first) (all_of each goes.others) some;
+        same = before.same ∙ ap (λ (ts : List Term). is_some (read_each each ts)) goes.are ∙ behind_some (each goes.first) (read_each each goes.others) some;
       }
 
     pub no_text : ((n : ℕ) → each (int_of n) ≡ None) → IsText before.elements → whole ≡ None
-    no_text none text = is_nothing whole (before.same ∙ ap (λ (ts : List Term). is_some (all_of each ts)) text.are ∙ ap (λ (o : Option (List A)). is_some o) (first_none (int_of text.first) (map int_of text.others) (none text.first)))
+    no_text none text = is_nothing whole (before.same ∙ ap (λ (ts : List Term). is_some (read_each each ts)) text.are ∙ ap (λ (o : Option (List A)). is_some o) (first_none (int_of text.first) (map int_of text.others) (none text.first)))
 
     pub over : before.elements ≡ [] → is_some whole ≡ true
-    over none = before.same ∙ ap (λ (ts : List Term). is_some (all_of each ts)) none
+    over none = before.same ∙ ap (λ (ts : List Term). is_some (read_each each ts)) none
 
 -- ---- what is no pair of a name and members
 
-pub no_members : (name members : Term) (others : List Term) → option_and_then (all_of pid_of) (items_of members) ≡ None → group_in (name ∷ members ∷ others) ≡ None
+pub no_members : (name members : Term) (others : List Term) → option_and_then (read_each pid_of) (items_of members) ≡ None → group_in (name ∷ members ∷ others) ≡ None
 no_members name members [] none = none_if (is_name name) _ None (ap (option_map (λ pids. (name, pids))) none) refl
 no_members name members (t ∷ ts) none = refl
 
 pub no_name : (name : Term) (others : List Term) → is_name name ≡ false → group_in (name ∷ others) ≡ None
 no_name name [] why = refl
-no_name name (members ∷ []) why = ap (λ (b : Bool). cond b (option_map (λ pids. (name, pids)) (option_and_then (all_of pid_of) (items_of members))) None) why
+no_name name (members ∷ []) why = ap (λ (b : Bool). cond b (option_map (λ pids. (name, pids)) (option_and_then (read_each pid_of) (items_of members))) None) why
 no_name name (members ∷ t ∷ ts) why = refl
 
 pub no_third : (name members : Term) (others : List Term) → others ≢ [] → group_in (name ∷ members ∷ others) ≡ None
 no_third name members [] some = absurd (some refl)
 no_third name members (t ∷ ts) some = refl
 
-pub some_group : (name members : Term) → is_name name ≡ true → is_some (option_and_then (all_of pid_of) (items_of members)) ≡ true → is_some (group_in (name ∷ members ∷ [])) ≡ true
+pub some_group : (name members : Term) → is_name name ≡ true → is_some (option_and_then (read_each pid_of) (items_of members)) ≡ true → is_some (group_in (name ∷ members ∷ [])) ≡ true
 some_group name members named some =
-    at (is_name name) (option_and_then (all_of pid_of) (items_of members)) named some
+    at (is_name name) (option_and_then (read_each pid_of) (items_of members)) named some
   where
     at : (b : Bool) (o : Option (List Pid)) → b ≡ true → is_some o ≡ true → is_some {T = Term × List Pid} (cond b (option_map (λ pids. (name, pids)) o) None) ≡ true
     at true (Some pids) h e = refl
@@ -129,8 +129,8 @@ some_group name members named some =
     at false o h e = absurd cc
 
 -- integers alone
-int_no_members : (n : ℕ) → option_and_then (all_of pid_of) (items_of (int_of n)) ≡ None
-int_no_members n = ap (option_and_then (all_of pid_of)) (int_no_items n)
+int_no_members : (n : ℕ) → option_and_then (read_each pid_of) (items_of (int_of n)) ≡ None
+int_no_members n = ap (option_and_then (read_each pid_of)) (int_no_items n)
 
 pub text_behind_name : (name : Term) (others : List Term) → IsText others → group_in (name ∷ others) ≡ None
 text_behind_name name others text = ap (λ (ts : List Term). group_in (name ∷ ts)) text.are ∙ no_members name (int_of text.first) (map int_of text.others) (int_no_members text.first)
@@ -188,7 +188,7 @@ at_none {X = X} r A P is h = subst (λ (o : Option X). MatchOption o A P) is h
 -- a group has the first element for its name
 pub first_named : (name : Term) (others : List Term) → IsNamed name (group_in (name ∷ others))
 first_named name [] = tt
-first_named name (members ∷ []) = at (is_name name) (option_and_then (all_of pid_of) (items_of members))
+first_named name (members ∷ []) = at (is_name name) (option_and_then (read_each pid_of) (items_of members))
   where
     at : (b : Bool) (pids : Option (List Pid)) → IsNamed name (cond b (option_map (λ pids. (name, pids)) pids) None)
     at true (Some pids) = refl

@@ -16,7 +16,7 @@ use Rattle.pg_message.specs.Parts.{tuple_in, elements_of, list_in, items_of, tex
 use Rattle.pg_message.specs.Parts.{atom_in, atom_of, reference_in, reference_of, pid_in, pid_of}
 use Rattle.pg_message.specs.Reading.{request_on, membership_of, request_in, request_of, said_of}
 use Rattle.pg_message.specs.Reading.{groups_of, freed, read_exchange, cast_in, cast_of, referred}
-use Rattle.pg_message.specs.Reading.{message_in, message_of, stamp_in, stamp_of, stamped, packet_in}
+use Rattle.pg_message.specs.Reading.{message_in, message_of, stamp_in, stamp_of, stamped_message, packet_in}
 use Rattle.pg_group.specs.declared.update.Update.TheVariants.{Create, Delete, Join, Leave}
 use Rattle.pg_message.specs.declared.message.Message.{Message}
 use Rattle.pg_message.specs.declared.message.Message.TheVariants.{Call, Reply, DelLock, Exchange, Down}
@@ -308,14 +308,14 @@ module _ (s m : Term) where
   NoPacket ts = packet_in (Some ts) ≡ Err faults.NotAMessage
 
   pub packet_no_stamp : 4 ≤ kind_of s → NoPacket (s ∷ m ∷ [])
-  packet_no_stamp many = ap (stamped (message_of m)) (no_stamp s many) ∙ either (message_of m)
+  packet_no_stamp many = ap (stamped_message (message_of m)) (no_stamp s many) ∙ either (message_of m)
     where
-      either : (o : Option Message) → stamped o (Err faults.NotAMessage) ≡ Err faults.NotAMessage
+      either : (o : Option Message) → stamped_message o (Err faults.NotAMessage) ≡ Err faults.NotAMessage
       either None = refl
       either (Some message) = refl
 
   pub packet_no_message : message_of m ≡ None → NoPacket (s ∷ m ∷ [])
-  packet_no_message why = ap (λ (o : Option Message). stamped o (stamp_of s)) why
+  packet_no_message why = ap (λ (o : Option Message). stamped_message o (stamp_of s)) why
 
 -- ---- tuples
 

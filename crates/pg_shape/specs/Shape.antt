@@ -5,7 +5,7 @@ use Rattle.pg_term.specs.declared.pid.Pid.{Pid}
 use Rattle.pg_term.specs.declared.term.Term.{Term}
 use Rattle.pg_term.specs.Order.{kind_of}
 use Rattle.pg_message.specs.Parts.{elements_of, items_of, pid_of}
-use Rattle.pg_message.specs.Reading.{Groups, all_of, group_of}
+use Rattle.pg_message.specs.Reading.{Groups, read_each, group_of}
 
 -- it is no tuple, no list and no binary
 abbrev pub is_small : Term → Bool
@@ -13,11 +13,11 @@ is_small t = nat_lt (kind_of t) 4
 
 -- the pids that a term lists
 abbrev pub members_of : Term → Option (List Pid)
-members_of t = option_and_then (all_of pid_of) (items_of t)
+members_of t = option_and_then (read_each pid_of) (items_of t)
 
 -- the groups that a term lists, be they named once or not
 abbrev pub listed_of : Term → Option Groups
-listed_of t = option_and_then (all_of group_of) (items_of t)
+listed_of t = option_and_then (read_each group_of) (items_of t)
 
 -- {Word, Name} or {Word, Name, Pid}
 abbrev pub request_shape : Option (List Term) → Bool

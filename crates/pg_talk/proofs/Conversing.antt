@@ -12,7 +12,7 @@ use Rattle.pg_run.specs.declared.port.Client.{Client}
 use Rattle.pg_run.specs.Ports.{polled, polled_count}
 use Rattle.pg_step.specs.declared.start.Start.{Start}
 use Rattle.pg_term.specs.declared.fault.TermFault.TheVariants.{BadAtom}
-use Rattle.pg_term.specs.Fault.{atom_of}
+use Rattle.pg_term.specs.Fault.{checked_atom}
 use Rattle.pg_cluster.specs.Clients.{AllPairs}
 use Rattle.pg_cluster.specs.ClientsLaws.{all_same_on}
 use Rattle.pg_cluster.specs.Running.{RunningGoes, clients_in}
@@ -59,7 +59,7 @@ bare_push ports starts start all here i none low = elim (eqb_tells i (length sta
 ]
 
 -- the atom of a text that has one
-pub atom_is : (text name : List ℕ) → atom_of text ≡ Ok name → name ≡ text
+pub atom_is : (text name : List ℕ) → checked_atom text ≡ Ok name → name ≡ text
 atom_is text name is = go (nat_lt 255 (length text)) is
   where
     go : (b : Bool) → (if b then Err BadAtom else Ok text) ≡ Ok name → name ≡ text

@@ -18,8 +18,8 @@ Gives view (Ok x) read = read ≡ Ok (view x)
 Gives view (Err e) read = Fails e read
 
 -- an atom has at most 255 characters
-abbrev pub atom_of : List ℕ → Result (List ℕ) TermFault
-atom_of cs = if nat_lt 255 (length cs) then Err BadAtom else Ok cs
+abbrev pub checked_atom : List ℕ → Result (List ℕ) TermFault
+checked_atom cs = if nat_lt 255 (length cs) then Err BadAtom else Ok cs
 
 -- the number of a fault in the one list of faults
 abbrev pub number_of : TermFault → ℕ

@@ -8,7 +8,7 @@ ghost use Rattle.std.specs.Cmp.Lexicographic.{slice_cmp, pointwise, nat_list_eq_
 ghost use Rattle.std.specs.Cmp.Lexicographic.{nat_list_cmp_total, texts_ties, texts_po};
 ghost use Rattle.std.specs.Cmp.Rules.{hashing};
 ghost use Rattle.std.proofs.Common.{rules, refl};
-ghost use Rattle.pg_term.specs.Fault.{Gives, atom_of};
+ghost use Rattle.pg_term.specs.Fault.{Gives, checked_atom};
 
 use crate::fault::TermFault;
 use crate::text::Text;
@@ -43,7 +43,7 @@ impl Atom {
     ///
     /// Cost: one allocation, and two more for a text above 22 bytes.
     pub fn new(alloc: Global, text: &str) -> Result<Atom, TermFault>
-        ensures { Gives (λ a. a) result (atom_of (chars text.now)) }
+        ensures { Gives (λ a. a) result (checked_atom (chars text.now)) }
     {
         if is_long(text) {
             return Err(TermFault::BadAtom);

@@ -14,7 +14,7 @@ use Rattle.pg_term_io.specs.Numbers.{int_of}
 use Rattle.pg_term_io.specs.Reading.{term_of}
 use Rattle.pg_term_io.specs.Spelling.{IsAtom, IsPid, IsOldRef, IsRef, Item, Items, Elements, Tail, Spells}
 use Rattle.pg_term_io.specs.Spelling as s
-use Rattle.pg_term_io.specs.Writing.{text_bytes, atom_bytes, tuple_head, list_head, item_bytes, all_bytes}
+use Rattle.pg_term_io.specs.Writing.{tagged_text, atom_bytes, tuple_head, list_head, item_bytes, all_bytes}
 use Rattle.pg_term_io.specs.Writing.{tuple_bytes, list_bytes, written, IsWritable, IsSpelled, AreSpelled}
 use Rattle.pg_term_io.proofs.Again.{term_again}
 use Rattle.pg_term_io.proofs.Decoding.{one_term}
@@ -35,7 +35,7 @@ latin_length (c ∷ cs) h = omega (arith, latin_short c h.0, latin_length cs h.1
 
 text_again : (text : List ℕ) → IsUtf8 text → length text < 2 ^ 16 → length (chars text) ≤ 255 → IsAtom (chars text) (atom_bytes (chars text))
 unfolding atom_bytes
-text_again text utf8 few limit = subst (λ (x : List ℕ). IsAtom (chars text) (text_bytes x)) (sym (encodes-chars text utf8)) (text_spelled text utf8 few limit)
+text_again text utf8 few limit = subst (λ (x : List ℕ). IsAtom (chars text) (tagged_text x)) (sym (encodes-chars text utf8)) (text_spelled text utf8 few limit)
 
 latin_again : (text : List ℕ) → length text ≤ 255 → AllByRecursion (λ c. c < 256) text → IsAtom text (atom_bytes text)
 unfolding atom_bytes
@@ -43,7 +43,7 @@ latin_again text limit fit =
     let scalars = scalars_below text fit in
     let same = chars-encodes text scalars in
     let few : length (encode_utf8_all text) < 2 ^ 16 = omega (arith, latin_length text fit) in
-    subst (λ (a : List ℕ). IsAtom a (text_bytes (encode_utf8_all text))) same
+    subst (λ (a : List ℕ). IsAtom a (tagged_text (encode_utf8_all text))) same
     (text_spelled (encode_utf8_all text) (text, (scalars, refl)) few (omega (arith, ap length same)))
 
 atom_again : (a b : List ℕ) → IsAtom a b → IsAtom a (atom_bytes a)

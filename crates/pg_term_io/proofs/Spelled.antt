@@ -19,7 +19,7 @@ use Rattle.pg_term.specs.Depth.{depth, greatest_depth, depth_step}
 use Rattle.pg_term_io.specs.Numbers.{big_value}
 use Rattle.pg_term_io.specs.Spelling.{IsAtom, IsPid, IsRef, Item, Items, Elements, Tail, Spells}
 use Rattle.pg_term_io.specs.Spelling as s
-use Rattle.pg_term_io.specs.Writing.{digits, big_bytes, int_bytes, text_bytes, atom_bytes, pid_bytes}
+use Rattle.pg_term_io.specs.Writing.{digits, big_bytes, int_bytes, tagged_text, atom_bytes, pid_bytes}
 use Rattle.pg_term_io.specs.Writing.{reference_bytes, binary_bytes, tuple_head, item_bytes, all_bytes}
 use Rattle.pg_term_io.specs.Writing.{tuple_bytes, list_bytes, written, IsSpelled, AreSpelled}
 use Rattle.pg_term_io.proofs.Deep.{greatest_push, depth_more}
@@ -62,7 +62,7 @@ int_spelled room (negsuc n) fits =
     (λ word. subst (λ (z : ℤ). Item (suc room) (Int z) (98 ∷ to_be_bytes w32 m)) (to_z-neg w32 n word) (s.Item.integer room m (omega arith)))
     (λ _. big_spelled room 1 (suc n) (negsuc n) (omega arith) (below_minus n fits) fits (ap (λ (k : ℕ). neg_ℤ (pos k)) (little_endian-digits (suc n))))
 
-pub text_spelled : (text : List ℕ) → IsUtf8 text → length text < 2 ^ 16 → length (chars text) ≤ 255 → IsAtom (chars text) (text_bytes text)
+pub text_spelled : (text : List ℕ) → IsUtf8 text → length text < 2 ^ 16 → length (chars text) ≤ 255 → IsAtom (chars text) (tagged_text text)
 text_spelled text utf8 few limit =
     tested (IsAtom (chars text)) (length text) 256 (119 ∷ length text ∷ text) (118 ∷ to_be_bytes w16 (length text) ++ text)
     (λ small. s.IsAtom.small text small utf8 limit) (λ _. s.IsAtom.large text few utf8 limit)
@@ -71,7 +71,7 @@ pub atom_spelled : (a text : List ℕ) → IsUtf8 text → length text ≤ 1020 
 unfolding atom_bytes
 atom_spelled a text utf8 few limit same bytes =
     let e : length (chars text) ≤ 255 = omega (arith, ap length same) in
-    subst (λ (t : List ℕ). IsAtom a (text_bytes t)) bytes (subst (λ (b : List ℕ). IsAtom b (text_bytes text)) same (text_spelled text utf8 (omega arith) e))
+    subst (λ (t : List ℕ). IsAtom a (tagged_text t)) bytes (subst (λ (b : List ℕ). IsAtom b (tagged_text text)) same (text_spelled text utf8 (omega arith) e))
 
 -- a term of one level is spelled in any room
 shallow : (t : Term) (b : List ℕ) → depth t ≡ 1 → item_bytes t ≡ b → ((room : ℕ) → Item (suc room) t b) → IsSpelled t

@@ -16,7 +16,7 @@ use Rattle.pg_term_io.specs.Faults.{BreaksItem}
 use Rattle.pg_term_io.specs.Reading.{Read, item_at}
 use Rattle.pg_term_io.specs.Spelling.{IsAtom, IsPid, IsOldRef, IsRef, Item, Items, Elements, Tail}
 use Rattle.pg_term_io.specs.Spelling as s
-use Rattle.pg_term_io.specs.Writing.{text_bytes, atom_bytes, pid_bytes, reference_bytes}
+use Rattle.pg_term_io.specs.Writing.{tagged_text, atom_bytes, pid_bytes, reference_bytes}
 use Rattle.pg_term_io.specs.Writing.{tuple_head, list_head, item_bytes, all_bytes}
 use Rattle.pg_term_io.proofs.Items.{levels}
 use Rattle.pg_term_io.proofs.Weighed.{weight_some, item_light}
@@ -30,7 +30,7 @@ longer : (n : ℕ) (b : Bool) (x y : List ℕ) → n ≤ length x → n ≤ leng
 longer n true x y p q = p
 longer n false x y p q = q
 
-text_held : (text : List ℕ) → length text ≤ length (text_bytes text)
+text_held : (text : List ℕ) → length text ≤ length (tagged_text text)
 text_held text =
     longer (length text) (nat_lt (length text) 256) (119 ∷ length text ∷ text) (118 ∷ to_be_bytes w16 (length text) ++ text) (omega arith)
     (omega (arith, length-append (to_be_bytes w16 (length text)) text))

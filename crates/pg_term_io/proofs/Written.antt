@@ -11,7 +11,7 @@ use Rattle.pg_term.specs.declared.term.Term.{map-Term, out-Term, fold_out-Term, 
 use Rattle.pg_term.specs.declared.term.Term.TheOpen.{Term-F}
 use Rattle.pg_term.specs.declared.term.Term.TheVariants.{Binary}
 use Rattle.pg_term_io.specs.Writing.{big_bytes, int_bytes, atom_bytes, pid_bytes, reference_bytes}
-use Rattle.pg_term_io.specs.Writing.{binary_bytes, text_bytes, tuple_head, list_head, tuple_bytes}
+use Rattle.pg_term_io.specs.Writing.{binary_bytes, tagged_text, tuple_head, list_head, tuple_bytes}
 use Rattle.pg_term_io.specs.Writing.{list_bytes, joined, item_step, item_bytes, all_bytes}
 
 pub tuple_is : (ts : List Term) → item_bytes (Tuple ts) ≡ tuple_bytes ts
@@ -37,7 +37,7 @@ some : (b : Bool) (x y : List ℕ) → 1 ≤ length x → 1 ≤ length y → 1 �
 some true x y p q = p
 some false x y p q = q
 
-text_some : (text : List ℕ) → 1 ≤ length (text_bytes text)
+text_some : (text : List ℕ) → 1 ≤ length (tagged_text text)
 text_some text = some (nat_lt (length text) 256) (119 ∷ length text ∷ text) (118 ∷ to_be_bytes w16 (length text) ++ text) (omega arith) (omega arith)
 
 pub head_some : (n : ℕ) → 1 ≤ length (tuple_head n)

@@ -11,7 +11,7 @@ use Rattle.pg_term.specs.declared.pid.Pid.{Pid}
 use Rattle.pg_term.specs.declared.term.Term.{Term}
 use Rattle.pg_term.specs.declared.term.Term as term
 use Rattle.pg_term.specs.RefParts.{RefParts}
-use Rattle.pg_term.specs.Fault.{atom_of}
+use Rattle.pg_term.specs.Fault.{checked_atom}
 use Rattle.pg_term_io.specs.declared.limits.TheConstants.{MAX_DEPTH}
 use Rattle.pg_term_io.specs.Numbers.{int_of, big_value}
 use Rattle.pg_term_io.specs.declared.tag.Size.{Size}
@@ -81,11 +81,11 @@ big_at bytes = do
 -- ---- atoms
 
 abbrev pub utf8_atom : List ℕ → Result (List ℕ) TermFault
-utf8_atom bytes = if is_utf8 bytes then atom_of (chars bytes) else Err BadAtom
+utf8_atom bytes = if is_utf8 bytes then checked_atom (chars bytes) else Err BadAtom
 
 -- in Latin-1 each byte is the character of that number
 abbrev pub latin_atom : List ℕ → Result (List ℕ) TermFault
-latin_atom bytes = atom_of bytes
+latin_atom bytes = checked_atom bytes
 
 unfoldable pub named_at : (List ℕ → Result (List ℕ) TermFault) → ℕ → List ℕ → Read (List ℕ)
 named_at name n bytes = do

@@ -31,12 +31,12 @@ int_bytes (pos n) = if nat_lt n 256 then SMALL_INTEGER_EXT ∷ n ∷ [] else if 
 int_bytes (negsuc n) = if nat_lt n 2147483648 then INTEGER_EXT ∷ to_be_bytes w32 (cast_unsigned w32 (negsuc n)) else big_bytes 1 (suc n)
 
 -- SMALL_ATOM_UTF8_EXT, the length in one byte, where that holds it, else ATOM_UTF8_EXT, the length in two; then the text
-abbrev pub text_bytes : List ℕ → List ℕ
-text_bytes text = if nat_lt (length text) 256 then SMALL_ATOM_UTF8_EXT ∷ length text ∷ text else ATOM_UTF8_EXT ∷ to_be_bytes w16 (length text) ++ text
+abbrev pub tagged_text : List ℕ → List ℕ
+tagged_text text = if nat_lt (length text) 256 then SMALL_ATOM_UTF8_EXT ∷ length text ∷ text else ATOM_UTF8_EXT ∷ to_be_bytes w16 (length text) ++ text
 
 -- the text of an atom is the UTF-8 of its characters
 unfoldable pub atom_bytes : List ℕ → List ℕ
-atom_bytes characters = text_bytes (encode_utf8_all characters)
+atom_bytes characters = tagged_text (encode_utf8_all characters)
 
 -- NEW_PID_EXT, Node as an atom, ID, Serial, Creation
 unfoldable pub pid_bytes : Pid → List ℕ

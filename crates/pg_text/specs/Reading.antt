@@ -237,8 +237,8 @@ whole (Some x) = if length x.1 == 0 then Some x.0 else None
 abbrev pub term_of : List ℕ → Option Term
 term_of text = whole (term_at MAX_DEPTH text)
 
-abbrev pub atom_of : List ℕ → Option (List ℕ)
-atom_of text = whole (atom_at text)
+abbrev pub atom_from_text : List ℕ → Option (List ℕ)
+atom_from_text text = whole (atom_at text)
 
 abbrev pub pid_of : List ℕ → Option Pid
 pid_of text = whole (pid_at text)

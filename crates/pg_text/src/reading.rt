@@ -2,7 +2,7 @@
 
 ghost use Rattle.std.specs.Prelude.{◌≡◌, ◌≢◌, length, Some, None, IfOk, IfErr};
 ghost use Rattle.std.specs.Str.{chars};
-ghost use Rattle.pg_text.specs.Reading.{term_of, atom_of, pid_of, number_of};
+ghost use Rattle.pg_text.specs.Reading.{term_of, atom_from_text, pid_of, number_of};
 ghost use Rattle.pg_text.specs.declared.fault.TextFault.TheVariants.{BadText};
 
 mod atoms;
@@ -63,8 +63,8 @@ pub fn read_term(alloc: Global, text: &str) -> Result<Term, TextFault>
 ///
 /// Cost: memory for the characters of the text, and for the atom.
 pub fn read_atom(alloc: Global, text: &str) -> Result<Atom, TextFault>
-    ensures ok { IfOk result (λ atom. atom_of (chars text.now) ≡ Some atom) }
-    ensures err { IfErr result (λ fault. fault ≡ BadText → atom_of (chars text.now) ≡ None) }
+    ensures ok { IfOk result (λ atom. atom_from_text (chars text.now) ≡ Some atom) }
+    ensures err { IfErr result (λ fault. fault ≡ BadText → atom_from_text (chars text.now) ≡ None) }
 {
     let characters = characters_of(alloc, text)?;
     let (atom, rest) = atom_at(alloc, characters.as_slice())?;

@@ -8,7 +8,7 @@ use Rattle.pg_term.specs.RefParts.{RefParts}
 use Rattle.pg_term.specs.declared.term.Term.{Term, Tuple, List as Listed, the_lemmas}
 use Rattle.pg_term.specs.declared.term.Term.TheVariants.{Int, Atom, Ref, Pid as Process}
 use Rattle.pg_term_io.specs.Writing.{list_head, item_bytes, int_bytes, atom_bytes}
-use Rattle.pg_term_io.specs.Writing.{pid_bytes, reference_bytes, text_bytes}
+use Rattle.pg_term_io.specs.Writing.{pid_bytes, reference_bytes, tagged_text}
 use Rattle.std.proofs.lemmas.List.{append-nil}
 use Rattle.pg_term_io.proofs.Written.{list_is}
 use Rattle.pg_message.specs.Writing.{pair, triple, is_plain}
@@ -42,7 +42,7 @@ triple_len a b c = omega (arith, ap length (triple_bytes a b c), length-append (
 -- a word as an atom
 pub word_bytes : (w : List ℕ) → is_plain w ≡ true → length w ≤ 255 → item_bytes (Atom w) ≡ 119 ∷ length w ∷ w
 unfolding atom_bytes
-word_bytes w e few = atom_is w ∙ ap text_bytes (plain_text w e) ∙ ap (λ (b : Bool). cond b (119 ∷ length w ∷ w) (118 ∷ to_be_bytes w16 (length w) ++ w)) (lt-ltb (length w) 256 (omega arith))
+word_bytes w e few = atom_is w ∙ ap tagged_text (plain_text w e) ∙ ap (λ (b : Bool). cond b (119 ∷ length w ∷ w) (118 ∷ to_be_bytes w16 (length w) ++ w)) (lt-ltb (length w) 256 (omega arith))
 
 pub word_len : (w : List ℕ) → is_plain w ≡ true → length w ≤ 255 → length (item_bytes (Atom w)) ≡ 2 + length w
 word_len w e few = omega (arith, ap length (word_bytes w e few))

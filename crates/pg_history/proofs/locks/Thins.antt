@@ -12,9 +12,9 @@ use Rattle.pg_history.proofs.locks.Named.{Entry, updates}
 abbrev pub Marks : Type 0
 Marks = List (Entry × Bool)
 
-abbrev pub all_of : Marks → List Entry
-all_of [] = []
-all_of (m ∷ ms) = m.0 ∷ all_of ms
+abbrev pub all_entries : Marks → List Entry
+all_entries [] = []
+all_entries (m ∷ ms) = m.0 ∷ all_entries ms
 
 abbrev pub kept_of : Marks → List Entry
 kept_of [] = []
@@ -33,16 +33,16 @@ EachMissed F (m ∷ ms) = cond m.1 (Unit {0}) (F m.0) × EachMissed F ms
 -- The log has the updates of all these entries, but for some that have an excuse, at most one of each node that is gone.
 pub record Thin (F : Entry → Type 0) (gone : Node → Bool) (log : List Update) (all : List Entry) : Type 0 where
   pub marks : Marks
-  pub every : all_of marks ≡ all
+  pub every : all_entries marks ≡ all
   pub log_is : log ≡ updates (kept_of marks)
   pub few : (a : Node) → misses a marks ≤ cond (gone a) 1 0
   pub each : EachMissed F marks
 
 -- ---- lists in turn
 
-pub all_of-append : (xs ys : Marks) → all_of (xs ++ ys) ≡ all_of xs ++ all_of ys
-all_of-append [] ys = refl
-all_of-append (x ∷ xs) ys = ap (λ zs. x.0 ∷ zs) (all_of-append xs ys)
+pub all_entries-append : (xs ys : Marks) → all_entries (xs ++ ys) ≡ all_entries xs ++ all_entries ys
+all_entries-append [] ys = refl
+all_entries-append (x ∷ xs) ys = ap (λ zs. x.0 ∷ zs) (all_entries-append xs ys)
 
 pub kept_of-append : (xs ys : Marks) → kept_of (xs ++ ys) ≡ kept_of xs ++ kept_of ys
 kept_of-append [] ys = refl
@@ -91,7 +91,7 @@ pub thin_push : {F G : Entry → Type 0} {gone : Node → Bool} {log log' : List
     → log' ≡ log ++ e.update ∷ [] → all' ≡ all ++ e ∷ [] → Thin G gone log' all'
 thin_push {F} {G} {gone} e f t l a = record {
   marks = t.marks ++ (e, true) ∷ [];
-  every = all_of-append t.marks ((e, true) ∷ []) ∙ (ap (λ xs. xs ++ e ∷ []) t.every ∙ sym a);
+  every = all_entries-append t.marks ((e, true) ∷ []) ∙ (ap (λ xs. xs ++ e ∷ []) t.every ∙ sym a);
   log_is = l ∙ (ap (λ xs. xs ++ e.update ∷ []) t.log_is ∙ (sym (updates-append (kept_of t.marks) (e ∷ [])) ∙ ap updates (sym (kept_of-append t.marks ((e, true) ∷ [])))));
   few = λ i.
       let x : misses i t.marks ≤ cond {A = ℕ} (gone i) 1 0 = t.few i in
@@ -110,7 +110,7 @@ pub thin_skip : {F : Entry → Type 0} {gone gone' : Node → Bool} {log : List 
     → gone e.node ≡ false → gone' e.node ≡ true → F e → all' ≡ all ++ e ∷ [] → Thin F gone' log all'
 thin_skip {F} {gone} {gone'} e t g here then f a = record {
   marks = t.marks ++ (e, false) ∷ [];
-  every = all_of-append t.marks ((e, false) ∷ []) ∙ (ap (λ xs. xs ++ e ∷ []) t.every ∙ sym a);
+  every = all_entries-append t.marks ((e, false) ∷ []) ∙ (ap (λ xs. xs ++ e ∷ []) t.every ∙ sym a);
   log_is = t.log_is ∙ ap updates (sym (append-nil (kept_of t.marks)) ∙ sym (kept_of-append t.marks ((e, false) ∷ [])));
   few = λ i. go i (split same_atom atoms i e.node);
   each = each-append F t.marks ((e, false) ∷ []) t.each (f, tt);
@@ -149,7 +149,7 @@ thin_whole {F} {gone} nobody t = t.log_is ∙ ap updates (kept t.marks (λ a. su
         go true _ = refl
         go false low = absurd (omega (arith, low))
 
-    kept : (ms : Marks) → ((a : Node) → misses a ms ≤ 0) → kept_of ms ≡ all_of ms
+    kept : (ms : Marks) → ((a : Node) → misses a ms ≤ 0) → kept_of ms ≡ all_entries ms
     kept [] none = refl
     kept (m ∷ ms) none =
         let stays : m.1 ≡ true = one m (misses m.0.node ms) (none m.0.node) in

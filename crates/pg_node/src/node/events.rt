@@ -145,10 +145,7 @@ impl<T: GroupTable + Drop> Node<T> {
         ensures marked { IfErr result (λ fault. links_of self.new ≡ at_link peer (λ l. marked l fault) (links_of self.old)) }
         ensures stays { Stays (held_by self.old) (held_by self.new) result }
     {
-        match make_room(&mut self.wires, &mut self.has_room) {
-            Ok(()) => {}
-            Err(AllocError) => return Err(NodeFault::OutOfMemory),
-        }
+        make_room(&mut self.wires, &mut self.has_room)?;
         match self.state.take(peer, packet) {
             Ok(done) => {
                 send_all(
@@ -227,10 +224,7 @@ impl<T: GroupTable + Drop> Node<T> {
         ensures kept { OnErr result (links_of self.new ≡ links_of self.old) }
         ensures stays { Stays (held_by self.old) (held_by self.new) result }
     {
-        match make_room(&mut self.wires, &mut self.has_room) {
-            Ok(()) => {}
-            Err(AllocError) => return Err(NodeFault::OutOfMemory),
-        }
+        make_room(&mut self.wires, &mut self.has_room)?;
         match self.state.command(port, command) {
             Ok(done) => {
                 send_all(
@@ -261,10 +255,7 @@ impl<T: GroupTable + Drop> Node<T> {
         ensures kept { OnErr result (links_of self.new ≡ links_of self.old) }
         ensures stays { Stays (held_by self.old) (held_by self.new) result }
     {
-        match make_room(&mut self.wires, &mut self.has_room) {
-            Ok(()) => {}
-            Err(AllocError) => return Err(NodeFault::OutOfMemory),
-        }
+        make_room(&mut self.wires, &mut self.has_room)?;
         match self.state.retry(op) {
             Ok(done) => {
                 send_all(

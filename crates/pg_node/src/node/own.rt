@@ -7,7 +7,6 @@ use crate::node::wires::{make_room, send_all};
 use pg_group::GroupTable;
 use pg_node_state::{Done, NodeFault};
 use pg_reader::OwnReply;
-use std::alloc::AllocError;
 
 impl<T: GroupTable + Drop> Node<T> {
     ghost use Rattle.pg_opens.specs.Places.{name_at};
@@ -47,10 +46,7 @@ impl<T: GroupTable + Drop> Node<T> {
         ensures marked { IfErr result (λ fault. links_of self.new ≡ at_link peer (λ l. marked l fault) (links_of self.old)) }
         ensures stays { Stays (held_by self.old) (held_by self.new) result }
     {
-        match make_room(&mut self.wires, &mut self.has_room) {
-            Ok(()) => {}
-            Err(AllocError) => return Err(NodeFault::OutOfMemory),
-        }
+        make_room(&mut self.wires, &mut self.has_room)?;
         match self
             .state
             .take_own_reply(peer, reply.stamp, reply.number, reply.said)

@@ -1,7 +1,7 @@
 //! Atoms.
 
 ghost use Rattle.std.specs.Prelude.{◌≡◌};
-ghost use Rattle.pg_term.specs.Fault.{Gives, atom_of};
+ghost use Rattle.pg_term.specs.Fault.{Gives, checked_atom};
 ghost use Rattle.pg_term_io.specs.Reading.{utf8_atom, latin_atom, atom_in, atom_behind, atom_at};
 
 use crate::reading::numbers::{some_bytes, text_len_at};

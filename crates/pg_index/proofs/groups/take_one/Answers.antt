@@ -1,12 +1,12 @@
 use Rattle.std.proofs.Common.{◌∙◌, ap}
 use Rattle.pg_group.specs.Value.{Counts, with_one_less}
-use Rattle.pg_index.specs.Groups.{counts_in, counts_at}
+use Rattle.pg_index.specs.Groups.{counts_by_number, counts_at}
 use Rattle.pg_index.proofs.Numbers.{written, nobody_there, nobody_less}
 use Rattle.pg_index.proofs.groups.take_one.Goals as goal
 
 pub returns-in-Some-clause-counts : goal.returns-in-Some-clause-counts
 returns-in-Some-clause-counts c =
-    written c.args.groups.now c.args.group c.in-Some.members.now c.take_one.new.self (with_one_less (counts_in c.args.groups.now c.args.group) c.args.pid.now) c.in-Some.ensures.value
+    written c.args.groups.now c.args.group c.in-Some.members.now c.take_one.new.self (with_one_less (counts_by_number c.args.groups.now c.args.group) c.args.pid.now) c.in-Some.ensures.value
     (c.take_one.ensures.counts ∙ ap (λ o. with_one_less (counts_at o) c.args.pid.now) c.in-Some.ensures.value)
 
 pub returns-in-None-clause-counts : goal.returns-in-None-clause-counts

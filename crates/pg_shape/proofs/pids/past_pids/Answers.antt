@@ -1,14 +1,14 @@
 use Rattle.std.proofs.Common.{refl, arith}
 use Rattle.pg_term_io.specs.Reading.{item_at}
 use Rattle.pg_message.specs.Parts.{pid_of}
-use Rattle.pg_message.specs.Reading.{all_of}
+use Rattle.pg_message.specs.Reading.{read_each}
 use Rattle.pg_shape.specs.Shape.{members_of}
 use Rattle.pg_shape.proofs.Shapes.{end_is}
 use Rattle.pg_shape.proofs.ListShapes.{at_first, no_list, no_first, behind_first, no_text, over, int_no_pid}
 use Rattle.pg_shape.proofs.pids.past_pids.Goals as goal
 
 pub returns-then-not-is_list-clause-pids : goal.returns-then-not-is_list-clause-pids
-returns-then-not-is_list-clause-pids c t rest e = no_list (all_of pid_of) t (c.if-not-is_list.ensures.no c.args.levels t rest refl e)
+returns-then-not-is_list-clause-pids c t rest e = no_list (read_each pid_of) t (c.if-not-is_list.ensures.no c.args.levels t rest refl e)
 
 pub elements-init : goal.elements-init
 elements-init c = record {

@@ -6,13 +6,13 @@ use Rattle.pg_node_state.specs.States.{state_of}
 use Rattle.pg_node.proofs.Events.{in_room}
 use Rattle.pg_node.proofs.node.Node.command.Goals as goal
 
-pub returns-in-Err-command-clause-event : goal.returns-in-Err-command-clause-event
-returns-in-Err-command-clause-event g c = in_room _ (state_of c.args.self.now.state) _ _ _ _ (Err c.in-Err-command.fault) c.in-Err-command.ensures.event
+pub returns-in-Err-clause-event : goal.returns-in-Err-clause-event
+returns-in-Err-clause-event g c = in_room _ (state_of c.args.self.now.state) _ _ _ _ (Err c.in-Err.fault) c.in-Err.ensures.event
 
-pub returns-in-Ok-command-clause-sent : goal.returns-in-Ok-command-clause-sent
-returns-in-Ok-command-clause-sent g c = λ place. c.send_all.ensures.sent place
+pub returns-in-Ok-clause-sent : goal.returns-in-Ok-clause-sent
+returns-in-Ok-clause-sent g c = λ place. c.send_all.ensures.sent place
     ∙ (ap (λ (sends : List (ℕ × Packet)). with_more (links_in c.make_room.new.wires.items place) (frames_to sends place)) c.as_slice.ensures.value
-    ∙ ap (λ (f : ℕ → Link). with_more (f place) (frames_to c.in-Ok-command.done.sends.items place)) c.make_room.ensures.same)
+    ∙ ap (λ (f : ℕ → Link). with_more (f place) (frames_to c.in-Ok.done.sends.items place)) c.make_room.ensures.same)
 
-pub returns-in-Ok-command-clause-small : goal.returns-in-Ok-command-clause-small
-returns-in-Ok-command-clause-small g c = subst (λ (sends : List (ℕ × Packet)). AreSmallFrames sends) c.as_slice.ensures.value c.send_all.ensures.small
+pub returns-in-Ok-clause-small : goal.returns-in-Ok-clause-small
+returns-in-Ok-clause-small g c = subst (λ (sends : List (ℕ × Packet)). AreSmallFrames sends) c.as_slice.ensures.value c.send_all.ensures.small

@@ -1,3 +1,4 @@
+use Rattle.std.proofs.lemmas.Result.{err_from_is_err_and}
 use Rattle.std.proofs.lemmas.List.{length-set}
 use Rattle.std.specs.Prelude.{slice_set}
 use Rattle.std.proofs.Common.{◌≡◌, ◌<◌, ◌+◌, ◌∙◌, ℕ, List, Err, length, refl, sym, ap, arith, subst}
@@ -12,33 +13,35 @@ use Rattle.pg_node.proofs.Linked.{one_link, still_room}
 use Rattle.pg_node.proofs.Events.{unmarked, sent_links, in_room}
 use Rattle.pg_node.proofs.node.Node.take_own_reply.Goals as goal
 
+pub returns-in_err-make_room-clause-marked : goal.returns-in_err-make_room-clause-marked
+returns-in_err-make_room-clause-marked g c =
+    let p = err_from_is_err_and c.from_residual.result c.from_residual.ensures.1 in
+    rw (p.1, p.2) (c.make_room.ensures.same ∙ sym (unmarked (links_in c.args.self.now.wires.items) c.args.peer OutOfMemory refl))
+
+pub returns-in-Err-clause-event : goal.returns-in-Err-clause-event
+returns-in-Err-clause-event g c = in_room _ (state_of c.args.self.now.state) _ _ _ _ (Err c.in-Err.fault) c.in-Err.ensures.event
+
 pub returns-in-Err-clause-marked : goal.returns-in-Err-clause-marked
-returns-in-Err-clause-marked g c = c.make_room.ensures.same ∙ sym (unmarked (links_in c.args.self.now.wires.items) c.args.peer OutOfMemory refl)
-
-pub returns-in-Err-take_own_reply-clause-event : goal.returns-in-Err-take_own_reply-clause-event
-returns-in-Err-take_own_reply-clause-event g c = in_room _ (state_of c.args.self.now.state) _ _ _ _ (Err c.in-Err-take_own_reply.fault) c.in-Err-take_own_reply.ensures.event
-
-pub returns-in-Err-take_own_reply-clause-marked : goal.returns-in-Err-take_own_reply-clause-marked
-returns-in-Err-take_own_reply-clause-marked g c =
+returns-in-Err-clause-marked g c =
     let wires = c.make_room.new.wires.items in
     let within : c.args.peer < length wires = omega (arith, c.args.self.now.linked, c.requires.place, c.make_room.ensures.len) in
-    one_link wires c.args.peer c.index_mut-wire-in-Err-take_own_reply.result.now c.mark.new.self (λ l. marked l c.in-Err-take_own_reply.fault) within c.index_mut-wire-in-Err-take_own_reply.ensures.value c.mark.ensures.marked
-    ∙ ap (at_link c.args.peer (λ l. marked l c.in-Err-take_own_reply.fault)) c.make_room.ensures.same
+    one_link wires c.args.peer c.index_mut-wire-in-Err.result.now c.mark.new.self (λ l. marked l c.in-Err.fault) within c.index_mut-wire-in-Err.ensures.value c.mark.ensures.marked
+    ∙ ap (at_link c.args.peer (λ l. marked l c.in-Err.fault)) c.make_room.ensures.same
 
-pub returns-in-Ok-take_own_reply-clause-sent : goal.returns-in-Ok-take_own_reply-clause-sent
-returns-in-Ok-take_own_reply-clause-sent g c =
+pub returns-in-Ok-clause-sent : goal.returns-in-Ok-clause-sent
+returns-in-Ok-clause-sent g c =
     let w0 = c.args.self.now.wires.items in
     let w1 = c.make_room.new.wires.items in
     let w2 = c.send_all.new.wires.items in
-    let sent : (place : ℕ) → links_in w2 place ≡ with_more (links_in w1 place) (frames_to c.in-Ok-take_own_reply.done.sends.items place) = λ place. c.send_all.ensures.sent place ∙ ap (λ (sends : List (ℕ × Packet)). with_more (links_in w1 place) (frames_to sends place)) c.as_slice.ensures.value in
+    let sent : (place : ℕ) → links_in w2 place ≡ with_more (links_in w1 place) (frames_to c.in-Ok.done.sends.items place) = λ place. c.send_all.ensures.sent place ∙ ap (λ (sends : List (ℕ × Packet)). with_more (links_in w1 place) (frames_to sends place)) c.as_slice.ensures.value in
     let within : c.args.peer < length w2 = omega (arith, c.args.self.now.linked, c.requires.place, c.make_room.ensures.len, c.send_all.ensures.len) in
-    λ place. sent_links w0 w1 w2 c.in-Ok-take_own_reply.done.sends.items c.args.peer c.index_mut-wire.result.now c.pass.new.self c.make_room.ensures.same sent within c.index_mut-wire.ensures.value c.pass.ensures.passed place
+    λ place. sent_links w0 w1 w2 c.in-Ok.done.sends.items c.args.peer c.index_mut-wire.result.now c.pass.new.self c.make_room.ensures.same sent within c.index_mut-wire.ensures.value c.pass.ensures.passed place
 
-pub returns-in-Ok-take_own_reply-clause-small : goal.returns-in-Ok-take_own_reply-clause-small
-returns-in-Ok-take_own_reply-clause-small g c = subst (λ (sends : List (ℕ × Packet)). AreSmallFrames sends) c.as_slice.ensures.value c.send_all.ensures.small
+pub returns-in-Ok-clause-small : goal.returns-in-Ok-clause-small
+returns-in-Ok-clause-small g c = subst (λ (sends : List (ℕ × Packet)). AreSmallFrames sends) c.as_slice.ensures.value c.send_all.ensures.small
 
-pub invariant_of-self-in-Ok-take_own_reply : goal.invariant_of-self-in-Ok-take_own_reply
-invariant_of-self-in-Ok-take_own_reply g c =
+pub invariant_of-self-in-Ok : goal.invariant_of-self-in-Ok
+invariant_of-self-in-Ok g c =
     let wires = c.send_all.new.wires.items in
     let within : c.args.peer < length wires = omega (arith, c.args.self.now.linked, c.requires.place, c.make_room.ensures.len, c.send_all.ensures.len) in
     let same = ap (λ (names : List Node). length names) c.take_own_reply.ensures.stays.names in
@@ -49,8 +52,8 @@ invariant_of-self-in-Ok-take_own_reply g c =
       room = λ is. still_room wires c.args.peer c.index_mut-wire.result.now c.pass.new.self within c.index_mut-wire.ensures.value (omega (arith, c.pass.ensures.room)) (c.send_all.ensures.known is);
     }
 
-pub invariant_of-self-in-Err-take_own_reply : goal.invariant_of-self-in-Err-take_own_reply
-invariant_of-self-in-Err-take_own_reply g c =
+pub invariant_of-self-in-Err : goal.invariant_of-self-in-Err
+invariant_of-self-in-Err g c =
     let wires = c.make_room.new.wires.items in
     let within : c.args.peer < length wires = omega (arith, c.args.self.now.linked, c.requires.place, c.make_room.ensures.len) in
     let same = ap (λ (names : List Node). length names) c.take_own_reply.ensures.stays.names in
@@ -58,5 +61,5 @@ invariant_of-self-in-Err-take_own_reply g c =
     record {
       linked = linked;
       passage = c.args.self.now.passage;
-      room = λ is. still_room wires c.args.peer c.index_mut-wire-in-Err-take_own_reply.result.now c.mark.new.self within c.index_mut-wire-in-Err-take_own_reply.ensures.value (omega (arith, c.mark.ensures.room)) (c.make_room.ensures.known is);
+      room = λ is. still_room wires c.args.peer c.index_mut-wire-in-Err.result.now c.mark.new.self within c.index_mut-wire-in-Err.ensures.value (omega (arith, c.mark.ensures.room)) (c.make_room.ensures.known is);
     }
