@@ -43,7 +43,7 @@ fn members_are<T: GroupTable>(
 }
 
 /// Whether a pid stands at the places from one up to another.
-fn stands_at<T: GroupTable>(
+pub fn stands_at<T: GroupTable>(
     table: &T,
     name: &Term,
     scope: Scope<'_>,
@@ -51,7 +51,12 @@ fn stands_at<T: GroupTable>(
     from: u64,
     to: u64,
 ) -> bool {
-    (from..to).all(|place| table.pid_at(name, scope, place) == Some(pid))
+    for place in from..to {
+        if table.pid_at(name, scope, place) != Some(pid) {
+            return false;
+        }
+    }
+    true
 }
 
 /// Whether the list of a group, and its sizes, are so.
@@ -82,7 +87,7 @@ fn list_is<T: GroupTable>(table: &T, pids: (&Pid, &Pid), name: &Term, listed: &I
 }
 
 /// Whether these are the members of a group, place by place.
-pub fn are_at<T: GroupTable>(table: &T, name: &Term, pids: &[Pid]) -> bool {
+fn are_at<T: GroupTable>(table: &T, name: &Term, pids: &[Pid]) -> bool {
     for place in 0..pids.len() {
         if table.pid_at(name, Scope::All, place as u64) != pids.get(place) {
             return false;

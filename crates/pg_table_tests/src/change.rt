@@ -145,5 +145,10 @@ pub fn has_groups<T: GroupTable>(rt: &impl Abort, table: &T, count: usize) -> bo
 }
 
 fn has_all<T: GroupTable>(table: &T, names: &[Term]) -> bool {
-    names.iter().all(|name| table.has(name))
+    for name in names {
+        if !table.has(name) {
+            return false;
+        }
+    }
+    true
 }

@@ -3,14 +3,14 @@
 use crate::change::Act::{self, *};
 use crate::change::perform_all;
 use crate::queries::{FILLED, PIDS, READINGS, Reading, are_read};
-use crate::samples::{Cast, holds};
+use crate::samples::Cast;
 use crate::trial::{Trial, on_both};
 use pg_group::GroupTable;
 use std::alloc::Global;
 use std::process::Abort;
 
 /// The pids that have ended before, by their places in the cast; what is made of an empty table; and what is read of it then.
-type Example = (
+pub type Example = (
     &'static [usize],
     &'static [(i64, Act<'static>)],
     &'static [Reading],
@@ -58,32 +58,28 @@ const DROP_FROM_MANY_GROUPS: Example = (
     ],
 );
 
-const EXAMPLES: &[Example] = &[
-    JOIN_TWICE_LEAVE_ONCE,
-    INITIAL_TABLES,
-    END_BEATS_LATE_JOIN,
-    CLOSEST_MEMBER,
-    DROP_FROM_MANY_GROUPS,
+const EXAMPLES: &[Trial] = &[
+    Trial::Example(&JOIN_TWICE_LEAVE_ONCE),
+    Trial::Example(&INITIAL_TABLES),
+    Trial::Example(&END_BEATS_LATE_JOIN),
+    Trial::Example(&CLOSEST_MEMBER),
+    Trial::Example(&DROP_FROM_MANY_GROUPS),
 ];
 
 #[test]
 fn worked_examples(rt: HostRuntime) {
-    for place in 0..EXAMPLES.len() {
-        on_both(&rt, rt.alloc(), Trial::Example(place));
-    }
+    on_both(&rt, rt.alloc(), EXAMPLES);
 }
 
 /// What an example makes of a table is read of it.
-pub fn is_so<T: GroupTable>(rt: &impl Abort, alloc: Global, table: &mut T, place: usize) {
+pub fn is_so<T: GroupTable>(
+    rt: &impl Abort,
+    alloc: Global,
+    table: &mut T,
+    (ended, changes, readings): &Example,
+) {
     let mut cast = Cast::new(rt, alloc, PIDS);
-    let Some((ended, changes, readings)) = EXAMPLES.get(place) else {
-        holds(rt, false, "no such example");
-        drop(cast);
-        return;
-    };
-    for place in *ended {
-        cast.end(rt, *place);
-    }
+    cast.end_all(rt, ended);
     perform_all(rt, table, &cast, changes);
     are_read(rt, table, &cast, readings);
     drop(cast);

@@ -11,12 +11,12 @@ use std::process::Abort;
 fn copies_are_equal(rt: HostRuntime) {
     for kind in 0..4 {
         let update = update(&rt, rt.alloc(), kind);
-        row_holds(&rt, is_copied(&rt, rt.alloc(), &update), &kind);
+        row_holds(&rt, is_copied(&rt, rt.alloc(), &update), kind);
         drop(update);
     }
 }
 
-fn update(rt: &impl Abort, alloc: Global, kind: u32) -> Update {
+fn update(rt: &impl Abort, alloc: Global, kind: usize) -> Update {
     match kind {
         0 => Update::Create(Term::Int(1)),
         1 => Update::Delete(Term::Int(2)),
@@ -42,10 +42,10 @@ fn shown(alloc: Global, update: &Update) -> Result<String, AllocError> {
 }
 
 /// The pids that the ends are about.
-const PIDS: &[(&str, u32)] = &[("a", 1), ("a", 2), ("b", 1), ("b", 2)];
+const PIDS: &[(&str, u32, u32)] = &[("a", 1, 3), ("b", 1, 3)];
 
 /// The end of a pid, by its place, or the loss of its node.
-#[derive(Clone, Copy, Debug)]
+#[derive(Clone, Copy)]
 enum End {
     Pid(usize),
     Node(usize),
@@ -86,29 +86,31 @@ fn check_rows(rt: &impl Abort, cast: &Cast, rows: &[Row]) {
     let mut first = Ended::new(cast.alloc);
     let mut second = Ended::new(cast.alloc);
     holds(rt, first.same(&second), "none");
-    for row in rows {
-        if row.0 {
-            check_row(rt, cast, &mut first, &second, row);
+    for (place, row) in rows.iter().enumerate() {
+        let is_so = if row.0 {
+            is_row(rt, cast, &mut first, &second, row)
         } else {
-            check_row(rt, cast, &mut second, &first, row);
-        }
+            is_row(rt, cast, &mut second, &first, row)
+        };
+        row_holds(rt, is_so, place);
     }
     drop(first);
     drop(second);
 }
 
 /// A refused end changes nothing.
-fn check_row(rt: &impl Abort, cast: &Cast, one: &mut Ended, other: &Ended, row: &Row) {
+fn is_row(rt: &impl Abort, cast: &Cast, one: &mut Ended, other: &Ended, row: &Row) -> bool {
     let (_, end, is_same, have_ended) = *row;
-    let (was_same, had_ended) = (one.same(other), have(one, cast));
+    let before = (one.same(other), have(one, cast));
     if put(rt, one, cast, end).is_err() {
-        row_holds(rt, one.same(other) == was_same, row);
-        row_holds(rt, have(one, cast) == had_ended, row);
+        holds(
+            rt,
+            (one.same(other), have(one, cast)) == before,
+            "as before",
+        );
         put(rt, one, cast, end).expect(rt, "again");
     }
-    row_holds(rt, one.same(other) == is_same, row);
-    row_holds(rt, other.same(one) == is_same, row);
-    row_holds(rt, have(one, cast) == have_ended, row);
+    (one.same(other), other.same(one), have(one, cast)) == (is_same, is_same, have_ended)
 }
 
 fn put(rt: &impl Abort, ended: &mut Ended, cast: &Cast, end: End) -> Result<(), AllocError> {

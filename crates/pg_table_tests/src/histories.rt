@@ -44,13 +44,13 @@ const MIXED: &[(i64, Act<'static>)] = &[
 
 #[test]
 fn agree_in_all_histories(rt: HostRuntime) {
-    on_both(&rt, rt.alloc(), Trial::Histories);
+    on_both(&rt, rt.alloc(), &[Trial::Histories]);
 }
 
 /// An empty table answers as the rules say after each step of all histories of up to five updates, and of up to four updates,
 /// merges and drops; and of up to four of either, where the process of the first pid has ended.
 pub fn agrees<T: GroupTable + Drop>(rt: &impl Abort, alloc: Global, empty: &T) {
-    let mut cast = Cast::new(rt, alloc, &[("a", 1), ("b", 1)]);
+    let mut cast = Cast::new(rt, alloc, &[("a", 1, 2), ("b", 1, 2)]);
     let mut reading = Reading {
         first: None,
         second: None,

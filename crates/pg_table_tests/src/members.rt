@@ -1,6 +1,6 @@
 //! The members of one group, with counts that no list could tell. The test passes wherever an allocation is refused.
 
-use crate::samples::{Cast, either, row_holds};
+use crate::samples::{Cast, either, holds, row_holds};
 use pg_group::Scope;
 use pg_members::Members;
 use std::alloc::Global;
@@ -16,16 +16,16 @@ const CROWDS: &[u32] = &[1, 63, 64, 65, 200];
 #[test]
 fn copies_large_counts(rt: HostRuntime) {
     for crowd in CROWDS {
-        let cast = Cast::of_nodes(&rt, rt.alloc(), &["a"], *crowd);
+        let cast = Cast::new(&rt, rt.alloc(), &[("a", 0, *crowd)]);
         let mut members = joined(&rt, &cast);
         let copy = either(&rt, members.copy(), members.copy());
-        row_holds(&rt, are_counted(&members, &cast, OFTEN), crowd);
+        let are_joined = are_counted(&members, &cast, OFTEN);
         empty(&rt, &mut members, &cast);
-        row_holds(&rt, are_counted(&members, &cast, 0), crowd);
-        row_holds(&rt, are_counted(&copy, &cast, OFTEN), crowd);
+        let are_left = are_counted(&members, &cast, 0) && are_counted(&copy, &cast, OFTEN);
         drop(members);
         drop(copy);
         drop(cast);
+        row_holds(&rt, are_joined && are_left, *crowd as usize);
     }
 }
 
@@ -34,7 +34,7 @@ fn joined(rt: &impl Abort, cast: &Cast) -> Members {
     let mut members = Members::new(cast.alloc);
     for pid in &cast.pids {
         if members.add(pid, OFTEN).is_err() {
-            row_holds(rt, members.count(pid) == 0, pid);
+            holds(rt, members.count(pid) == 0, "as before");
             members.add(pid, OFTEN).expect(rt, "again");
         }
     }
@@ -44,13 +44,17 @@ fn joined(rt: &impl Abort, cast: &Cast) -> Members {
 /// Takes all pids out; each tells its count when one of it is taken.
 fn empty(rt: &impl Abort, members: &mut Members, cast: &Cast) {
     for pid in &cast.pids {
-        row_holds(rt, members.take_one(pid) == OFTEN, pid);
+        holds(rt, members.take_one(pid) == OFTEN, "its count");
         members.remove(pid);
     }
 }
 
 /// Whether each of the pids is so often a member, and nobody else is one.
 fn are_counted(members: &Members, cast: &Cast, often: u64) -> bool {
-    cast.pids.iter().all(|pid| members.count(pid) == often)
-        && members.size(Scope::All) == (cast.pids.len() as u64).wrapping_mul(often)
+    for pid in &cast.pids {
+        if members.count(pid) != often {
+            return false;
+        }
+    }
+    members.size(Scope::All) == (cast.pids.len() as u64).wrapping_mul(often)
 }

@@ -12,7 +12,7 @@ use std::alloc::Global;
 use std::process::Abort;
 
 /// The members of the group 7, in their order.
-pub const PIDS: &[(&str, u32)] = &[("a", 1), ("a", 2), ("a", 2), ("b", 9)];
+pub const PIDS: &[(&str, u32, u32)] = &[("a", 1, 3), ("a", 2, 3), ("b", 9, 10)];
 
 /// The group 7 has two members on node a, one of them twice, and one on node b; the group 3 has none.
 pub const FILLED: &[(i64, Act<'static>)] = &[(7, Merge(&[3, 1, 0, 1])), (3, Merge(&[]))];
@@ -28,57 +28,45 @@ const OTHERS: &[(&[(i64, Act<'static>)], bool)] = &[
     ),
 ];
 
-/// Tables are compared by what they say, whichever keeps it: the names of both, and of each the members as often.
+const QUERIES: &[Trial] = &[Trial::SameTables, Trial::NamesInOrder];
+
 #[test]
-fn same_tables(rt: HostRuntime) {
-    on_both(&rt, rt.alloc(), Trial::SameTables);
+fn tables_are_read(rt: HostRuntime) {
+    on_both(&rt, rt.alloc(), QUERIES);
+    holds(&rt, QueryFault::NoSuchGroup.number() == 20, "number");
 }
 
+/// Tables are compared by what they say, whichever keeps it: the names of both, and of each the members as often.
 pub fn compares<T: GroupTable>(rt: &impl Abort, alloc: Global, table: &mut T) {
     let cast = Cast::new(rt, alloc, PIDS);
     perform_all(rt, table, &cast, FILLED);
-    for row in OTHERS {
+    for (changes, is_same) in OTHERS {
         let mut rows = RowTable::new(alloc);
-        compares_with(rt, table, &mut rows, &cast, row);
+        compares_with(rt, table, &mut rows, &cast, changes, *is_same);
         drop(rows);
         let mut index = IndexTable::new(alloc);
-        compares_with(rt, table, &mut index, &cast, row);
+        compares_with(rt, table, &mut index, &cast, changes, *is_same);
         drop(index);
     }
     drop(cast);
 }
 
+/// Whether a table says the same as another, of which something is made, and the other the same as it.
 fn compares_with<S: GroupTable, T: GroupTable>(
     rt: &impl Abort,
     table: &S,
     other: &mut T,
     cast: &Cast,
-    (changes, is_same): &(&[(i64, Act<'_>)], bool),
+    changes: &[(i64, Act<'_>)],
+    is_same: bool,
 ) {
     perform_all(rt, other, cast, changes);
-    holds(
-        rt,
-        are_same(rt, cast.alloc, table, other) == *is_same,
-        "same",
-    );
-    holds(
-        rt,
-        are_same(rt, cast.alloc, other, table) == *is_same,
-        "same",
-    );
-}
-
-fn are_same<S: GroupTable, T: GroupTable>(
-    rt: &impl Abort,
-    alloc: Global,
-    one: &S,
-    two: &T,
-) -> bool {
-    either(
-        rt,
-        same_groups(alloc, one, two),
-        same_groups(alloc, one, two),
-    )
+    let first = same_groups(cast.alloc, table, other);
+    let same = either(rt, first, same_groups(cast.alloc, table, other));
+    holds(rt, same == is_same, "same");
+    let first = same_groups(cast.alloc, other, table);
+    let same = either(rt, first, same_groups(cast.alloc, other, table));
+    holds(rt, same == is_same, "same");
 }
 
 /// What a group has at a node: its members from one place of the cast up to another, the local ones among them, and the id of the pid
@@ -101,12 +89,13 @@ pub const READINGS: &[Reading] = &[
 ];
 
 pub fn are_read<T: GroupTable>(rt: &impl Abort, table: &T, cast: &Cast, readings: &[Reading]) {
-    for reading in readings {
+    for (place, reading) in readings.iter().enumerate() {
         let name = Term::Int(reading.0);
         let own = atom(rt, cast.alloc, reading.1);
-        row_holds(rt, is_read(rt, table, cast, &name, &own, reading), reading);
+        let is_read = is_read(rt, table, cast, &name, &own, reading);
         drop(own);
         drop(name);
+        row_holds(rt, is_read, place);
     }
 }
 
@@ -118,20 +107,19 @@ fn is_read<T: GroupTable>(
     own: &Atom,
     reading: &Reading,
 ) -> bool {
-    let listed = members_of(rt, cast.alloc, table, name);
+    let first = members(cast.alloc, table, name);
+    let listed = either(rt, first, members(cast.alloc, table, name));
     let first = local_members(cast.alloc, table, own, name);
     let local = either(rt, first, local_members(cast.alloc, table, own, name));
-    let is_read = are(listed.as_slice(), &cast.pids, reading.2)
-        && are(local.as_slice(), &cast.pids, reading.3)
-        && are_picked(table, own, name, reading.4);
-    drop(listed);
-    drop(local);
-    is_read
+    let is_listed = is_range(listed, &cast.pids, reading.2);
+    is_range(local, &cast.pids, reading.3) && is_listed && are_picked(table, own, name, reading.4)
 }
 
 /// Whether these are the pids from one place up to another.
-fn are(listed: &[Pid], pids: &[Pid], (from, to): (usize, usize)) -> bool {
-    pids.get(from..to) == Some(listed)
+pub fn is_range(listed: Items<Pid>, pids: &[Pid], (from, to): (usize, usize)) -> bool {
+    let is_range = pids.get(from..to) == Some(listed.as_slice());
+    drop(listed);
+    is_range
 }
 
 /// Whether each word picks the pid with its id from a group, or nobody.
@@ -141,38 +129,39 @@ fn are_picked<T: GroupTable>(
     name: &Term,
     words: &[(u32, Option<u32>)],
 ) -> bool {
-    words.iter().all(|(word, id)| match closest(table, own, name, *word) {
-        Ok(pid) => *id == Some(pid.id),
-        Err(fault) => *id == None && fault == QueryFault::NoMember,
-    })
-}
-
-/// The members of a group that is there.
-fn members_of<T: GroupTable>(rt: &impl Abort, alloc: Global, table: &T, name: &Term) -> Items<Pid> {
-    match members(alloc, table, name) {
-        Ok(listed) => listed,
-        Err(_) => members(alloc, table, name).expect(rt, "again"),
+    for (word, id) in words {
+        let is_picked = match closest(table, own, name, *word) {
+            Ok(pid) => *id == Some(pid.id),
+            Err(fault) => id.is_none() && fault == QueryFault::NoMember,
+        };
+        if !is_picked {
+            return false;
+        }
     }
+    true
 }
 
-/// The groups are named in their order, and the members of each as `READINGS` say.
-#[test]
-fn members_in_order(rt: HostRuntime) {
-    on_both(&rt, rt.alloc(), Trial::MembersInOrder);
-    holds(&rt, QueryFault::NoSuchGroup.number() == 20, "number");
-}
-
+/// The groups are named in their order, and one that is absent has no members.
 pub fn names_in_order<T: GroupTable>(rt: &impl Abort, alloc: Global, table: &mut T) {
     let cast = Cast::new(rt, alloc, PIDS);
     perform_all(rt, table, &cast, FILLED);
-    are_read(rt, table, &cast, READINGS);
     drop(cast);
-    let absent = Term::Int(5);
-    let fault = members(alloc, table, &absent).err();
-    drop(absent);
-    holds(rt, fault == Some(QueryFault::NoSuchGroup), "absent");
+    holds(rt, is_absent(alloc, table, Term::Int(5)), "absent");
     let names = either(rt, which_groups(table), which_groups(table));
-    let are_both = names.as_slice() == [Term::Int(3), Term::Int(7)].as_slice();
-    holds(rt, are_both, "names");
+    holds(rt, are_named(names, 3, 7), "names");
+}
+
+fn is_absent<T: GroupTable>(alloc: Global, table: &T, name: Term) -> bool {
+    let fault = members(alloc, table, &name).err();
+    drop(name);
+    fault == Some(QueryFault::NoSuchGroup)
+}
+
+fn are_named(names: Items<Term>, first: i64, second: i64) -> bool {
+    let are_named = match names.as_slice() {
+        [Term::Int(one), Term::Int(two)] => *one == first && *two == second,
+        _ => false,
+    };
     drop(names);
+    are_named
 }

@@ -4,23 +4,25 @@ use crate::change::{Act, has_groups, perform};
 use crate::samples::{Cast, holds};
 use pg_group::{GroupTable, RowTable, Scope};
 use pg_index::IndexTable;
-use pg_query::{local_members, members};
+use pg_query::{QueryFault, local_members, members};
 use pg_random::Random;
-use pg_term::Term;
+use pg_term::{Items, Pid, Term};
 use std::alloc::Global;
 use std::process::Abort;
 
-const NODES: &[&str] = &["a", "b@host", "c"];
-
-const PIDS_OF_NODE: u32 = 150;
+/// The pids of three nodes.
+const CROWD: &[(&str, u32, u32)] = &[("a", 0, 150), ("b@host", 0, 150), ("c", 0, 150)];
 
 const PIDS: u32 = 450;
+
+/// The places of the first pids of the nodes.
+const FIRSTS: &[usize] = &[0, 150, 300];
 
 const GROUPS: u32 = 5;
 
 /// The pids of three nodes, of which every tenth has ended.
 fn crowd(rt: &impl Abort, alloc: Global) -> Cast {
-    let mut cast = Cast::of_nodes(rt, alloc, NODES, PIDS_OF_NODE);
+    let mut cast = Cast::new(rt, alloc, CROWD);
     for pid in cast.pids.iter_mut() {
         pid.serial = pid.id % 3;
         if pid.id % 10 == 9 {
@@ -37,6 +39,7 @@ struct Both {
     rows: RowTable,
     index: IndexTable,
     cast: Cast,
+    random: Random,
 }
 
 /// Groups of some hundred members, which are several blocks of rows: 100,000 changes, compared after each thousand.
@@ -46,22 +49,19 @@ fn index_agrees_with_rows_in_random_changes(rt: HostRuntime) {
         rows: RowTable::new(rt.alloc()),
         index: IndexTable::new(rt.alloc()),
         cast: crowd(&rt, rt.alloc()),
+        random: Random::new(1),
     };
-    let mut random = Random::new(1);
     for _ in 0..100 {
-        both.change(&rt, &mut random);
-        for group in 0..i64::from(GROUPS) {
-            holds(&rt, both.are_alike(&rt, group), "alike");
-        }
-        holds(&rt, both.have_as_many(&rt), "as many");
+        both.change(&rt);
+        holds(&rt, both.all_alike(&rt), "alike");
     }
     drop(both);
-    drop(random);
 }
 
 impl Both {
     /// Makes a thousand changes of both tables.
-    fn change(&mut self, rt: &impl Abort, random: &mut Random) {
+    fn change(&mut self, rt: &impl Abort) {
+        let random = &mut self.random;
         for _ in 0..1_000 {
             let [p, q, r, s] = [place(random), place(random), place(random), place(random)];
             let told = [p, q, r, s, p, q];
@@ -72,44 +72,48 @@ impl Both {
         }
     }
 
+    /// Whether both tables name as many groups, and answer alike of each.
+    fn all_alike(&self, rt: &impl Abort) -> bool {
+        for group in 0..i64::from(GROUPS) {
+            if !self.are_alike(rt, group) {
+                return false;
+            }
+        }
+        self.have_as_many(rt)
+    }
+
     /// Whether both tables answer alike, in all that can be asked of a group.
     fn are_alike(&self, rt: &impl Abort, group: i64) -> bool {
         let name = Term::Int(group);
         let has = self.index.has(&name);
         let are_alike = self.rows.has(&name) == has
             && self.count_alike(&name)
+            && self.rows.size(&name, Scope::All) == self.index.size(&name, Scope::All)
             && (!has || self.list_alike(rt, &name));
         drop(name);
         are_alike
     }
 
     fn count_alike(&self, name: &Term) -> bool {
-        let mut pids = self.cast.pids.iter();
-        pids.all(|pid| self.rows.count(name, pid) == self.index.count(name, pid))
+        for pid in &self.cast.pids {
+            if self.rows.count(name, pid) != self.index.count(name, pid) {
+                return false;
+            }
+        }
+        true
     }
 
-    /// Whether both list the same members of a group, in all and on each node, and tell the same size.
+    /// Whether both list the same members of a group, in all and on each node.
     fn list_alike(&self, rt: &impl Abort, name: &Term) -> bool {
-        let first = members(self.cast.alloc, &self.rows, name).expect(rt, "members");
-        let second = members(self.cast.alloc, &self.index, name).expect(rt, "members");
-        let alike = first == second;
-        drop(first);
-        drop(second);
-        alike
-            && self.rows.size(name, Scope::All) == self.index.size(name, Scope::All)
-            && self.local_alike(rt, name, 0)
-            && self.local_alike(rt, name, PIDS_OF_NODE as usize)
-            && self.local_alike(rt, name, 2 * PIDS_OF_NODE as usize)
-    }
-
-    /// Whether both list the same members on the node of the pid at a place.
-    fn local_alike(&self, rt: &impl Abort, name: &Term, place: usize) -> bool {
-        let node = &self.cast.pid(rt, place).node;
-        let first = local_members(self.cast.alloc, &self.rows, node, name).expect(rt, "members");
-        let second = local_members(self.cast.alloc, &self.index, node, name).expect(rt, "members");
-        let alike = first == second;
-        drop(first);
-        drop(second);
+        let alloc = self.cast.alloc;
+        let first = members(alloc, &self.rows, name);
+        let mut alike = are_equal(rt, first, members(alloc, &self.index, name));
+        for place in FIRSTS {
+            let node = &self.cast.pid(rt, *place).node;
+            let first = local_members(alloc, &self.rows, node, name);
+            let second = local_members(alloc, &self.index, node, name);
+            alike = are_equal(rt, first, second) && alike;
+        }
         alike
     }
 
@@ -120,6 +124,17 @@ impl Both {
         drop(names);
         have_as_many
     }
+}
+
+type Listed = Result<Items<Pid>, QueryFault>;
+
+fn are_equal(rt: &impl Abort, one: Listed, other: Listed) -> bool {
+    let one = one.expect(rt, "members");
+    let other = other.expect(rt, "members");
+    let are_equal = one == other;
+    drop(one);
+    drop(other);
+    are_equal
 }
 
 fn place(random: &mut Random) -> usize {

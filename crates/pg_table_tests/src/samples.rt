@@ -16,9 +16,9 @@ pub fn holds(rt: &impl Abort, holds: bool, said: &str)
     assert!(rt; holds, "{said}");
 }
 
-/// Ends the test where a row of a table does not hold, and tells it.
-pub fn row_holds<R: Debug>(rt: &impl Abort, holds: bool, row: &R) {
-    assert!(rt; holds, "at {row:?}");
+/// Ends the test where a row of a table does not hold, and tells its place.
+pub fn row_holds(rt: &impl Abort, holds: bool, row: usize) {
+    assert!(rt; holds, "at {row}");
 }
 
 /// What one of two same calls gives, of which one may have found no memory.
@@ -66,21 +66,11 @@ pub struct Cast {
 }
 
 impl Cast {
-    /// The pids of these nodes with these ids, of which none has ended.
-    pub fn new(rt: &impl Abort, alloc: Global, rows: &[(&str, u32)]) -> Cast {
+    /// The pids of each of these nodes with the ids from one up to another, of which none has ended.
+    pub fn new(rt: &impl Abort, alloc: Global, rows: &[(&str, u32, u32)]) -> Cast {
         let mut pids = Vec::new(alloc);
-        for (node, id) in rows {
-            push(rt, &mut pids, pid(rt, alloc, node, *id));
-        }
-        let ended = Ended::new(alloc);
-        Cast { alloc, pids, ended }
-    }
-
-    /// The pids of each of these nodes with the ids from 0 on, so many.
-    pub fn of_nodes(rt: &impl Abort, alloc: Global, nodes: &[&str], count: u32) -> Cast {
-        let mut pids = Vec::new(alloc);
-        for node in nodes {
-            for id in 0..count {
+        for (node, from, to) in rows {
+            for id in *from..*to {
                 push(rt, &mut pids, pid(rt, alloc, node, id));
             }
         }
@@ -97,6 +87,13 @@ impl Cast {
     pub fn copy(&self, rt: &impl Abort, place: usize) -> Pid {
         let pid = self.pid(rt, place);
         either(rt, pid.copy(), pid.copy())
+    }
+
+    /// The pids at these places have ended.
+    pub fn end_all(&mut self, rt: &impl Abort, places: &[usize]) {
+        for place in places {
+            self.end(rt, *place);
+        }
     }
 
     /// The pid at a place has ended.

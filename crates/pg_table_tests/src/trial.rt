@@ -1,6 +1,8 @@
 //! What a table of either kind is put to.
 
+use crate::examples::Example;
 use crate::exchanges::Forming;
+use crate::many::tables::Groups;
 use crate::{ends, examples, exchanges, histories, many, memory, queries};
 use pg_group::{GroupTable, RowTable};
 use pg_index::IndexTable;
@@ -12,28 +14,27 @@ pub enum Trial {
     Histories,
     Memory,
     SameTables,
-    /// The worked example at this place.
-    Example(usize),
-    MembersInOrder,
+    Example(&'static Example),
+    NamesInOrder,
     /// The processes that a node has made, and up to which it makes more, which end.
     Ends(u32, u32),
-    Forming(Forming),
-    Given,
-    ManyGroups,
+    Forming(&'static Forming),
+    ManyGroups(&'static Groups),
     ManyMembers,
-    DropFromManyGroups,
     LongGroup,
     ManyNames,
 }
 
-/// Puts an empty table of each kind to a trial.
-pub fn on_both(rt: &impl Abort, alloc: Global, trial: Trial) {
-    let mut rows = RowTable::new(alloc);
-    put_to(rt, alloc, &mut rows, trial);
-    drop(rows);
-    let mut index = IndexTable::new(alloc);
-    put_to(rt, alloc, &mut index, trial);
-    drop(index);
+/// Puts an empty table of each kind to each of the trials.
+pub fn on_both(rt: &impl Abort, alloc: Global, trials: &[Trial]) {
+    for trial in trials {
+        let mut rows = RowTable::new(alloc);
+        put_to(rt, alloc, &mut rows, *trial);
+        drop(rows);
+        let mut index = IndexTable::new(alloc);
+        put_to(rt, alloc, &mut index, *trial);
+        drop(index);
+    }
 }
 
 fn put_to<T: GroupTable + Drop>(rt: &impl Abort, alloc: Global, table: &mut T, trial: Trial) {
@@ -41,14 +42,12 @@ fn put_to<T: GroupTable + Drop>(rt: &impl Abort, alloc: Global, table: &mut T, t
         Trial::Histories => histories::agrees(rt, alloc, table),
         Trial::Memory => memory::is_whole(rt, alloc, table),
         Trial::SameTables => queries::compares(rt, alloc, table),
-        Trial::Example(place) => examples::is_so(rt, alloc, table, place),
-        Trial::MembersInOrder => queries::names_in_order(rt, alloc, table),
+        Trial::Example(example) => examples::is_so(rt, alloc, table, example),
+        Trial::NamesInOrder => queries::names_in_order(rt, alloc, table),
         Trial::Ends(before, last) => ends::all_end(rt, alloc, table, before, last),
-        Trial::Forming(forming) => exchanges::forms(rt, alloc, table, &forming),
-        Trial::Given => exchanges::takes_given(rt, alloc, table),
-        Trial::ManyGroups => many::tables::keeps_groups(rt, alloc, table),
+        Trial::Forming(forming) => exchanges::forms(rt, alloc, table, forming),
+        Trial::ManyGroups(groups) => many::tables::keeps_groups(rt, alloc, table, groups),
         Trial::ManyMembers => many::tables::keeps_members(rt, alloc, table),
-        Trial::DropFromManyGroups => many::tables::drops_from_groups(rt, alloc, table),
         Trial::LongGroup => many::queries::lists_all(rt, alloc, table),
         Trial::ManyNames => many::queries::names_all(rt, alloc, table),
     }

@@ -1,20 +1,13 @@
 use crate::samples::{Cast, holds, pid, push};
-use crate::trial::{Trial, on_both};
 use pg_group::Ended;
 use pg_term::Pid;
 use std::alloc::Global;
 use std::process::Abort;
 
-/// 1,001 processes are made, numbered from 1, and leave their group one after the other by their ends.
-#[test]
-fn many_processes_are_made_and_end(rt: HostRuntime) {
-    on_both(&rt, rt.alloc(), Trial::Ends(0, 1001));
-}
-
 /// 1,001 pids of one node end, each once; and 1,001 nodes are lost. Those of the other list have not ended.
 #[test]
 fn many_have_ended(rt: HostRuntime) {
-    let of_one = Cast::of_nodes(&rt, rt.alloc(), &["a"], 1001);
+    let of_one = Cast::new(&rt, rt.alloc(), &[("a", 0, 1001)]);
     let of_many = of_many_nodes(&rt, rt.alloc());
     end_each(&rt, &of_one, &of_many.pids, false);
     end_each(&rt, &of_many, &of_one.pids, true);
@@ -52,5 +45,10 @@ fn end_each(rt: &impl Abort, cast: &Cast, others: &[Pid], by_loss: bool) {
 
 /// Whether all of the pids have ended, or none.
 fn all_are(ended: &Ended, pids: &[Pid], have_ended: bool) -> bool {
-    pids.iter().all(|pid| ended.has(pid) == have_ended)
+    for pid in pids {
+        if ended.has(pid) != have_ended {
+            return false;
+        }
+    }
+    true
 }

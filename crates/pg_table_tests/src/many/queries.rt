@@ -1,7 +1,6 @@
 use crate::change::{Act, merge_told, perform};
 use crate::queries::{Reading, are_read};
 use crate::samples::{Cast, holds};
-use crate::trial::{Trial, on_both};
 use pg_group::GroupTable;
 use pg_query::which_groups;
 use pg_term::Term;
@@ -16,20 +15,10 @@ const READINGS: &[Reading] = &[
     (7, "b", (0, 1001), (0, 0), PICKS),
 ];
 
-#[test]
-fn members_of_a_long_group(rt: HostRuntime) {
-    on_both(&rt, rt.alloc(), Trial::LongGroup);
-}
-
-#[test]
-fn many_groups_in_order(rt: HostRuntime) {
-    on_both(&rt, rt.alloc(), Trial::ManyNames);
-}
-
 /// 1,001 pids join from the last on, and are listed from the first on.
 pub fn lists_all<T: GroupTable>(rt: &impl Abort, alloc: Global, table: &mut T) {
     let name = Term::Int(7);
-    let mut cast = Cast::of_nodes(rt, alloc, &["a"], 1001);
+    let mut cast = Cast::new(rt, alloc, &[("a", 0, 1001)]);
     cast.pids.reverse();
     merge_told(rt, table, &name, &cast.pids, &cast.ended);
     drop(name);

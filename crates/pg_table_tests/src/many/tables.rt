@@ -1,71 +1,60 @@
+use crate::answers::stands_at;
 use crate::change::Act::{self, Create, Delete, DropNode, Join, Leave, Merge};
 use crate::change::{has_groups, merge_told, perform};
 use crate::samples::{Cast, holds};
-use crate::trial::{Trial, on_both};
 use pg_group::{GroupTable, Scope};
-use pg_query::members;
-use pg_term::{Items, Pid, Term};
+use pg_term::{Pid, Term};
 use std::alloc::Global;
 use std::process::Abort;
 
-const PIDS: &[(&str, u32)] = &[("a", 1), ("a", 2), ("b", 1)];
-
-/// How many of the groups get changes, and which; how often each of the pids is in each group then.
+/// How many of the groups get changes, and which; how often each of three pids is in each group then.
 type Phase = (u16, &'static [Act<'static>], [u64; 3]);
 
-const FILLED: &[Phase] = &[(1001, &[Create, Merge(&[0, 1, 1, 2])], [1, 2, 1])];
+/// How many groups there are, what is made of them first, and then, which a copy does not see.
+pub type Groups = (u16, Phase, &'static [Phase]);
 
-const EMPTIED: &[Phase] = &[
-    (1001, &[Leave(1)], [1, 1, 1]),
-    (1, &[Act::Drop(1)], [1, 0, 1]),
-    (1, &[DropNode(0)], [0, 0, 1]),
-];
-
-const JOINED_AND_DROPPED: &[Phase] = &[
-    (300, &[Merge(&[]), Join(0), Join(0)], [2, 0, 0]),
-    (1, &[Act::Drop(0)], [0, 0, 0]),
-];
-
-#[test]
-fn keeps_many_groups(rt: HostRuntime) {
-    on_both(&rt, rt.alloc(), Trial::ManyGroups);
-}
-
-#[test]
-fn keeps_many_members(rt: HostRuntime) {
-    on_both(&rt, rt.alloc(), Trial::ManyMembers);
-}
+/// 1,001 groups are made, get members, lose one of them, then those of a node.
+pub const EMPTIED: Groups = (
+    1001,
+    (1001, &[Create, Merge(&[0, 1, 1, 2])], [1, 2, 1]),
+    &[
+        (1001, &[Leave(1)], [1, 1, 1]),
+        (1, &[Act::Drop(1)], [1, 0, 1]),
+        (1, &[DropNode(0)], [0, 0, 1]),
+    ],
+);
 
 /// A pid that joined each of 300 groups twice is dropped: the groups stay, of size 0.
-#[test]
-fn drop_from_many_groups(rt: HostRuntime) {
-    on_both(&rt, rt.alloc(), Trial::DropFromManyGroups);
-}
+pub const DROPPED: Groups = (
+    300,
+    (300, &[Merge(&[]), Join(0), Join(0)], [2, 0, 0]),
+    &[(1, &[Act::Drop(0)], [0, 0, 0])],
+);
 
-pub fn drops_from_groups<T: GroupTable>(rt: &impl Abort, alloc: Global, table: &mut T) {
-    let cast = Cast::new(rt, alloc, PIDS);
-    run(rt, table, &cast, 300, JOINED_AND_DROPPED);
-    drop(cast);
-}
-
-/// 1,001 groups are made, get members, lose one of them, then those of a node, and are deleted; a copy keeps them.
-pub fn keeps_groups<T: GroupTable + Drop>(rt: &impl Abort, alloc: Global, table: &mut T) {
-    let cast = Cast::new(rt, alloc, PIDS);
-    run(rt, table, &cast, 1001, FILLED);
+/// Groups are made and changed, and are deleted; a copy keeps them as they were first.
+pub fn keeps_groups<T: GroupTable + Drop>(
+    rt: &impl Abort,
+    alloc: Global,
+    table: &mut T,
+    (groups, first, then): &Groups,
+) {
+    let cast = Cast::new(rt, alloc, &[("a", 1, 3), ("b", 1, 2)]);
+    run(rt, table, &cast, *groups, first);
     let copy = table.copy().expect(rt, "copy");
-    run(rt, table, &cast, 1001, EMPTIED);
-    are_kept(rt, &copy, &cast, 1001, &[1, 2, 1]);
+    for phase in *then {
+        run(rt, table, &cast, *groups, phase);
+    }
+    are_kept(rt, &copy, &cast, *groups, &first.2);
     drop(copy);
-    act_on_each(rt, table, &cast, 1001, &[Delete]);
+    act_on_each(rt, table, &cast, *groups, &[Delete]);
     holds(rt, has_groups(rt, table, 0), "none");
     drop(cast);
 }
 
-fn run<T: GroupTable>(rt: &impl Abort, table: &mut T, cast: &Cast, groups: u16, phases: &[Phase]) {
-    for (changed, acts, counts) in phases {
-        act_on_each(rt, table, cast, *changed, acts);
-        are_kept(rt, table, cast, groups, counts);
-    }
+fn run<T: GroupTable>(rt: &impl Abort, table: &mut T, cast: &Cast, groups: u16, phase: &Phase) {
+    let (changed, acts, counts) = phase;
+    act_on_each(rt, table, cast, *changed, acts);
+    are_kept(rt, table, cast, groups, counts);
 }
 
 fn act_on_each<T: GroupTable>(
@@ -113,7 +102,7 @@ fn is_kept<T: GroupTable>(table: &T, name: &Term, pids: &[Pid], counts: &[u64; 3
 
 /// A group gets 1,001 members, which join it once more; a copy lists each twice, in their order.
 pub fn keeps_members<T: GroupTable + Drop>(rt: &impl Abort, alloc: Global, table: &mut T) {
-    let cast = Cast::of_nodes(rt, alloc, &["a"], 1001);
+    let cast = Cast::new(rt, alloc, &[("a", 0, 1001)]);
     let name = Term::Int(1);
     merge_told(rt, table, &name, &cast.pids, &cast.ended);
     for place in 0..1001 {
@@ -127,7 +116,13 @@ pub fn keeps_members<T: GroupTable + Drop>(rt: &impl Abort, alloc: Global, table
 }
 
 fn each_is_twice<T: GroupTable>(table: &T, name: &Term, pids: &[Pid]) -> bool {
-    pids.iter().all(|pid| table.count(name, pid) == 2)
-        && (0..2002).all(|at| table.pid_at(name, Scope::All, at) == pids.get((at / 2) as usize))
-        && table.pid_at(name, Scope::All, 2002).is_none()
+    let mut place = 0u64;
+    for pid in pids {
+        let next = place.saturating_add(2);
+        if table.count(name, pid) != 2 || !stands_at(table, name, Scope::All, pid, place, next) {
+            return false;
+        }
+        place = next;
+    }
+    table.pid_at(name, Scope::All, place).is_none()
 }
