@@ -132,65 +132,56 @@ fn is_seen<R: Threads + Wait>(
     }
 }
 
-// Whether all is seen as it should be, and all is well then; none missed another who meet.
-fn passes<R: Threads + Wait>(
-    rt: &R,
-    alloc: Global,
-    setting: Setting<'_>,
-    gate: Watch,
-    board: &Board,
-) -> bool {
-    let rule = gate.rule;
-    match start(rt, alloc, setting, gate) {
-        Ok(begun) => {
-            let mut started = begun;
-            let is_seen = is_seen(rt, alloc, &mut started, rule, board);
-            let end = end_of(rt, alloc, started);
-            let is_well = matches!(end, Some(end) if end.is_well());
-            let missed = board.second.load(Ordering::SeqCst);
-            is_seen && is_well && (missed == 0 || matches!(rule, Rule::InStep))
-        }
-        Err(_) => false,
-    }
-}
-
+// All is seen as it should be, and all is well then; none missed another who meet.
 fn check<R: Threads + Wait + Abort>(rt: &R, alloc: Global, setting: Setting<'_>, rule: Rule) {
     let numbers = Board {
         first: AtomicU64::new(0),
         second: AtomicU64::new(0),
         third: AtomicU64::new(0),
     };
-    let Ok(board) = Arc::new(alloc, numbers) else {
-        return holds(rt, false, "no memory");
-    };
-    let passes = match Arc::try_clone(&board) {
-        Ok(copy) => passes(rt, alloc, setting, Watch { board: copy, rule }, &board),
-        Err(_) => false,
-    };
+    let board = Arc::new(alloc, numbers).ok().expect(rt, "memory");
+    let copy = Arc::try_clone(&board).ok().expect(rt, "memory");
+    let begun = start(rt, alloc, setting, Watch { board: copy, rule });
+    let mut started = begun.ok().expect(rt, "it starts");
+    holds(
+        rt,
+        is_seen(rt, alloc, &mut started, rule, &board),
+        "what is seen at a gate",
+    );
+    let end = end_of(rt, alloc, started).expect(rt, "an end");
+    holds(rt, end.is_well(), "all is well");
+    let missed = board.second.load(Ordering::SeqCst);
     drop(board);
-    holds(rt, passes, "what is seen at a gate");
+    holds(
+        rt,
+        missed == 0 || matches!(rule, Rule::InStep),
+        "none is missed",
+    );
 }
 
-// While its node is held a port takes 64 commands, and hands back the next.
-#[test]
-fn full_port(rt: HostRuntime) {
-    check(&rt, rt.alloc(), Setting { ring: 64, ..ONE }, Rule::Held);
-}
+const SMALL: Setting = Setting { ring: 64, ..ONE };
 
-// In its first turn each node says that it is there, and waits for the other.
-#[test]
-fn nodes_run_at_once(rt: HostRuntime) {
-    let setting = Setting {
-        ports: 0,
-        ring: 64,
-        limit: 10,
-        ..TWO
-    };
-    check(&rt, rt.alloc(), setting, Rule::Meeting);
-}
+const SHORT: Setting = Setting {
+    ports: 0,
+    ring: 64,
+    limit: 10,
+    ..TWO
+};
 
-// No node is more than a turn ahead of the others for a thousand turns, in which a group is created.
+const LARGE: Setting = Setting { ring: 64, ..THREE };
+
+const RULES: &[(Setting, Rule)] = &[
+    // While its node is held a port takes 64 commands, and hands back the next.
+    (SMALL, Rule::Held),
+    // In its first turn each node says that it is there, and waits for the other.
+    (SHORT, Rule::Meeting),
+    // No node is more than a turn ahead of the others for a thousand turns, in which a group is created.
+    (LARGE, Rule::InStep),
+];
+
 #[test]
-fn nodes_go_in_step(rt: HostRuntime) {
-    check(&rt, rt.alloc(), Setting { ring: 64, ..THREE }, Rule::InStep);
+fn nodes_pass_gates(rt: HostRuntime) {
+    for (setting, rule) in RULES {
+        check(&rt, rt.alloc(), *setting, *rule);
+    }
 }

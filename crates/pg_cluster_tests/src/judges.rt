@@ -4,6 +4,7 @@ use crate::rows::Row::{self, Asks, Lose};
 use crate::rows::play;
 use crate::setting::{End, Open, Setting, Started, THREE, TWO, end_of_closed, start};
 use crate::verdicts::holds;
+use Saying::*;
 use pg_cluster::Closed;
 use pg_world::Config;
 use std::alloc::Global;
@@ -42,18 +43,6 @@ impl Judged {
     }
 }
 
-fn closed(rt: &impl Threads, started: Started) -> Option<Judged> {
-    let (closed, config) = started.close(rt);
-    match closed {
-        Ok(closed) => Some(Judged { closed, config }),
-        Err(stopped) => {
-            drop(stopped);
-            drop(config);
-            None
-        }
-    }
-}
-
 /// A cluster in which the rows held, and then the second node was asked by a line, and that is closed.
 pub fn closed_after(
     rt: &(impl Threads + Wait + Abort),
@@ -61,82 +50,37 @@ pub fn closed_after(
     setting: Setting<'_>,
     rows: &[Row<'_>],
     line: &str,
-) -> Option<Judged> {
-    match start(rt, alloc, setting, Open) {
-        Ok(begun) => {
-            let mut started = begun;
-            play(rt, alloc, &mut started, rows);
-            holds(rt, started.asks(rt, alloc, 1, line, "ok"), line);
-            closed(rt, started)
-        }
-        Err(_) => None,
+) -> Judged {
+    let begun = start(rt, alloc, setting, Open);
+    let mut started = begun.ok().expect(rt, "it starts");
+    play(rt, alloc, &mut started, rows);
+    holds(rt, started.asks(rt, alloc, 1, line, "ok"), line);
+    let (closed, config) = started.close(rt);
+    let closed = closed.ok().expect(rt, "it is closed");
+    Judged { closed, config }
+}
+
+/// What a judge says of a cluster.
+#[derive(Clone, Copy)]
+enum Saying {
+    Agrees,
+    SurvivorsAgree,
+    Replays,
+    AreSame,
+}
+
+fn says(end: End, saying: Saying) -> bool {
+    match saying {
+        Saying::Agrees => end.agrees,
+        Saying::SurvivorsAgree => end.survivors_agree,
+        Saying::Replays => end.replays,
+        Saying::AreSame => end.are_same,
     }
 }
 
-// How a cluster ended, and how it is judged without its last step.
-fn step_less(
-    rt: &(impl Threads + Wait + Abort),
-    alloc: Global,
-    setting: Setting<'_>,
-    rows: &[Row<'_>],
-) -> Option<(End, End)> {
-    let mut cluster = closed_after(rt, alloc, setting, rows, "create b g")?;
-    let before = cluster.end(alloc);
-    let is_less = cluster.forget_step();
-    let after = cluster.end(alloc);
-    drop(cluster);
-    if is_less { Some((before, after)) } else { None }
-}
-
-// The last step is one behind each loss, since as many losses are left.
-#[test]
-fn a_step_less(rt: HostRuntime) {
-    const NONE: &[Row] = &[];
-    const LAST: &[Row] = &[Lose(2)];
-    for (setting, rows) in [(TWO, NONE), (THREE, LAST)] {
-        let Some((before, after)) = step_less(&rt, rt.alloc(), setting, rows) else {
-            return holds(&rt, false, "it is closed");
-        };
-        holds(&rt, before.replays, "it replays");
-        holds(&rt, !after.replays, "a step less does not");
-        holds(&rt, after.losses == rows.len(), "no loss is left out");
-    }
-}
-
-// How a cluster ended, and how it is judged with the second node of another, which was asked for another group.
-fn mixed(
-    rt: &(impl Threads + Wait + Abort),
-    alloc: Global,
-    setting: Setting<'_>,
-    rows: &[Row<'_>],
-) -> Option<(End, End)> {
-    let mut cluster = closed_after(rt, alloc, setting, rows, "create b g")?;
-    let Some(beside) = closed_after(rt, alloc, setting, rows, "create b x") else {
-        drop(cluster);
-        return None;
-    };
-    let mut other = beside;
-    let before = cluster.end(alloc);
-    let is_other = cluster.swap_node(&mut other, 1);
-    let after = cluster.end(alloc);
-    drop(cluster);
-    drop(other);
-    if is_other {
-        Some((before, after))
-    } else {
-        None
-    }
-}
-
-#[test]
-fn a_node_of_another_cluster(rt: HostRuntime) {
-    let Some((before, after)) = mixed(&rt, rt.alloc(), TWO, &[]) else {
-        return holds(&rt, false, "both are closed");
-    };
-    holds(&rt, before.is_well(), "the nodes agree");
-    holds(&rt, !after.agrees, "those of two clusters do not");
-    holds(&rt, !after.replays, "nor are they where the steps lead");
-}
+/// A cluster, what happens in it, and whether it is judged then with the second node of another, which was asked for another group, or
+/// without its last step; what was said of it before, and is not then.
+type Case<'a> = (Setting<'a>, &'a [Row<'a>], bool, &'a [Saying]);
 
 /// All three nodes speak before the last is lost, and the first after it.
 pub const SURVIVING: &[Row] = &[
@@ -145,13 +89,49 @@ pub const SURVIVING: &[Row] = &[
     Asks(0, "create a k", "ok"),
 ];
 
+const CASES: &[Case] = &[
+    (TWO, &[], false, &[Replays]),
+    // The last step is one behind each loss, since as many losses are left.
+    (THREE, &[Lose(2)], false, &[Replays]),
+    (TWO, &[], true, &[Agrees, Replays]),
+    (THREE, SURVIVING, true, &[SurvivorsAgree, AreSame]),
+];
+
+// Has the second node of another cluster.
+fn mix(
+    rt: &(impl Threads + Wait + Abort),
+    alloc: Global,
+    setting: Setting<'_>,
+    rows: &[Row<'_>],
+    cluster: &mut Judged,
+) {
+    let mut other = closed_after(rt, alloc, setting, rows, "create b x");
+    holds(rt, cluster.swap_node(&mut other, 1), "another node");
+    drop(other);
+}
+
+fn check(rt: &(impl Threads + Wait + Abort), alloc: Global, case: &Case<'_>) {
+    let (setting, rows, is_mixed, sayings) = *case;
+    let mut cluster = closed_after(rt, alloc, setting, rows, "create b g");
+    let first = cluster.end(alloc);
+    if is_mixed {
+        mix(rt, alloc, setting, rows, &mut cluster);
+    } else {
+        holds(rt, cluster.forget_step(), "a step less");
+    }
+    let then = cluster.end(alloc);
+    drop(cluster);
+    for saying in sayings {
+        holds(rt, says(first, *saying), "it is said of a cluster");
+        holds(rt, !says(then, *saying), "nor is it said of another");
+    }
+    let are_left = is_mixed || then.losses == rows.len();
+    holds(rt, are_left, "no loss is left out");
+}
+
 #[test]
-fn a_survivor_of_another_cluster(rt: HostRuntime) {
-    let Some((before, after)) = mixed(&rt, rt.alloc(), THREE, SURVIVING) else {
-        return holds(&rt, false, "both are closed");
-    };
-    let are_so = before.survivors_agree && before.are_same;
-    holds(&rt, are_so, "the survivors agree, and have the same");
-    holds(&rt, !after.survivors_agree, "those of two clusters do not");
-    holds(&rt, !after.are_same, "nor have they the same");
+fn no_is_said(rt: HostRuntime) {
+    for case in CASES {
+        check(&rt, rt.alloc(), case);
+    }
 }

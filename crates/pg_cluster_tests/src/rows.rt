@@ -26,6 +26,9 @@ pub enum Row<'a> {
 /// How often some rows happen, one after another.
 pub type Part<'a> = (u32, &'a [Row<'a>]);
 
+/// A setting, what happens in a cluster that begins so, and how many nodes are lost then.
+pub type Case<'a> = (Setting<'a>, &'a [Part<'a>], usize);
+
 // Where the start is refused for one of these faults no thread goes on, and a second start starts all.
 fn start_again<R: Threads>(
     rt: &R,
@@ -70,62 +73,52 @@ pub fn play(
 }
 
 // Whether so many nodes were closed, of which so many were lost, and the schedule leads to them; those that were not lost agree.
-fn is_end(end: Option<End>, nodes: usize, losses: usize) -> bool {
-    match end {
-        Some(end) => {
-            end.nodes == nodes
-                && end.events > 0
-                && end.losses == losses
-                && end.replays
-                && end.survivors_agree
-                && (end.agrees || losses > 0)
-        }
-        None => false,
-    }
+fn is_end(end: End, nodes: usize, losses: usize) -> bool {
+    end.nodes == nodes
+        && end.events > 0
+        && end.losses == losses
+        && end.replays
+        && end.survivors_agree
+        && (end.agrees || losses > 0)
 }
 
-// Each row of each part holds in a cluster that was started, and it ends as it should.
+// Each row of each part holds.
 fn play_all(
     rt: &(impl Threads + Wait + Abort),
     alloc: Global,
-    begun: Result<Started, StartFault>,
-    nodes: usize,
+    started: &mut Started,
     parts: &[Part<'_>],
-    losses: usize,
 ) {
-    let Ok(begun) = begun else {
-        return holds(rt, false, "it starts");
-    };
-    let mut started = begun;
     for (times, rows) in parts {
         for _ in 0..*times {
-            play(rt, alloc, &mut started, rows);
+            play(rt, alloc, started, rows);
         }
     }
-    let end = end_of(rt, alloc, started);
-    holds(rt, is_end(end, nodes, losses), "the end");
 }
 
-/// Each row of each part holds in a cluster, of which so many nodes are lost then, and its schedule leads to its nodes.
+/// Each row of each part holds in a cluster, of which so many nodes are lost then, and its schedule leads to its nodes. A first start may
+/// be refused for one of these faults.
 pub fn check(
     rt: &(impl Threads + Wait + Abort),
     alloc: Global,
-    setting: Setting<'_>,
-    parts: &[Part<'_>],
-    losses: usize,
-) {
-    let begun = start(rt, alloc, setting, Open);
-    play_all(rt, alloc, begun, setting.names.len(), parts, losses);
-}
-
-/// The same without a loss, where a first start may be refused for one of these faults.
-pub fn check_again(
-    rt: &(impl Threads + Wait + Abort),
-    alloc: Global,
-    setting: Setting<'_>,
-    parts: &[Part<'_>],
+    (setting, parts, losses): &Case<'_>,
     refused: &[StartFault],
 ) {
-    let begun = start_again(rt, alloc, setting, refused);
-    play_all(rt, alloc, begun, setting.names.len(), parts, 0);
+    let begun = start_again(rt, alloc, *setting, refused);
+    let mut started = begun.ok().expect(rt, "it starts");
+    play_all(rt, alloc, &mut started, parts);
+    let end = end_of(rt, alloc, started).expect(rt, "an end");
+    holds(rt, is_end(end, setting.names.len(), *losses), "the end");
+}
+
+/// The same of each case.
+pub fn check_all(
+    rt: &(impl Threads + Wait + Abort),
+    alloc: Global,
+    cases: &[Case<'_>],
+    refused: &[StartFault],
+) {
+    for case in cases {
+        check(rt, alloc, case, refused);
+    }
 }

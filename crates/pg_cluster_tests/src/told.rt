@@ -38,9 +38,7 @@ fn maker(alloc: Global, cluster: &Judged, line: &str) -> Option<usize> {
 // `c` makes `h` and is lost, and then `a` makes `k` and `b` makes `g`.
 #[test]
 fn of_nodes_and_groups(rt: HostRuntime) {
-    let Some(cluster) = closed_after(&rt, rt.alloc(), THREE, SURVIVING, "create b g") else {
-        return holds(&rt, false, "it is closed");
-    };
+    let cluster = closed_after(&rt, rt.alloc(), THREE, SURVIVING, "create b g");
     let closed = &cluster.closed;
     for (node, line) in MAKING {
         let made = maker(rt.alloc(), &cluster, line);

@@ -7,101 +7,43 @@ use pg_node::Node;
 use pg_ring::{MemRing, SlotIn, slot_pair};
 use pg_run::{Client, LinkedNode, NOTICE_PLACES, NodeRun, Notice, Port, port_pair, run_node};
 use pg_step::Answer;
-use pg_world::{Config, starting_nodes};
+use pg_world::starting_nodes;
 use rand_pcg::Pcg32;
 use std::alloc::Global;
+use std::process::Abort;
 
 type Run = NodeRun<IndexTable, MemRing, MemRing, Pcg32>;
 
 // How many turns the node makes.
 const TURNS: u64 = 8;
 
-fn last_node(alloc: Global, config: &Config) -> Option<Node<IndexTable>> {
-    match starting_nodes(alloc, config) {
-        Ok(nodes) => {
-            let mut nodes = nodes;
-            let node = nodes.pop();
-            drop(nodes);
-            node
-        }
-        Err(_) => None,
-    }
-}
-
 // A node that has no peer.
-fn node_alone(alloc: Global) -> Option<Node<IndexTable>> {
-    let setting = Setting { ring: 64, ..ONE };
-    with!(config(alloc, setting), Some config => last_node(alloc, &config), else None)
+fn node_alone(rt: &impl Abort, alloc: Global) -> Node<IndexTable> {
+    let config = config(alloc, Setting { ring: 64, ..ONE }).expect(rt, "memory");
+    let mut nodes = starting_nodes(alloc, &config).ok().expect(rt, "memory");
+    drop(config);
+    let node = nodes.pop().expect(rt, "a node");
+    drop(nodes);
+    node
 }
 
-// Where the stop byte and the notices come, of which none will.
-fn silence(alloc: Global) -> Option<(MemRing, SlotIn<Notice>)> {
-    let Ok(stop) = MemRing::new(alloc, 1) else {
-        return None;
-    };
-    match slot_pair(alloc, NOTICE_PLACES) {
-        Ok((teller, notices)) => {
-            drop(teller);
-            Some((stop, notices))
-        }
-        Err(_) => {
-            drop(stop);
-            None
-        }
-    }
+// Where the notices come, of which none will.
+fn silence(rt: &impl Abort, alloc: Global) -> SlotIn<Notice> {
+    let (teller, notices) = slot_pair(alloc, NOTICE_PLACES).ok().expect(rt, "memory");
+    drop(teller);
+    notices
 }
 
-// The node with these ports, if it has so many and no peer.
-fn run_with(
-    alloc: Global,
-    node: Node<IndexTable>,
-    ports: Vec<Port>,
-    silence: (MemRing, SlotIn<Notice>),
-) -> Option<Run> {
-    if node.state().peer_count() != 0 || node.state().port_count() != ports.len() {
-        drop(node);
-        drop(ports);
-        drop(silence);
-        return None;
-    }
-    let (stop, notices) = silence;
+// The node with the port, if it has no peer.
+fn run_with(rt: &impl Abort, alloc: Global, port: Port) -> Run {
+    let node = node_alone(rt, alloc);
+    let stop = MemRing::new(alloc, 1).ok().expect(rt, "memory");
+    let ports = Vec::from_array(alloc, [port]).ok().expect(rt, "memory");
+    let notices = silence(rt, alloc);
+    assert!(rt; node.state().peer_count() == 0);
+    assert!(rt; node.state().port_count() == ports.len());
     let linked = LinkedNode::new(alloc, node, Vec::new(alloc));
-    Some(NodeRun::new(alloc, linked, ports, stop, notices, Pcg32::new(1, 2)))
-}
-
-fn run_of(alloc: Global, ports: Vec<Port>) -> Option<Run> {
-    let Some(node) = node_alone(alloc) else {
-        drop(ports);
-        return None;
-    };
-    match silence(alloc) {
-        Some(silence) => run_with(alloc, node, ports, silence),
-        None => {
-            drop(node);
-            drop(ports);
-            None
-        }
-    }
-}
-
-// The node, with the client of its port.
-fn begun(alloc: Global) -> Option<(Run, Client)> {
-    let Ok(ports) = Vec::with_capacity(alloc, 1) else {
-        return None;
-    };
-    let mut ports = ports;
-    let Ok((client, port)) = port_pair(alloc) else {
-        drop(ports);
-        return None;
-    };
-    ports.push_reserved(port);
-    match run_of(alloc, ports) {
-        Some(run) => Some((run, client)),
-        None => {
-            drop(client);
-            None
-        }
-    }
+    NodeRun::new(alloc, linked, ports, stop, notices, Pcg32::new(1, 2))
 }
 
 // Whether the client asks for a group.
@@ -131,9 +73,7 @@ fn goes_on_whole(alloc: Global, run: Run, client: Client) -> bool {
 #[test]
 fn no_turn_is_short(rt: HostRuntime) {
     let alloc = rt.alloc();
-    let is_whole = match begun(alloc) {
-        Some((run, client)) => goes_on_whole(alloc, run, client),
-        None => false,
-    };
-    holds(&rt, is_whole, "each turn is whole");
+    let (client, port) = port_pair(alloc).ok().expect(&rt, "memory");
+    let run = run_with(&rt, alloc, port);
+    holds(&rt, goes_on_whole(alloc, run, client), "each turn is whole");
 }
