@@ -220,20 +220,16 @@ fn linked_node(alloc: Global, own: Atom, peer: Atom) -> Result<Node<IndexTable>,
     Node::new(alloc, config, table)
 }
 
-fn new_linked_node(alloc: Global, own: &str, peer: &str) -> Option<Linked> {
-    let own = atom(alloc, own)?;
-    let peer = atom(alloc, peer)?;
-    if own == peer {
-        return None;
-    }
-    linked_node(alloc, own, peer).ok()
+fn new_linked_node(rt: &impl Abort, alloc: Global, own: &str, peer: &str) -> Linked {
+    let own = atom(rt, alloc, own);
+    let peer = atom(rt, alloc, peer);
+    assert!(rt; own != peer);
+    linked_node(alloc, own, peer).ok().expect(rt, "memory")
 }
 
-fn over_bytes(alloc: Global, who: Who) -> Option<Linked> {
-    match new_node(alloc, who) {
-        Some(state) => Node::opened(alloc, state).ok(),
-        None => None,
-    }
+fn over_bytes(rt: &impl Abort, alloc: Global, who: Who) -> Linked {
+    let state = new_node(rt, alloc, who).expect(rt, "memory");
+    Node::opened(alloc, state).ok().expect(rt, "memory")
 }
 
 fn new_ring(rt: &impl Abort, alloc: Global) -> MemRing {
@@ -253,13 +249,14 @@ fn new_link(rt: &impl Abort, alloc: Global, skipped: u32) -> Skips {
 fn linked(
     rt: &impl Abort,
     alloc: Global,
-    nodes: (Option<Linked>, Option<Linked>),
+    one: Linked,
+    other: Linked,
     peer: usize,
     skipped: u32,
 ) -> Pair {
     Pair {
-        one: nodes.0.expect(rt, "memory"),
-        other: nodes.1.expect(rt, "memory"),
+        one,
+        other,
         peer,
         there: new_link(rt, alloc, skipped),
         back: new_link(rt, alloc, skipped),
@@ -271,14 +268,14 @@ fn linked(
 /// The nodes `a` and `b`, of which each is the other's only peer, and which have told each other nothing yet. This put of each moves
 /// nothing; each does by 0.
 pub fn two_alone(rt: &impl Abort, alloc: Global, skipped: u32) -> Pair {
-    let one = new_linked_node(alloc, "a", "b");
-    let other = new_linked_node(alloc, "b", "a");
-    linked(rt, alloc, (one, other), 0, skipped)
+    let one = new_linked_node(rt, alloc, "a", "b");
+    let other = new_linked_node(rt, alloc, "b", "a");
+    linked(rt, alloc, one, other, 0, skipped)
 }
 
 /// The nodes `a` and `c`, which have told each other nothing yet. The test plays `b`, the first peer of `a`.
 pub fn two_of_three(rt: &impl Abort, alloc: Global) -> Pair {
-    let one = over_bytes(alloc, Who::A);
-    let other = over_bytes(alloc, Who::C);
-    linked(rt, alloc, (one, other), 1, 0)
+    let one = over_bytes(rt, alloc, Who::A);
+    let other = over_bytes(rt, alloc, Who::C);
+    linked(rt, alloc, one, other, 1, 0)
 }

@@ -4,7 +4,6 @@ ghost use Rattle.std.specs.Prelude.{◌≡◌, ◌∷◌, ◌≤◌, [], false, 
 ghost use Rattle.std.specs.List.{IsDistinct};
 ghost use Rattle.pg_term.specs.Same.{same_atom};
 
-use crate::texts::packet_of;
 use crate::told::{Event, happens};
 use pg_group::GroupTable;
 use pg_index::IndexTable;
@@ -13,6 +12,7 @@ use pg_step::OpId;
 use pg_term::{Atom, Term};
 use pg_text::read_pid;
 use std::alloc::{AllocError, Global};
+use std::process::Abort;
 
 /// A node over packets.
 pub type State = NodeState<IndexTable>;
@@ -57,9 +57,27 @@ pub enum Kind {
     Formed(Who),
 }
 
-/// A node's name; none where memory was refused.
-pub fn atom(alloc: Global, text: &str) -> Option<Atom> {
-    Atom::new(alloc, text).ok()
+/// What one of two same calls gives, of which one may have found no memory.
+pub fn either<V: Drop>(
+    rt: &impl Abort,
+    one: Result<V, AllocError>,
+    other: Result<V, AllocError>,
+) -> V {
+    match one {
+        Ok(value) => {
+            drop(other);
+            value
+        }
+        Err(AllocError) => other.expect(rt, "memory"),
+    }
+}
+
+/// A node's name.
+pub fn atom(rt: &impl Abort, alloc: Global, text: &str) -> Atom {
+    match Atom::new(alloc, text) {
+        Ok(atom) => atom,
+        Err(_) => Atom::new(alloc, text).ok().expect(rt, "memory"),
+    }
 }
 
 fn begun(alloc: Global, config: NodeConfig) -> Result<NodeState<IndexTable>, AllocError>
@@ -78,10 +96,10 @@ fn begun(alloc: Global, config: NodeConfig) -> Result<NodeState<IndexTable>, All
 }
 
 // A node that has no peer, where so many processes were made.
-fn lone_node_made(alloc: Global, made: u32) -> Option<State>
+fn lone_node_made(rt: &impl Abort, alloc: Global, made: u32) -> Result<State, AllocError>
     requires { made ≤ 268435455 }
 {
-    let own = atom(alloc, "a")?;
+    let own = atom(rt, alloc, "a");
     let peers = Vec::new(alloc);
     let config = NodeConfig {
         own,
@@ -89,7 +107,7 @@ fn lone_node_made(alloc: Global, made: u32) -> Option<State>
         made,
         ports: 1,
     };
-    begun(alloc, config).ok()
+    begun(alloc, config)
 }
 
 fn two_peers(alloc: Global, one: Atom, two: Atom) -> Result<Vec<Atom>, AllocError>
@@ -118,39 +136,50 @@ fn node_of_three(
     begun(alloc, config)
 }
 
-/// A node with two peers, which is not formed; none where memory was refused.
-pub fn new_node(alloc: Global, who: Who) -> Option<State> {
+/// A node with two peers, which is not formed.
+pub fn new_node(rt: &impl Abort, alloc: Global, who: Who) -> Result<State, AllocError> {
     let (own, [one, two], _) = who.names();
-    let own = atom(alloc, own)?;
-    let one = atom(alloc, one)?;
-    let two = atom(alloc, two)?;
-    if own == one || own == two || one == two {
-        return None;
-    }
-    node_of_three(alloc, own, one, two).ok()
+    let own = atom(rt, alloc, own);
+    let one = atom(rt, alloc, one);
+    let two = atom(rt, alloc, two);
+    assert!(rt; own != one);
+    assert!(rt; own != two);
+    assert!(rt; one != two);
+    node_of_three(alloc, own, one, two)
 }
 
-/// The same, formed.
-pub fn formed_node(alloc: Global, who: Who) -> Option<State> {
-    let mut node = new_node(alloc, who)?;
+fn tell(rt: &impl Abort, alloc: Global, node: &mut State, event: Event<'_>) {
+    if happens(alloc, node, event).is_err() {
+        happens(alloc, node, event).ok().expect(rt, "memory");
+    }
+}
+
+// A node with two peers, which is formed.
+fn formed_node(rt: &impl Abort, alloc: Global, who: Who) -> State {
     let (_, _, [one, two]) = who.names();
-    if happens(alloc, &mut node, Event::Take(0, one)).is_ok()
-        && happens(alloc, &mut node, Event::Take(1, two)).is_ok()
-    {
-        Some(node)
-    } else {
-        drop(node);
-        None
-    }
+    let mut node = either(rt, new_node(rt, alloc, who), new_node(rt, alloc, who));
+    tell(rt, alloc, &mut node, Event::Take(0, one));
+    tell(rt, alloc, &mut node, Event::Take(1, two));
+    node
 }
 
-/// A node of this kind; none where memory was refused.
-pub fn made(alloc: Global, kind: Kind) -> Option<State> {
+fn lone_node(rt: &impl Abort, alloc: Global, made: u32) -> State
+    requires { made ≤ 268435455 }
+{
+    either(
+        rt,
+        lone_node_made(rt, alloc, made),
+        lone_node_made(rt, alloc, made),
+    )
+}
+
+/// A node of this kind.
+pub fn made(rt: &impl Abort, alloc: Global, kind: Kind) -> State {
     match kind {
-        Kind::Lone => lone_node_made(alloc, 0),
-        Kind::Last => lone_node_made(alloc, 268_435_454),
-        Kind::New(who) => new_node(alloc, who),
-        Kind::Formed(who) => formed_node(alloc, who),
+        Kind::Lone => lone_node(rt, alloc, 0),
+        Kind::Last => lone_node(rt, alloc, 268_435_454),
+        Kind::New(who) => either(rt, new_node(rt, alloc, who), new_node(rt, alloc, who)),
+        Kind::Formed(who) => formed_node(rt, alloc, who),
     }
 }
 

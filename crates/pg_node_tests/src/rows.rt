@@ -1,7 +1,7 @@
 //! Tables of what nodes are told, and of what is seen at them. Each event is told to two nodes that are the same; where it is refused for
 //! memory its node is as it was, and the event is told again.
 
-use crate::nodes::{Kind, Sight, State, made, sees};
+use crate::nodes::{Kind, Sight, State, either, made, sees};
 use crate::texts::has_answered;
 use crate::told::{Did, Event, NOTHING, happens};
 use crate::verdicts::holds;
@@ -66,33 +66,10 @@ struct Twins {
     did: Did,
 }
 
-// The command that creates the group of a number, made a second time where memory was refused.
-fn create_line(alloc: Global, number: u32) -> Option<String> {
-    match format!(in alloc; "create a {number}") {
-        Ok(line) => Some(line),
-        Err(_) => format!(in alloc; "create a {number}").ok(),
-    }
-}
-
-// A node, made a second time where memory was refused.
-fn made_again(alloc: Global, kind: Kind) -> Option<State> {
-    made(alloc, kind).or_else(|| made(alloc, kind))
-}
-
-fn paired(one: State, other: State) -> Twins {
-    let did = NOTHING;
-    Twins { one, other, did }
-}
-
-fn new_twins(alloc: Global, kind: Kind) -> Option<Twins> {
-    let one = made_again(alloc, kind)?;
-    match made_again(alloc, kind) {
-        Some(other) => Some(paired(one, other)),
-        None => {
-            drop(one);
-            None
-        }
-    }
+// The command that creates the group of a number.
+fn create_line(rt: &impl Abort, alloc: Global, number: u32) -> String {
+    let line = format!(in alloc; "create a {number}");
+    either(rt, line, format!(in alloc; "create a {number}"))
 }
 
 impl Twins {
@@ -128,51 +105,31 @@ impl Twins {
         }
     }
 
-    // Whether the event happens at both so many times, and both are the same each time.
-    fn tell(&mut self, alloc: Global, times: u32, event: Event<'_>) -> bool {
+    // Whether the event happens at both so many times, and both are the same each time. Then the other is a copy of the first.
+    fn tell(&mut self, rt: &impl Abort, alloc: Global, times: u32, event: Event<'_>) -> bool {
         for _ in 0..times {
             match (self.tell_one(alloc, event), self.tell_other(alloc, event)) {
                 (Ok(did), Ok(_)) => self.did = did,
                 _ => return false,
             }
-            if !self.are_same() || !self.renew() {
+            if !self.are_same() {
                 return false;
             }
+            let copy = either(rt, self.one.copy(), self.one.copy());
+            drop(mem::replace(&mut self.other, copy));
         }
         true
-    }
-
-    // From now on the other is a copy of the first, made a second time where memory was refused.
-    fn renew(&mut self) -> bool {
-        let copy = match self.one.copy() {
-            Ok(copy) => Some(copy),
-            Err(AllocError) => self.one.copy().ok(),
-        };
-        match copy {
-            Some(copy) => {
-                drop(mem::replace(&mut self.other, copy));
-                true
-            }
-            None => false,
-        }
     }
 
     // Whether both take the commands that create so many groups of different names.
-    fn create(&mut self, alloc: Global, count: u32) -> bool {
+    fn create(&mut self, rt: &impl Abort, alloc: Global, count: u32) -> bool {
+        let mut are_told = true;
         for number in 1..=count {
-            let told = match create_line(alloc, number) {
-                Some(line) => {
-                    let told = self.tell(alloc, 1, Event::Command(line.as_str()));
-                    drop(line);
-                    told
-                }
-                None => false,
-            };
-            if !told {
-                return false;
-            }
+            let line = create_line(rt, alloc, number);
+            are_told = self.tell(rt, alloc, 1, Event::Command(line.as_str())) && are_told;
+            drop(line);
         }
-        true
+        are_told
     }
 
     // Whether the event is refused so at both, which are the same then.
@@ -206,13 +163,14 @@ impl Twins {
     }
 
     // Whether the row holds.
-    fn holds(&mut self, alloc: Global, row: &Row<'_>) -> bool {
+    fn holds(&mut self, rt: &impl Abort, alloc: Global, row: &Row<'_>) -> bool {
         match row {
-            Row::Told(event) => self.tell(alloc, 1, *event),
-            Row::Often(times, event) => self.tell(alloc, *times, *event),
-            Row::Creates(count) => self.create(alloc, *count),
+            Row::Told(event) => self.tell(rt, alloc, 1, *event),
+            Row::Often(times, event) => self.tell(rt, alloc, *times, *event),
+            Row::Creates(count) => self.create(rt, alloc, *count),
             Row::Asked(line, answer) => {
-                self.tell(alloc, 1, Event::Command(line)) && has_answered(alloc, &self.one, answer)
+                self.tell(rt, alloc, 1, Event::Command(line))
+                    && has_answered(alloc, &self.one, answer)
             }
             Row::Refused(event, refusal) => self.refuse(alloc, *event, *refusal),
             Row::Alone(is_first, event, same, alike) => {
@@ -229,15 +187,15 @@ impl Twins {
 
 /// Each row of a table holds.
 pub fn check(rt: &impl Abort, alloc: Global, of: &str, kind: Kind, turns: &[Turn<'_>]) {
-    match new_twins(alloc, kind) {
-        Some(mut twins) => {
-            for (place, turn) in turns.iter().enumerate() {
-                for row in *turn {
-                    holds(rt, twins.holds(alloc, row), of, place);
-                }
-            }
-            drop(twins);
+    let mut twins = Twins {
+        one: made(rt, alloc, kind),
+        other: made(rt, alloc, kind),
+        did: NOTHING,
+    };
+    for (place, turn) in turns.iter().enumerate() {
+        for row in *turn {
+            holds(rt, twins.holds(rt, alloc, row), of, place);
         }
-        None => holds(rt, false, of, turns.len()),
     }
+    drop(twins);
 }

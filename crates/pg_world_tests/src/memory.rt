@@ -83,49 +83,41 @@ fn check(rt: &impl Abort, alloc: Global, example: &Example<'_>) {
     drop(schedule);
 }
 
-#[test]
-fn join_twice_leave_once(rt: HostRuntime) {
-    check(&rt, rt.alloc(), &JOIN_TWICE_LEAVE_ONCE);
+fn check_all(rt: &impl Abort, alloc: Global, examples: &[Example<'_>]) {
+    for example in examples {
+        check(rt, alloc, example);
+    }
 }
 
 #[test]
-fn delete_between_look_and_lock(rt: HostRuntime) {
-    check(&rt, rt.alloc(), &DELETE_BETWEEN_LOOK_AND_LOCK);
+fn two_nodes(rt: HostRuntime) {
+    let examples = [
+        JOIN_TWICE_LEAVE_ONCE,
+        DELETE_BETWEEN_LOOK_AND_LOCK,
+        TWO_CREATORS,
+    ];
+    check_all(&rt, rt.alloc(), &examples);
 }
 
 #[test]
-fn two_creators(rt: HostRuntime) {
-    check(&rt, rt.alloc(), &TWO_CREATORS);
+fn nodes_that_start_with_groups(rt: HostRuntime) {
+    check_all(
+        &rt,
+        rt.alloc(),
+        &[INITIAL_TABLES, END_BEATS_LATE_JOIN, CLOSEST_MEMBER],
+    );
 }
 
 #[test]
-fn initial_tables(rt: HostRuntime) {
-    check(&rt, rt.alloc(), &INITIAL_TABLES);
-}
-
-#[test]
-fn end_beats_late_join(rt: HostRuntime) {
-    check(&rt, rt.alloc(), &END_BEATS_LATE_JOIN);
-}
-
-#[test]
-fn closest_member(rt: HostRuntime) {
-    check(&rt, rt.alloc(), &CLOSEST_MEMBER);
-}
-
-#[test]
-fn formation_of_three(rt: HostRuntime) {
-    check(&rt, rt.alloc(), &FORMATION);
-}
-
-#[test]
-fn new_greatest(rt: HostRuntime) {
-    check(&rt, rt.alloc(), &NEW_GREATEST);
+fn three_nodes(rt: HostRuntime) {
+    check_all(&rt, rt.alloc(), &[FORMATION, NEW_GREATEST]);
 }
 
 #[test]
 fn losses(rt: HostRuntime) {
-    for example in [&LOSS_DROPS_MEMBERS, &LOSS_FREES_LOCK, &LOSS_LEAVES_OUT] {
-        check(&rt, rt.alloc(), example);
-    }
+    check_all(
+        &rt,
+        rt.alloc(),
+        &[LOSS_DROPS_MEMBERS, LOSS_FREES_LOCK, LOSS_LEAVES_OUT],
+    );
 }

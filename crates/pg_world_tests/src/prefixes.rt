@@ -2,7 +2,7 @@
 
 use crate::examples::{
     DELETE_BETWEEN_LOOK_AND_LOCK, END_BEATS_LATE_JOIN, Example, INITIAL_TABLES,
-    JOIN_TWICE_LEAVE_ONCE, LOSS_DROPS_MEMBERS, LOSS_LEAVES_OUT, NEW_GREATEST, TWO_CREATORS,
+    JOIN_TWICE_LEAVE_ONCE, LOSS_DROPS_MEMBERS, LOSS_LEAVES_OUT, TWO_CREATORS,
 };
 use crate::schedules::{Schedule, schedule_of};
 use crate::slow::{Scene, are_answered, first_pids};
@@ -35,7 +35,7 @@ fn is_right(alloc: Global, schedule: &Schedule, pids: &[Pid], steps: &[Step]) ->
 fn check(rt: &impl Abort, alloc: Global, example: &Example<'_>) {
     let schedule = schedule_of(alloc, example.script, 4).expect(rt, "memory");
     let starts = schedule.config.starts.as_slice();
-    let pids = first_pids(alloc, starts, 2).expect(rt, "memory");
+    let pids = first_pids(rt, alloc, starts, 2);
     let steps = schedule.steps.as_slice();
     for len in 0..=steps.len() {
         let (some, _) = steps.split_at(len);
@@ -46,22 +46,20 @@ fn check(rt: &impl Abort, alloc: Global, example: &Example<'_>) {
     drop(schedule);
 }
 
-#[test]
-fn each_prefix_has_one_history(rt: HostRuntime) {
-    for example in [
-        &JOIN_TWICE_LEAVE_ONCE,
-        &TWO_CREATORS,
-        &INITIAL_TABLES,
-        &END_BEATS_LATE_JOIN,
-        &DELETE_BETWEEN_LOOK_AND_LOCK,
-    ] {
-        check(&rt, rt.alloc(), example);
-    }
-}
+const EXAMPLES: &[Example] = &[
+    JOIN_TWICE_LEAVE_ONCE,
+    TWO_CREATORS,
+    INITIAL_TABLES,
+    END_BEATS_LATE_JOIN,
+    DELETE_BETWEEN_LOOK_AND_LOCK,
+    LOSS_DROPS_MEMBERS,
+    LOSS_LEAVES_OUT,
+];
 
+// After each prefix there is one history, or what survives losses.
 #[test]
-fn each_prefix_survives_losses(rt: HostRuntime) {
-    for example in [&LOSS_DROPS_MEMBERS, &LOSS_LEAVES_OUT] {
+fn each_prefix_is_right(rt: HostRuntime) {
+    for example in EXAMPLES {
         check(&rt, rt.alloc(), example);
     }
 }

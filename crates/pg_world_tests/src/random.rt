@@ -8,7 +8,7 @@ use pg_random::Random;
 use pg_step::{Command, OpId};
 use pg_term::{Pid, Term};
 use pg_world::{Config, Effect, FrameStep, Step, Stepped, run, run_frames};
-use std::alloc::{AllocError, Global};
+use std::alloc::Global;
 use std::process::Abort;
 
 /// How many steps a schedule has.
@@ -63,68 +63,66 @@ impl Chance {
         last.saturating_sub(self.random.below(30)).saturating_add(1)
     }
 
-    // A command; none where memory was refused.
-    fn command(&mut self, pids: &[Pid]) -> Option<Command> {
+    // A command.
+    fn command(&mut self, rt: &impl Abort, pids: &[Pid]) -> Command {
         let name = Term::Int(i64::from(self.random.below(4)).saturating_add(1));
         match self.random.below(80) {
-            0..10 => Some(Command::Create(name)),
-            10..15 => Some(Command::Delete(name)),
-            15..23 => Some(Command::Members(name)),
-            23..31 => Some(Command::Closest(name, self.random.below(100))),
-            31..64 => self.about(name, pids),
+            0..10 => Command::Create(name),
+            10..15 => Command::Delete(name),
+            15..23 => Command::Members(name),
+            23..31 => Command::Closest(name, self.random.below(100)),
+            31..64 => self.about(rt, name, pids),
             64..72 => {
                 drop(name);
-                Some(Command::Make)
+                Command::Make
             }
             _ => {
                 drop(name);
-                Some(Command::WhichGroups)
+                Command::WhichGroups
             }
         }
     }
 
     // The same about a process.
-    fn about(&mut self, name: Term, pids: &[Pid]) -> Option<Command> {
-        let process = match self.random.pick(pids) {
-            Some(pid) => pid.copy().ok(),
-            None => None,
-        };
-        match (process, self.random.below(33)) {
-            (Some(pid), 0..15) => Some(Command::Join(name, pid)),
-            (Some(pid), 15..25) => Some(Command::Leave(name, pid)),
-            (process, _) => {
+    fn about(&mut self, rt: &impl Abort, name: Term, pids: &[Pid]) -> Command {
+        let picked = self.random.pick(pids).expect(rt, "a process");
+        let pid = picked.copy().expect(rt, "memory");
+        match self.random.below(33) {
+            0..15 => Command::Join(name, pid),
+            15..25 => Command::Leave(name, pid),
+            _ => {
                 drop(name);
-                Some(Command::Finish(process?))
+                Command::Finish(pid)
             }
         }
     }
 
-    // A step; none where memory was refused.
-    fn step(&mut self, pids: &[Pid]) -> Option<Step> {
+    // A step.
+    fn step(&mut self, rt: &impl Abort, pids: &[Pid]) -> Step {
         let (node, peer) = self.pair();
         let max = self.random.below(200) as usize;
         match self.random.below(100) {
-            0..28 => Some(put(node, peer, max)),
-            28..56 => Some(pull(node, peer, max)),
-            56..88 => Some(Step::Event(FrameStep::Take { node, peer })),
+            0..28 => put(node, peer, max),
+            28..56 => pull(node, peer, max),
+            56..88 => Step::Event(FrameStep::Take { node, peer }),
             88..96 => {
                 self.asked = self.asked.saturating_add(1);
-                let command = self.command(pids)?;
+                let command = self.command(rt, pids);
                 let port = 0;
-                Some(Step::Event(FrameStep::Command {
+                Step::Event(FrameStep::Command {
                     node,
                     port,
                     command,
-                }))
+                })
             }
             // A loss is seen, or a command is tried again.
             _ if self.is_lossy && self.random.below(2) > 0 => {
-                Some(Step::Event(FrameStep::SeeLoss { node, peer }))
+                Step::Event(FrameStep::SeeLoss { node, peer })
             }
             _ => {
                 let (port, number) = (0, self.number());
                 let op = OpId { port, number };
-                Some(Step::Event(FrameStep::Retry { node, op }))
+                Step::Event(FrameStep::Retry { node, op })
             }
         }
     }
@@ -151,18 +149,14 @@ fn pull(to: usize, from: usize, max: usize) -> Step {
 }
 
 // Puts steps by chance behind the others.
-fn put_steps(steps: &mut Vec<Step>, chance: &mut Chance, pids: &[Pid]) -> Result<(), AllocError> {
+fn put_steps(rt: &impl Abort, steps: &mut Vec<Step>, chance: &mut Chance, pids: &[Pid]) {
     for place in 0..STEPS {
         let step = match chance.lost_at(place) {
-            Some(node) => Some(Step::Lose { node }),
-            None => chance.step(pids),
+            Some(node) => Step::Lose { node },
+            None => chance.step(rt, pids),
         };
-        match step {
-            Some(step) => steps.push(step)?,
-            None => return Err(AllocError),
-        }
+        steps.push(step).ok().expect(rt, "memory");
     }
-    Ok(())
 }
 
 /// What a step of a world did: its event, if it was one that happened, and the number of its fault.
@@ -176,7 +170,7 @@ fn noted(stepped: Result<Stepped, NodeFault>) -> Noted {
     }
 }
 
-// Makes the steps one by one, and notes what each did; fewer where memory was refused.
+// Makes the steps one by one, and notes what each did.
 fn step_all(
     rt: &impl Abort,
     alloc: Global,
@@ -186,9 +180,10 @@ fn step_all(
     notes: &mut Vec<Noted>,
 ) {
     for (place, step) in schedule.steps.as_slice().iter().enumerate() {
-        if notes.push(noted(world.step(step))).is_err() {
-            return;
-        }
+        notes
+            .push(noted(world.step(step)))
+            .ok()
+            .expect(rt, "memory");
         // Now and then the headline is read.
         if place % 50 == 0 {
             check_headline(rt, looked_at(alloc, schedule, pids, world), place);
@@ -257,24 +252,15 @@ fn is_run(alloc: Global, schedule: &Schedule, world: &World, notes: &[Noted]) ->
 }
 
 // Puts the events that happened behind the others.
-fn put_events(
-    events: &mut Vec<FrameStep>,
-    steps: Vec<Step>,
-    notes: &[Noted],
-) -> Result<(), AllocError> {
+fn put_events(rt: &impl Abort, events: &mut Vec<FrameStep>, steps: Vec<Step>, notes: &[Noted]) {
     for (step, noted) in steps.into_iter().zip(notes) {
         match step {
-            Step::Event(event) => {
-                if noted.0.is_some() {
-                    events.push(event)?;
-                } else {
-                    drop(event);
-                }
+            Step::Event(event) if noted.0.is_some() => {
+                events.push(event).ok().expect(rt, "memory");
             }
             other => drop(other),
         }
     }
-    Ok(())
 }
 
 // Whether the events over packets all happen, and lead to the same nodes.
@@ -302,28 +288,25 @@ fn is_run_over_packets(
 }
 
 // The first so many of the nodes, and steps by chance.
-fn drawn(alloc: Global, nodes: usize, is_lossy: bool, seed: u64) -> Option<(Schedule, Vec<Pid>)> {
-    let mut schedule = schedule_of(alloc, BEGUN, 0)?;
+fn drawn(
+    rt: &impl Abort,
+    alloc: Global,
+    nodes: usize,
+    is_lossy: bool,
+    seed: u64,
+) -> (Schedule, Vec<Pid>) {
+    let mut schedule = schedule_of(alloc, BEGUN, 0).expect(rt, "memory");
     schedule.config.starts.truncate(nodes);
-    let Some(pids) = first_pids(alloc, schedule.config.starts.as_slice(), 3) else {
-        drop(schedule);
-        return None;
-    };
+    let pids = first_pids(rt, alloc, schedule.config.starts.as_slice(), 3);
     let mut chance = Chance {
         random: Random::new(seed),
         nodes: u32::try_from(nodes).unwrap_or(1),
         is_lossy,
         asked: 0,
     };
-    let told = put_steps(&mut schedule.steps, &mut chance, pids.as_slice());
+    put_steps(rt, &mut schedule.steps, &mut chance, pids.as_slice());
     drop(chance);
-    if told.is_ok() {
-        Some((schedule, pids))
-    } else {
-        drop(schedule);
-        drop(pids);
-        None
-    }
+    (schedule, pids)
 }
 
 // A run of the steps that were made, and one of the events over packets, lead to the same nodes; of losses, which keep as many packets as
@@ -341,51 +324,71 @@ fn check_runs(
     let count = config.starts.len();
     holds(rt, is_run, "the same by a run, nodes:", count);
     let mut events = Vec::new(alloc);
-    let told = put_events(&mut events, steps, notes);
-    let is_run = told.is_ok()
-        && (is_lossy || is_run_over_packets(alloc, &config, world, events.as_slice()));
+    put_events(rt, &mut events, steps, notes);
+    let is_run = is_lossy || is_run_over_packets(alloc, &config, world, events.as_slice());
     drop(events);
     drop(config);
     holds(rt, is_run, "the same over packets, nodes:", count);
 }
 
-// So many nodes make steps by chance.
-fn check(rt: &impl Abort, alloc: Global, nodes: usize, is_lossy: bool, seed: u64) {
-    let (schedule, pids) = drawn(alloc, nodes, is_lossy, seed).expect(rt, "memory");
+// How many nodes make steps by chance, whether some are lost, and a seed.
+type Draw = (usize, bool, u64);
+
+fn check(rt: &impl Abort, alloc: Global, (nodes, is_lossy, seed): Draw) {
+    let (schedule, pids) = drawn(rt, alloc, nodes, is_lossy, seed);
     let mut world = World::new(alloc, &schedule.config).expect(rt, "memory");
     let mut notes = Vec::new(alloc);
     step_all(rt, alloc, &schedule, &pids, &mut world, &mut notes);
-    holds(rt, notes.len() == STEPS, "steps:", notes.len());
-    // What was answered stands in the histories.
     let scene = looked_at(alloc, &schedule, &pids, &world);
-    check_headline(rt, scene, STEPS);
-    let are_answered = are_answered(scene, schedule.steps.as_slice());
-    holds(rt, are_answered, "answers of nodes:", nodes);
-    holds(rt, scene.all_saw(), "the losses, nodes:", nodes);
-    let begun = begun(&world);
-    holds(rt, begun > 9, "updates begun:", begun);
-    let is_noted = noted_begun(notes.as_slice()) == (begun, false);
-    holds(rt, is_noted, "as noted, updates begun:", begun);
+    check_answers(rt, scene, schedule.steps.as_slice());
+    drop(pids);
+    check_notes(rt, &world, notes.as_slice());
     check_runs(rt, alloc, schedule, is_lossy, &world, notes.as_slice());
     drop(world);
     drop(notes);
-    drop(pids);
+}
+
+// What was answered stands in the histories.
+fn check_answers(rt: &impl Abort, scene: Scene<'_>, steps: &[Step]) {
+    check_headline(rt, scene, STEPS);
+    let nodes = scene.starts.len();
+    holds(rt, are_answered(scene, steps), "answers of nodes:", nodes);
+    holds(rt, scene.all_saw(), "the losses, nodes:", nodes);
+}
+
+fn check_notes(rt: &impl Abort, world: &World, notes: &[Noted]) {
+    holds(rt, notes.len() == STEPS, "steps:", notes.len());
+    let begun = begun(world);
+    holds(rt, begun > 9, "updates begun:", begun);
+    let is_noted = noted_begun(notes) == (begun, false);
+    holds(rt, is_noted, "as noted, updates begun:", begun);
+}
+
+fn check_all(rt: &impl Abort, alloc: Global, draws: &[Draw]) {
+    for draw in draws {
+        check(rt, alloc, *draw);
+    }
 }
 
 #[test]
 fn two_and_three_nodes(rt: HostRuntime) {
-    check(&rt, rt.alloc(), 2, false, 20_261_125);
-    check(&rt, rt.alloc(), 3, false, 20_261_126);
+    check_all(
+        &rt,
+        rt.alloc(),
+        &[(2, false, 20_261_125), (3, false, 20_261_126)],
+    );
 }
 
 #[test]
 fn four_and_five_nodes(rt: HostRuntime) {
-    check(&rt, rt.alloc(), 4, false, 20_261_127);
-    check(&rt, rt.alloc(), 5, false, 20_261_128);
+    check_all(
+        &rt,
+        rt.alloc(),
+        &[(4, false, 20_261_127), (5, false, 20_261_128)],
+    );
 }
 
 #[test]
 fn nodes_are_lost(rt: HostRuntime) {
-    check(&rt, rt.alloc(), 4, true, 12);
-    check(&rt, rt.alloc(), 5, true, 3);
+    check_all(&rt, rt.alloc(), &[(4, true, 12), (5, true, 3)]);
 }

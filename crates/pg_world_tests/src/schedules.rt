@@ -100,5 +100,10 @@ pub fn are_same(one: Option<&State>, other: Option<&State>) -> bool {
 
 /// Whether so many nodes of two worlds are the same.
 pub fn are_same_worlds(one: &World, other: &World, nodes: usize) -> bool {
-    (0..nodes).all(|place| are_same(state_of(one, place), state_of(other, place)))
+    for place in 0..nodes {
+        if !are_same(state_of(one, place), state_of(other, place)) {
+            return false;
+        }
+    }
+    true
 }

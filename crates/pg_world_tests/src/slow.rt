@@ -13,6 +13,7 @@ use pg_step::Start;
 use pg_term::{Pid, Term};
 use pg_world::Entry;
 use std::alloc::{AllocError, Global};
+use std::process::Abort;
 
 /// The history of a group: a slice, and one more behind it, where the last event began it.
 pub type History<'a> = (&'a [Entry], Option<&'a Entry>);
@@ -37,32 +38,23 @@ pub fn entry_at(history: History<'_>, place: usize) -> Option<&Entry> {
     }
 }
 
-fn put_pids(pids: &mut Vec<Pid>, starts: &[Start], count: u32) -> Result<(), AllocError> {
+/// The first so many processes of each node.
+pub fn first_pids(rt: &impl Abort, alloc: Global, starts: &[Start], count: u32) -> Vec<Pid> {
+    let mut pids = Vec::new(alloc);
     for start in starts {
         for id in 1..=count {
-            let node = start.name.copy()?;
+            let node = start.name.copy().expect(rt, "memory");
             let (serial, creation) = (0, 1);
-            pids.push(Pid {
+            let pid = Pid {
                 node,
                 serial,
                 id,
                 creation,
-            })?;
+            };
+            pids.push(pid).ok().expect(rt, "memory");
         }
     }
-    Ok(())
-}
-
-/// The first so many processes of each node; none where memory was refused.
-pub fn first_pids(alloc: Global, starts: &[Start], count: u32) -> Option<Vec<Pid>> {
-    let mut pids = Vec::new(alloc);
-    match put_pids(&mut pids, starts, count) {
-        Ok(()) => Some(pids),
-        Err(AllocError) => {
-            drop(pids);
-            None
-        }
-    }
+    pids
 }
 
 /// A world that is looked at.
@@ -123,10 +115,13 @@ impl<'a> Scene<'a> {
         pids: &[Pid],
     ) -> bool {
         let is_there = node.table().has(name);
-        pids.iter().all(|pid| {
+        for pid in pids {
             let held = self.wanted(node, name, wanted, pid);
-            held.is_there == is_there && held.count == count_in(list, pid)
-        })
+            if held.is_there != is_there || held.count != count_in(list, pid) {
+                return false;
+            }
+        }
+        true
     }
 
     // Whether a node holds of a group what it should.
@@ -165,7 +160,12 @@ impl<'a> Scene<'a> {
 
     // Whether one node sees the lock of a group free.
     fn is_free(&self, name: &Term) -> bool {
-        (0..self.starts.len()).any(|place| self.world.lock_free(place, name))
+        for place in 0..self.starts.len() {
+            if self.world.lock_free(place, name) {
+                return true;
+            }
+        }
+        false
     }
 
     // Whether no process has ended at its home, and not everywhere. Lost nodes do not count.
@@ -241,10 +241,13 @@ impl<'a> Scene<'a> {
 
     /// Whether each live node has seen each loss.
     pub fn all_saw(&self) -> bool {
-        (0..self.starts.len()).all(|place| match self.left_at(place) {
-            Some(node) => lost_to(place, node) == self.lost(),
-            None => true,
-        })
+        for place in 0..self.starts.len() {
+            match self.left_at(place) {
+                Some(node) if lost_to(place, node) != self.lost() => return false,
+                _ => {}
+            }
+        }
+        true
     }
 
     /// What does not hold of the headline, of some group at some node, or of what survives where nodes are lost.

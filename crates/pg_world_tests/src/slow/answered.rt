@@ -85,10 +85,14 @@ fn stands(scene: Scene<'_>, command: &Command, node: usize, number: u32) -> bool
 
 // Whether each answer of a node is to a command, and stands in the history if it is ok.
 fn are_answers_right(scene: Scene<'_>, steps: &[Step], place: usize, answers: &[Answer]) -> bool {
-    answers.iter().all(|answer| match command_of(steps, place, answer.number) {
-        Some(command) => answer.reply != Reply::Ok || stands(scene, command, place, answer.number),
-        None => false,
-    })
+    for answer in answers {
+        match command_of(steps, place, answer.number) {
+            Some(command)
+                if answer.reply != Reply::Ok || stands(scene, command, place, answer.number) => {}
+            _ => return false,
+        }
+    }
+    true
 }
 
 /// Whether the history of each group holds what these steps asked for, each once, and what is answered ok.

@@ -2,6 +2,7 @@
 
 use super::{Held, History, Scene, entry_at, len_of};
 use crate::schedules::{State, state_of};
+use pg_step::Answer;
 use pg_term::{Pid, Reference};
 use pg_world::Entry;
 
@@ -12,6 +13,15 @@ pub struct LeftOut {
     pub of_lost: u32,
     /// The last update.
     pub is_short: bool,
+}
+
+fn has_number(answers: &[Answer], number: u32) -> bool {
+    for answer in answers {
+        if answer.number == number {
+            return true;
+        }
+    }
+    false
 }
 
 /// The bits of the places.
@@ -54,17 +64,19 @@ impl Scene<'_> {
         let Some(holder) = holder else {
             return false;
         };
-        let mut starts = self.starts.iter().enumerate();
-        starts.any(|(place, start)| bit_of(place) & lost > 0 && start.name == *holder.node())
+        for (place, start) in self.starts.iter().enumerate() {
+            if bit_of(place) & lost > 0 && start.name == *holder.node() {
+                return true;
+            }
+        }
+        false
     }
 
     // Whether the command of an entry was answered.
     fn is_answered(&self, entry: &Entry) -> bool {
         let number = entry.op.number;
         match state_of(self.world, entry.node) {
-            Some(node) if node.port_count() == 1 => {
-                node.answers(0).iter().any(|answer| answer.number == number)
-            }
+            Some(node) if node.port_count() == 1 => has_number(node.answers(0), number),
             _ => false,
         }
     }
