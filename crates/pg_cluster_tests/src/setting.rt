@@ -84,15 +84,14 @@ pub fn config(alloc: Global, setting: Setting<'_>) -> Option<Config> {
 
 fn read(alloc: Global, line: &str) -> Option<Command> {
     match read_line(alloc, line) {
-        Ok(Line::At { node, form }) => {
+        Ok(
+            Line::At {
+                node,
+                form: NodeForm::Command(command),
+            },
+        ) => {
             drop(node);
-            match form {
-                NodeForm::Command(command) => Some(command),
-                other => {
-                    drop(other);
-                    None
-                }
-            }
+            Some(command)
         }
         Ok(other) => {
             drop(other);

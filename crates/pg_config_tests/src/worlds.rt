@@ -110,15 +110,14 @@ const GONE: Told = Ok(Stepped::Gone);
 
 fn command_of(alloc: Global, line: &str) -> Option<Command> {
     match read_line(alloc, line) {
-        Ok(Line::At { node, form }) => {
+        Ok(
+            Line::At {
+                node,
+                form: NodeForm::Command(command),
+            },
+        ) => {
             drop(node);
-            match form {
-                NodeForm::Command(command) => Some(command),
-                other => {
-                    drop(other);
-                    None
-                }
-            }
+            Some(command)
         }
         Ok(other) => {
             drop(other);
@@ -326,11 +325,12 @@ fn three(alloc: Global) -> Option<Twins> {
 }
 
 // Each row of the table holds in a new world of three nodes and in its copy, one after another.
-fn check(rt: &impl Abort, alloc: Global, turns: &[Turn<'_>]) {
+fn check(rt: &impl Abort, alloc: Global, list: usize, turns: &[Turn<'_>]) {
     let mut twins = three(alloc).expect(rt, "a world");
     for (place, turn) in turns.iter().enumerate() {
         for row in *turn {
-            holds(rt, twins.holds(alloc, row), "turn", place);
+            let turn = list.wrapping_mul(100).wrapping_add(place);
+            holds(rt, twins.holds(alloc, row), "list and turn:", turn);
         }
     }
     drop(twins);
@@ -446,36 +446,21 @@ static ASKED_PAST_LOSS: &[Turn<'static>] = &[
 ];
 
 #[test]
-fn events_are_reported(rt: HostRuntime) {
-    check(&rt, rt.alloc(), ASKED);
-    check(&rt, rt.alloc(), ASKED_PAST_LOSS);
-}
-
-#[test]
-fn copies_go_on(rt: HostRuntime) {
-    check(&rt, rt.alloc(), COPIES);
-    check(&rt, rt.alloc(), ALIKE);
-}
-
-#[test]
-fn create_reaches_all(rt: HostRuntime) {
-    check(&rt, rt.alloc(), CREATE);
-    check(&rt, rt.alloc(), APPLIED);
-}
-
-#[test]
-fn steps_are_refused(rt: HostRuntime) {
-    check(&rt, rt.alloc(), REFUSALS);
-}
-
-#[test]
-fn losses_take_along(rt: HostRuntime) {
-    check(&rt, rt.alloc(), TAKEN_ALONG);
-    check(&rt, rt.alloc(), LOST_EARLY);
-}
-
-#[test]
-fn ends_are_pending(rt: HostRuntime) {
-    check(&rt, rt.alloc(), LOSS);
-    check(&rt, rt.alloc(), LISTED);
+fn turns_of_worlds(rt: HostRuntime) {
+    let lists: [&[Turn<'static>]; 11] = [
+        ASKED,
+        ASKED_PAST_LOSS,
+        COPIES,
+        ALIKE,
+        CREATE,
+        APPLIED,
+        REFUSALS,
+        TAKEN_ALONG,
+        LOST_EARLY,
+        LOSS,
+        LISTED,
+    ];
+    for (place, turns) in lists.iter().enumerate() {
+        check(&rt, rt.alloc(), place, turns);
+    }
 }
