@@ -6,7 +6,6 @@ use crate::frames::{
 };
 use crate::served::{Sheet, joined, served};
 use std::alloc::{AllocError, Global};
-use std::process::Abort;
 use std::test::*;
 
 // The name of the row, the names of the node and its peer, the parts of the input, what is answered, and the number of the fault (0: none).
@@ -64,13 +63,10 @@ fn holds(alloc: Global, names: (&str, &str), parts: &[&[u8]], output: &[u8], num
     }
 }
 
-fn check(rt: &impl Abort, holds: bool, name: &str) {
-    assert!(rt; holds, "{name}");
-}
-
 #[test]
 fn rows(rt: HostRuntime) {
     for (name, names, parts, output, number) in ROWS {
-        check(&rt, holds(rt.alloc(), *names, parts, output, *number), name);
+        let holds = holds(rt.alloc(), *names, parts, output, *number);
+        assert!(&rt; holds, "{name}");
     }
 }

@@ -115,12 +115,8 @@ fn goes<R: Source>(alloc: Global, turns: Turns<'_>, reader: &mut R, run: Run) ->
 fn is_prefix_served(alloc: Global, turns: Turns<'_>, input: &[u8], len: usize) -> bool {
     let (mut reader, _) = input.split_at(len.min(input.len()));
     let (answered, number) = (answered_len(turns, len), fault_after(turns, len));
-    goes(
-        alloc,
-        turns,
-        &mut reader,
-        Run(usize::MAX, answered, number, false),
-    )
+    let run = Run(usize::MAX, answered, number, false);
+    goes(alloc, turns, &mut reader, run)
 }
 
 // Whether what was read is answered, and that is flushed, where the input comes in a piece of `first` bytes and then of `next`, in so many reads.
@@ -139,17 +135,10 @@ fn is_read_in(
     // The last read finds the end.
     let rest = input.len().saturating_sub(first);
     let needed = rest.div_ceil(next.max(1)).saturating_add(2);
-    let number = if reads_left >= needed {
-        DONE
-    } else {
-        READ_FAULT
-    };
-    goes(
-        alloc,
-        turns,
-        &mut reader,
-        Run(usize::MAX, answered, number, true),
-    )
+    let is_whole = reads_left >= needed;
+    let number = if is_whole { DONE } else { READ_FAULT };
+    let run = Run(usize::MAX, answered, number, true);
+    goes(alloc, turns, &mut reader, run)
 }
 
 // How many bytes are held after so many calls of the writer: writes of 5 bytes, and a flush after the last.
@@ -178,12 +167,8 @@ fn is_held(alloc: Global, turns: Turns<'_>, input: &[u8], calls: usize) -> bool 
     let mut reader = input;
     let is_whole = calls >= calls_of(turns);
     let number = if is_whole { DONE } else { WRITE_FAULT };
-    goes(
-        alloc,
-        turns,
-        &mut reader,
-        Run(calls, held_after(turns, calls), number, false),
-    )
+    let run = Run(calls, held_after(turns, calls), number, false);
+    goes(alloc, turns, &mut reader, run)
 }
 
 // Whether the replies to all that came before the last read were flushed by then, where the input comes 7 bytes a read and the writer is

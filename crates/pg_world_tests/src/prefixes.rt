@@ -5,7 +5,7 @@ use crate::examples::{
     JOIN_TWICE_LEAVE_ONCE, LOSS_DROPS_MEMBERS, LOSS_LEAVES_OUT, TWO_CREATORS,
 };
 use crate::schedules::{Schedule, schedule_of};
-use crate::slow::{Scene, are_answered, first_pids};
+use crate::slow::{are_answered, first_pids};
 use crate::verdicts::holds;
 use pg_term::Pid;
 use pg_world::{Step, run};
@@ -16,12 +16,7 @@ use std::process::Abort;
 fn is_right(alloc: Global, schedule: &Schedule, pids: &[Pid], steps: &[Step]) -> bool {
     match run(alloc, &schedule.config, steps) {
         Ok((world, numbers)) => {
-            let scene = Scene {
-                alloc,
-                world: &world,
-                starts: schedule.config.starts.as_slice(),
-                pids,
-            };
+            let scene = schedule.scene(alloc, &world, pids);
             let is_right = scene.fault().is_none()
                 && are_answered(scene, schedule.steps.as_slice());
             drop(world);

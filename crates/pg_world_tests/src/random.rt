@@ -100,10 +100,15 @@ impl Chance {
     // A step.
     fn step(&mut self, rt: &impl Abort, pids: &[Pid]) -> Step {
         let (node, peer) = self.pair();
+        let (from, to) = (node, peer);
         let max = self.random.below(200) as usize;
         match self.random.below(100) {
-            0..28 => put(node, peer, max),
-            28..56 => pull(node, peer, max),
+            0..28 => Step::Put { from, to, max },
+            28..56 => Step::Pull {
+                to: from,
+                from: to,
+                max,
+            },
             56..88 => Step::Event(FrameStep::Take { node, peer }),
             88..96 => {
                 self.asked = self.asked.saturating_add(1);
@@ -138,14 +143,6 @@ impl Chance {
             None
         }
     }
-}
-
-fn put(from: usize, to: usize, max: usize) -> Step {
-    Step::Put { from, to, max }
-}
-
-fn pull(to: usize, from: usize, max: usize) -> Step {
-    Step::Pull { to, from, max }
 }
 
 // Puts steps by chance behind the others.
@@ -186,22 +183,8 @@ fn step_all(
             .expect(rt, "memory");
         // Now and then the headline is read.
         if place % 50 == 0 {
-            check_headline(rt, looked_at(alloc, schedule, pids, world), place);
+            check_headline(rt, schedule.scene(alloc, world, pids), place);
         }
-    }
-}
-
-fn looked_at<'a>(
-    alloc: Global,
-    schedule: &'a Schedule,
-    pids: &'a [Pid],
-    world: &'a World,
-) -> Scene<'a> {
-    Scene {
-        alloc,
-        world,
-        starts: schedule.config.starts.as_slice(),
-        pids,
     }
 }
 
@@ -339,7 +322,7 @@ fn check(rt: &impl Abort, alloc: Global, (nodes, is_lossy, seed): Draw) {
     let mut world = World::new(alloc, &schedule.config).expect(rt, "memory");
     let mut notes = Vec::new(alloc);
     step_all(rt, alloc, &schedule, &pids, &mut world, &mut notes);
-    let scene = looked_at(alloc, &schedule, &pids, &world);
+    let scene = schedule.scene(alloc, &world, &pids);
     check_answers(rt, scene, schedule.steps.as_slice());
     drop(pids);
     check_notes(rt, &world, notes.as_slice());
