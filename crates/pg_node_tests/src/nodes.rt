@@ -96,10 +96,9 @@ fn begun(alloc: Global, config: NodeConfig) -> Result<NodeState<IndexTable>, All
 }
 
 // A node that has no peer, where so many processes were made.
-fn lone_node_made(rt: &impl Abort, alloc: Global, made: u32) -> Result<State, AllocError>
+fn lone_node_made(alloc: Global, own: Atom, made: u32) -> Result<State, AllocError>
     requires { made ≤ 268435455 }
 {
-    let own = atom(rt, alloc, "a");
     let peers = Vec::new(alloc);
     let config = NodeConfig {
         own,
@@ -166,11 +165,8 @@ fn formed_node(rt: &impl Abort, alloc: Global, who: Who) -> State {
 fn lone_node(rt: &impl Abort, alloc: Global, made: u32) -> State
     requires { made ≤ 268435455 }
 {
-    either(
-        rt,
-        lone_node_made(rt, alloc, made),
-        lone_node_made(rt, alloc, made),
-    )
+    let first = lone_node_made(alloc, atom(rt, alloc, "a"), made);
+    either(rt, first, lone_node_made(alloc, atom(rt, alloc, "a"), made))
 }
 
 /// A node of this kind.

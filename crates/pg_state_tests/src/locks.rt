@@ -22,12 +22,14 @@ type Holders = (Option<usize>, Option<usize>);
 
 const GRANTED: Want = Want::Ask(true, true);
 
+const DENIED: Want = Want::Ask(true, false);
+
 const WANTS: &[&[Row]] = &[
     // A node that has not formed grants nothing; then the first to ask for a name holds it, and frees it alone.
     &[
         (true, Want::Ask(false, false), 1, 0, (None, None), true),
         (true, GRANTED, 1, 0, (Some(0), None), false),
-        (true, Want::Ask(true, false), 1, 1, (Some(0), None), false),
+        (true, DENIED, 1, 1, (Some(0), None), false),
         (true, GRANTED, 2, 1, (Some(0), Some(1)), false),
         (true, Want::GiveUp, 1, 1, (Some(0), Some(1)), false),
         (true, Want::GiveUp, 1, 0, (None, Some(1)), false),
@@ -38,14 +40,7 @@ const WANTS: &[&[Row]] = &[
         (true, GRANTED, 2, 1, (Some(0), Some(1)), false),
         (false, GRANTED, 2, 1, (None, Some(1)), false),
         (false, GRANTED, 1, 1, (Some(1), Some(1)), false),
-        (
-            false,
-            Want::Ask(true, false),
-            1,
-            0,
-            (Some(1), Some(1)),
-            false,
-        ),
+        (false, DENIED, 1, 0, (Some(1), Some(1)), false),
         (false, Want::GiveUp, 1, 0, (Some(1), Some(1)), false),
         (false, Want::GiveUp, 1, 1, (None, Some(1)), false),
         (false, GRANTED, 1, 0, (Some(0), Some(1)), true),
@@ -92,20 +87,11 @@ fn check_row(rt: &impl Abort, row: &Row, references: &[Reference], locks: &mut L
     let (is_first, want, name, who, holders, _) = *row;
     let reference = references.get(who).expect(rt, "a reference");
     let is_answered = match want {
-        Want::Ask(has_formed, granted) => {
-            let told = if is_first {
-                ask(rt, locks, has_formed, name, reference)
-            } else {
-                ask_moved(rt, locks, has_formed, name, reference)
-            };
-            told == granted
+        Want::Ask(formed, granted) => {
+            ask(rt, locks, formed, name, reference, is_first) == granted
         }
         Want::GiveUp => {
-            if is_first {
-                give_up(locks, name, reference);
-            } else {
-                give_up_by(locks, name, reference);
-            }
+            give_up(locks, name, reference, is_first);
             true
         }
     };
@@ -114,30 +100,21 @@ fn check_row(rt: &impl Abort, row: &Row, references: &[Reference], locks: &mut L
         & is_held(locks, 2, holders.1.and_then(|place| references.get(place)))
 }
 
-/// Whether a node grants the lock of the name of this number.
+/// Whether a node grants the lock of the name of this number. The reference is lent, or a copy of it is moved in.
 pub fn ask(
     rt: &impl Abort,
     locks: &mut LockTable,
     has_formed: bool,
     number: i64,
     reference: &Reference,
+    is_lent: bool,
 ) -> bool {
     let name = Term::Int(number);
-    let told = asked!(rt; locks.ask(has_formed, &name, reference));
-    drop(name);
-    told
-}
-
-/// The same, where a copy of the reference is moved in.
-fn ask_moved(
-    rt: &impl Abort,
-    locks: &mut LockTable,
-    has_formed: bool,
-    number: i64,
-    reference: &Reference,
-) -> bool {
-    let name = Term::Int(number);
-    let told = asked!(rt; ask_by_copy(locks, has_formed, &name, reference));
+    let told = if is_lent {
+        asked!(rt; locks.ask(has_formed, &name, reference))
+    } else {
+        asked!(rt; ask_by_copy(locks, has_formed, &name, reference))
+    };
     drop(name);
     told
 }
@@ -152,20 +129,15 @@ fn ask_by_copy(
     locks.ask_moved(has_formed, name, moved)
 }
 
-pub fn give_up(locks: &mut LockTable, number: i64, reference: &Reference) {
+/// A reference, or its parts, gives up the lock of the name of this number.
+pub fn give_up(locks: &mut LockTable, number: i64, reference: &Reference, is_whole: bool) {
     let name = Term::Int(number);
-    locks.give_up(&name, reference);
-    drop(name);
-}
-
-fn give_up_by(locks: &mut LockTable, number: i64, reference: &Reference) {
-    let name = Term::Int(number);
-    locks.give_up_by(
-        &name,
-        reference.node(),
-        reference.creation(),
-        reference.words(),
-    );
+    if is_whole {
+        locks.give_up(&name, reference);
+    } else {
+        let (node, creation) = (reference.node(), reference.creation());
+        locks.give_up_by(&name, node, creation, reference.words());
+    }
     drop(name);
 }
 

@@ -36,10 +36,11 @@ fn many_locks(rt: HostRuntime) {
 
 fn change_hands(rt: &impl Abort, locks: &mut LockTable, first: &Reference, other: &Reference) {
     for number in 0..1001 {
-        check!(rt; ask(rt, locks, true, number, if number < 501 { first } else { other }));
+        let reference = if number < 501 { first } else { other };
+        check!(rt; ask(rt, locks, true, number, reference, true));
     }
     for number in 501..1001 {
-        check!(rt; !ask(rt, locks, true, number, first));
+        check!(rt; !ask(rt, locks, true, number, first, true));
     }
     let copy = locks.copy().expect(rt, "a copy");
     check!(rt; copy.same(locks));
@@ -51,7 +52,7 @@ fn change_hands(rt: &impl Abort, locks: &mut LockTable, first: &Reference, other
     }
     for number in 0..501 {
         check!(rt; is_held(locks, number, Some(first)));
-        give_up(locks, number, first);
+        give_up(locks, number, first, true);
         check!(rt; is_held(locks, number, None));
     }
 }

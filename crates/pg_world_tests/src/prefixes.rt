@@ -5,7 +5,7 @@ use crate::examples::{
     JOIN_TWICE_LEAVE_ONCE, LOSS_DROPS_MEMBERS, LOSS_LEAVES_OUT, TWO_CREATORS,
 };
 use crate::schedules::{Schedule, schedule_of};
-use crate::slow::{are_answered, first_pids};
+use crate::slow::{are_answered, first_pids, scene_of};
 use crate::verdicts::holds;
 use pg_term::Pid;
 use pg_world::{Step, run};
@@ -16,7 +16,7 @@ use std::process::Abort;
 fn is_right(alloc: Global, schedule: &Schedule, pids: &[Pid], steps: &[Step]) -> bool {
     match run(alloc, &schedule.config, steps) {
         Ok((world, numbers)) => {
-            let scene = schedule.scene(alloc, &world, pids);
+            let scene = scene_of(alloc, schedule, &world, pids);
             let is_right = scene.fault().is_none()
                 && are_answered(scene, schedule.steps.as_slice());
             drop(world);

@@ -1,7 +1,7 @@
 //! Random schedules of worlds over bytes, cut at random. Whatever moved when, packets that cross whole lead to the same nodes.
 
 use crate::schedules::{Schedule, World, are_same, are_same_worlds, schedule_of, state_of};
-use crate::slow::{GROUPS, Scene, are_answered, first_pids, len_of};
+use crate::slow::{GROUPS, Scene, are_answered, first_pids, len_of, scene_of};
 use crate::verdicts::holds;
 use pg_node::NodeFault;
 use pg_random::Random;
@@ -183,7 +183,7 @@ fn step_all(
             .expect(rt, "memory");
         // Now and then the headline is read.
         if place % 50 == 0 {
-            check_headline(rt, schedule.scene(alloc, world, pids), place);
+            check_headline(rt, scene_of(alloc, schedule, world, pids), place);
         }
     }
 }
@@ -238,8 +238,12 @@ fn is_run(alloc: Global, schedule: &Schedule, world: &World, notes: &[Noted]) ->
 fn put_events(rt: &impl Abort, events: &mut Vec<FrameStep>, steps: Vec<Step>, notes: &[Noted]) {
     for (step, noted) in steps.into_iter().zip(notes) {
         match step {
-            Step::Event(event) if noted.0.is_some() => {
-                events.push(event).ok().expect(rt, "memory");
+            Step::Event(event) => {
+                if noted.0.is_some() {
+                    events.push(event).ok().expect(rt, "memory");
+                } else {
+                    drop(event);
+                }
             }
             other => drop(other),
         }
@@ -322,7 +326,7 @@ fn check(rt: &impl Abort, alloc: Global, (nodes, is_lossy, seed): Draw) {
     let mut world = World::new(alloc, &schedule.config).expect(rt, "memory");
     let mut notes = Vec::new(alloc);
     step_all(rt, alloc, &schedule, &pids, &mut world, &mut notes);
-    let scene = schedule.scene(alloc, &world, &pids);
+    let scene = scene_of(alloc, &schedule, &world, &pids);
     check_answers(rt, scene, schedule.steps.as_slice());
     drop(pids);
     check_notes(rt, &world, notes.as_slice());

@@ -1,10 +1,8 @@
 //! Schedules: how the nodes of a world start, and steps.
 
-use crate::slow::Scene;
 use pg_index::IndexTable;
 use pg_node::NodeState;
 use pg_script::{Act, Script, ScriptLine, read_script};
-use pg_term::Pid;
 use pg_world::{Config, FrameStep, Step};
 use std::alloc::{AllocError, Global};
 
@@ -18,19 +16,6 @@ pub type State = NodeState<IndexTable>;
 pub struct Schedule {
     pub config: Config,
     pub steps: Vec<Step>,
-}
-
-impl Schedule {
-    /// A world of this schedule, in which the test speaks of these processes.
-    pub fn scene<'a>(&'a self, alloc: Global, world: &'a World, pids: &'a [Pid]) -> Scene<'a> {
-        let starts = self.config.starts.as_slice();
-        Scene {
-            alloc,
-            world,
-            starts,
-            pids,
-        }
-    }
 }
 
 // What a node sends comes to another, as far as there is room, which takes up to two packets of it.

@@ -4,7 +4,7 @@ mod answered;
 mod held;
 mod kept;
 
-use crate::schedules::{State, World, state_of};
+use crate::schedules::{Schedule, State, World, state_of};
 pub use answered::are_answered;
 use held::{Held, count_in};
 use kept::{LeftOut, lost_to};
@@ -66,6 +66,22 @@ pub struct Scene<'a> {
     pub starts: &'a [Start],
     /// The processes that the test speaks of.
     pub pids: &'a [Pid],
+}
+
+/// A world of a schedule, in which the test speaks of these processes.
+pub fn scene_of<'a>(
+    alloc: Global,
+    schedule: &'a Schedule,
+    world: &'a World,
+    pids: &'a [Pid],
+) -> Scene<'a> {
+    let starts = schedule.config.starts.as_slice();
+    Scene {
+        alloc,
+        world,
+        starts,
+        pids,
+    }
 }
 
 /// What the table of a node should hold.
