@@ -124,8 +124,8 @@ impl Twins {
     // Whether both take the commands that create so many groups of different names.
     fn create(&mut self, rt: &impl Abort, alloc: Global, count: u32) -> bool {
         let mut are_told = true;
-        for number in 1..=count {
-            let line = create_line(rt, alloc, number);
+        for number in 0..count {
+            let line = create_line(rt, alloc, number.saturating_add(1));
             are_told = self.tell(rt, alloc, 1, Event::Command(line.as_str())) && are_told;
             drop(line);
         }

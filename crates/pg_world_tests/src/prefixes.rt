@@ -32,7 +32,7 @@ fn check(rt: &impl Abort, alloc: Global, example: &Example<'_>) {
     let starts = schedule.config.starts.as_slice();
     let pids = first_pids(rt, alloc, starts, 2);
     let steps = schedule.steps.as_slice();
-    for len in 0..=steps.len() {
+    for len in 0..steps.len().saturating_add(1) {
         let (some, _) = steps.split_at(len);
         let is_right = is_right(alloc, &schedule, pids.as_slice(), some);
         holds(rt, is_right, "the headline after steps:", len);

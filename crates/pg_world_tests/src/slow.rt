@@ -42,7 +42,7 @@ pub fn entry_at(history: History<'_>, place: usize) -> Option<&Entry> {
 pub fn first_pids(rt: &impl Abort, alloc: Global, starts: &[Start], count: u32) -> Vec<Pid> {
     let mut pids = Vec::new(alloc);
     for start in starts {
-        for id in 1..=count {
+        for id in 1..count.saturating_add(1) {
             let node = start.name.copy().expect(rt, "memory");
             let (serial, creation) = (0, 1);
             let pid = Pid {
@@ -159,7 +159,7 @@ impl<'a> Scene<'a> {
     fn has_its_table(&self, place: usize, node: &State, name: &Term, is_free: bool) -> bool {
         let seen = lost_to(place, node);
         let applied = Some(self.world.applied(place, name));
-        for of_lost in 0..=seen {
+        for of_lost in 0..seen.saturating_add(1) {
             for is_short in [false, true] {
                 let out = LeftOut { of_lost, is_short };
                 if of_lost | seen == seen
