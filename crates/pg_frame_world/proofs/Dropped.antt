@@ -12,7 +12,7 @@ use Rattle.pg_step.specs.declared.refusal.Refusal.TheVariants.{NoSuchPlace, Node
 use Rattle.pg_step.specs.Config.{Config}
 use Rattle.pg_step.specs.LossLaws.{LosingFrameWorld}
 use Rattle.pg_node_state.specs.declared.state.NodeState.{NodeState}
-use Rattle.pg_frame_world.specs.declared.outgoing.Outgoing.{Outgoing}
+use Rattle.pg_frame_world.specs.declared.ways.Ways.{Ways}
 use Rattle.pg_frame_world.specs.declared.step.Stepped.TheVariants.{Gone}
 use Rattle.pg_machine.specs.Places.{is_pair}
 use Rattle.pg_frame_world.specs.Losing.{keep_of, losing_of, loss_refusal, told_loss, ShowsLosing, LosingComesTo}
@@ -27,7 +27,7 @@ use Rattle.pg_frame_world.proofs.Turning.{way_at}
 
 -- ---- the ways from one node are short
 
-module _ {T : Type 0} {g : Ghosts T} (nodes : List (NodeState T g)) (outs : List Outgoing) (i : ℕ) (out out2 : Outgoing) (within : i < length outs) (here : out ≡ get_or outs i out)
+module _ {T : Type 0} {g : Ghosts T} (nodes : List (NodeState T g)) (outs : List Ways) (i : ℕ) (out out2 : Ways) (within : i < length outs) (here : out ≡ get_or outs i out)
     (keep : List ℕ) (len : length (ways_of out2) ≡ length (ways_of out)) (cut : (k : ℕ) → get_or (ways_of out2) k [] ≡ take (get_or keep k 0) (get_or (ways_of out) k [])) where
   ways_here : get_or (map ways_of outs) i [] ≡ ways_of out
   ways_here = get_or-map ways_of outs i out [] within ∙ ap ways_of (sym here)

@@ -15,7 +15,8 @@ use Rattle.pg_step.specs.Step.{Action, step_take, step_act}
 use Rattle.pg_step.specs.declared.answer.Answer.{Answer}
 use Rattle.pg_step.specs.declared.command.OpId.{OpId}
 use Rattle.pg_opens.specs.Places.{whole_in, name_at as place_name}
-use Rattle.pg_sends.specs.declared.done.Done.{Done}
+use Rattle.pg_sends.specs.contracts.sends.VecTuple2UsizePacketOutgoing.TheImpl as packets
+use Rattle.pg_sends.specs.Dones.{PacketsDone}
 use Rattle.pg_node_state.specs.declared.state.fault.NodeFault.{NodeFault}
 use Rattle.pg_node_state.specs.States.{Comes}
 use Rattle.pg_sends.specs.Sendable.{AreSendable}
@@ -62,10 +63,10 @@ module _ (config : Config) (traffic traffic2 : Traffic) (w : TimedFrameWorld) (e
 
 module _ (config : Config) (traffic : Traffic) (w : TimedFrameWorld) (i : ℕ) (action : Action) (node : Seen) (shows : ShowsTraffic config traffic w) (here : slice_get traffic.nodes i ≡ Some node) where
   pub own_refused : (fault : NodeFault) (s : Timed State) (before after : ℕ → List Answer) (Shown : TimedFrameWorld → Type 0)
-      → Comes node.names (step_act (whole_in node.names) node.ports action node.state) (Err fault) s before after → ComesTo config w (Do i action) (Err fault) Shown
-  own_refused = refused_own config traffic.nodes w i action node shows.nodes here
+      → Comes {h = packets.ghosts} node.names (step_act (whole_in node.names) node.ports action node.state) (Err fault) s before after → ComesTo config w (Do i action) (Err fault) Shown
+  own_refused = refused_own config traffic.nodes w i action node shows.nodes here packets.ghosts
 
-  pub own_happened : (traffic2 : Traffic) (after : Seen) (done : Done) → traffic2.nodes ≡ slice_set traffic.nodes i after → after.names ≡ node.names → after.ports ≡ node.ports
+  pub own_happened : (traffic2 : Traffic) (after : Seen) (done : PacketsDone) → traffic2.nodes ≡ slice_set traffic.nodes i after → after.names ≡ node.names → after.ports ≡ node.ports
       → AreSendable node.names done.sends.items → ((k : ℕ) → way_at traffic2 i k ≡ way_at traffic i k ++ packets_to done.sends.items k)
       → ((x : ℕ) → x ≢ i → (k : ℕ) → way_at traffic2 x k ≡ way_at traffic x k)
       → Comes node.names (step_act (whole_in node.names) node.ports action node.state) (Ok done) after.state node.answers after.answers
@@ -96,12 +97,12 @@ module _ (config : Config) (traffic : Traffic) (w : TimedFrameWorld) (i p : ℕ)
 
     -- it is refused
     pub take_refused : (fault : NodeFault) (s : Timed State) (before after : ℕ → List Answer) (Shown : TimedFrameWorld → Type 0)
-        → Comes node.names (step_take (whole_in node.names) (place_name node.names (peer_place i p + 1)) x node.state) (Err fault) s before after
+        → Comes {h = packets.ghosts} node.names (step_take (whole_in node.names) (place_name node.names (peer_place i p + 1)) x node.state) (Err fault) s before after
         → ComesTo config w (Take i p) (Err fault) Shown
-    take_refused = taken_refused config traffic.nodes w i p shows.nodes pair node here x (drop 1 (on_the_way traffic p i)) begins
+    take_refused = taken_refused config traffic.nodes w i p shows.nodes pair node here x (drop 1 (on_the_way traffic p i)) begins packets.ghosts
 
     -- it happened
-    pub take_happened : (traffic2 : Traffic) (after : Seen) (done : Done) → traffic2.nodes ≡ slice_set traffic.nodes i after → after.names ≡ node.names → after.ports ≡ node.ports
+    pub take_happened : (traffic2 : Traffic) (after : Seen) (done : PacketsDone) → traffic2.nodes ≡ slice_set traffic.nodes i after → after.names ≡ node.names → after.ports ≡ node.ports
         → AreSendable node.names done.sends.items → ((k : ℕ) → way_at traffic2 i k ≡ way_at traffic i k ++ packets_to done.sends.items k)
         → way_at traffic2 p (peer_place p i) ≡ drop 1 (way_at traffic p (peer_place p i))
         → ((a k : ℕ) → a ≢ i → ((a ≡ p) × (k ≡ peer_place p i) → ⊥) → way_at traffic2 a k ≡ way_at traffic a k)

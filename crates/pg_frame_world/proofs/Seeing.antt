@@ -19,14 +19,16 @@ use Rattle.pg_step.specs.State.{State}
 use Rattle.pg_step.specs.Step.{CLOCK_LIMIT, TimedTurn, at_clock, timed}
 use Rattle.pg_step.specs.StepLaws.{is_full}
 use Rattle.pg_opens.specs.Places.{name_at as place_name}
+use Rattle.pg_sends.specs.contracts.sends.VecTuple2UsizePacketOutgoing.TheImpl as packets
 use Rattle.pg_sends.specs.declared.done.Done.{Done}
+use Rattle.pg_sends.specs.declared.outgoing.Outgoing.{Ghosts as Listing}
 use Rattle.pg_node_state.specs.declared.state.fault.NodeFault.{NodeFault}
 use Rattle.pg_node_state.specs.declared.state.fault.NodeFault.TheVariants.{Refused, OutOfMemory}
 use Rattle.pg_node_state.specs.declared.state.fault.NodeFault.TheVariants.{Message as BadMessage, TooLong, Damaged}
 use Rattle.pg_node_state.specs.declared.state.NodeState.{NodeState}
 use Rattle.pg_node_state.specs.States.{names_of as names_of_state, Comes, Happens, step_see_loss}
 use Rattle.pg_frame_world.specs.declared.effect.Effect.{Effect}
-use Rattle.pg_frame_world.specs.declared.outgoing.Outgoing.{Outgoing}
+use Rattle.pg_frame_world.specs.declared.ways.Ways.{Ways}
 use Rattle.pg_frame_world.specs.declared.step.Stepped.TheVariants.{Happened}
 use Rattle.pg_frame_world.specs.Effects.{no_effect}
 use Rattle.pg_frame_world.specs.Losing.{SeenAreLost, notices, losing_of, is_cut_off}
@@ -43,7 +45,7 @@ use Rattle.pg_frame_world.proofs.Turning.{pair_is, pair_turned}
 use Rattle.pg_frame_world.proofs.Viewing.{whole_node}
 
 -- a node that has made a turn leaves the world whole
-pub seen_whole : {T : Type 0} {g : Ghosts T} (nodes : List (NodeState T g)) (outs : List Outgoing) (i : ℕ) (state after : NodeState T g) (whole : IsWhole (traffic_in nodes outs))
+pub seen_whole : {T : Type 0} {g : Ghosts T} (nodes : List (NodeState T g)) (outs : List Ways) (i : ℕ) (state after : NodeState T g) (whole : IsWhole (traffic_in nodes outs))
     → slice_get (map seen_of nodes) i ≡ Some (seen_of state) → names_of_state after ≡ names_of_state state → IsWhole (traffic_in (slice_set nodes i after) outs)
 seen_whole nodes outs i state after whole here names = subst IsWhole (λ j. record { nodes = sym (map-set seen_of nodes i after) j; ways = map ways_of outs })
     (whole_node (traffic_in nodes outs) whole i (seen_of state) (seen_of after) here names)
@@ -121,17 +123,17 @@ module _ (config : Config) (nodes : List Seen) (w : TimedFrameWorld) (i p : ℕ)
         alone = (λ j. map sent_packet (none_coming j) ++ cond (turned j && (gone j && not (unseen j))) (last_notice (w.node p) ∷ []) [])
 
     module _ (Shown : LosingFrameWorld → Type 0) where
-      pub sight_refused : (fault : NodeFault) (s : Timed State) (before after : ℕ → List Answer) → Shown u
-          → Comes node.names (step_see_loss (place_name node.names (peer_place i p + 1)) last node.state) (Err fault) s before after
+      pub sight_refused : {S : Type 0} (listing : Listing S) (fault : NodeFault) (s : Timed State) (before after : ℕ → List Answer) → Shown u
+          → Comes {S = S} {h = listing} node.names (step_see_loss (place_name node.names (peer_place i p + 1)) last node.state) (Err fault) s before after
           → LosingComesTo config u (told_sight config u i p) (Err fault) Shown
-      sight_refused fault s before after still comes = go (nat_le (sight_clock w i p) CLOCK_LIMIT) refl fault comes
+      sight_refused {S} listing fault s before after still comes = go (nat_le (sight_clock w i p) CLOCK_LIMIT) refl fault comes
         where
           go : (fits : Bool) → nat_le (sight_clock w i p) CLOCK_LIMIT ≡ fits → (fault : NodeFault)
-              → Comes node.names (step_see_loss (place_name node.names (peer_place i p + 1)) last node.state) (Err fault) s before after
+              → Comes {S = S} {h = listing} node.names (step_see_loss (place_name node.names (peer_place i p + 1)) last node.state) (Err fault) s before after
               → LosingComesTo config u (told_sight config u i p) (Err fault) Shown
-          go fits e fault h = by_fault fits e fault (subst (λ r. Comes node.names r (Err fault) s before after) (told fits e) h)
+          go fits e fault h = by_fault fits e fault (subst (λ r. Comes {S = S} {h = listing} node.names r (Err fault) s before after) (told fits e) h)
             where
-              by_fault : (b : Bool) → nat_le (sight_clock w i p) CLOCK_LIMIT ≡ b → (f : NodeFault) → Comes node.names (cond b (Ok turn) (Err ClockFull)) (Err f) s before after
+              by_fault : (b : Bool) → nat_le (sight_clock w i p) CLOCK_LIMIT ≡ b → (f : NodeFault) → Comes {S = S} {h = listing} node.names (cond b (Ok turn) (Err ClockFull)) (Err f) s before after
                   → LosingComesTo config u (told_sight config u i p) (Err f) Shown
               by_fault true full OutOfMemory k = still
               by_fault true full (Refused r) k = absurd k
@@ -144,7 +146,7 @@ module _ (config : Config) (nodes : List Seen) (w : TimedFrameWorld) (i p : ℕ)
               by_fault false full TooLong k = absurd (cc)
               by_fault false full Damaged k = absurd (cc)
 
-      pub sight_seen : (done : Done) (s : Timed State) (before after : ℕ → List Answer)
+      pub sight_seen : {S : Type 0} {listing : Listing S} (done : Done S listing) (s : Timed State) (before after : ℕ → List Answer)
           → (Happens node.names turn done s before after → Shown (losing_of config (sighted config w lost i p there) lost))
           → Comes node.names (step_see_loss (place_name node.names (peer_place i p + 1)) last node.state) (Ok done) s before after
           → LosingComesTo config u (told_sight config u i p) (Ok (Happened no_effect)) Shown
@@ -183,14 +185,14 @@ module _ (config : Config) (old new : View) (u : LosingFrameWorld) (i p : ℕ) (
   module _ (gone : is_lost lost p ≡ true) (drained : on_the_way old.traffic p i ≡ []) (node : Seen) (at : slice_get old.traffic.nodes i ≡ Some node)
       (last : ℕ) (clock : (w.node p).clock ≡ last) (same : lost2 ≡ lost) where
     pub packets_sight_refused : (fault : NodeFault) (s : Timed State) (before after : ℕ → List Answer) → new ≡ old
-        → Comes node.names (step_see_loss (place_name node.names (peer_place i p + 1)) last node.state) (Err fault) s before after
+        → Comes {h = packets.ghosts} node.names (step_see_loss (place_name node.names (peer_place i p + 1)) last node.state) (Err fault) s before after
         → LosingComesTo config u (told_sight config u i p) (Err fault) (ShowsLosing config new lost2)
     packets_sight_refused fault s before after is comes = subst (λ (x : LosingFrameWorld). LosingComesTo config x (told_sight config x i p) (Err fault) (ShowsLosing config new lost2)) (sym shows.is)
-        (sight_refused config old.traffic.nodes w i p lost shows.shows.traffic.nodes shows.seen pair lives gone (way_is ∙ drained) node at last clock (ShowsLosing config new lost2) fault s before after
+        (sight_refused config old.traffic.nodes w i p lost shows.shows.traffic.nodes shows.seen pair lives gone (way_is ∙ drained) node at last clock (ShowsLosing config new lost2) packets.ghosts fault s before after
         (subst (λ (l : List ℕ). ShowsLosing config new l (losing_of config w lost)) (sym same) (subst (λ (v : View). ShowsLosing config v lost (losing_of config w lost)) (sym is)
         (subst (ShowsLosing config old lost) shows.is shows))) comes)
 
-    pub packets_sight_seen : (after : Seen) (done : Done) → new.traffic.nodes ≡ slice_set old.traffic.nodes i after → after.names ≡ node.names → after.ports ≡ node.ports
+    pub packets_sight_seen : {S : Type 0} {listing : Listing S} (after : Seen) (done : Done S listing) → new.traffic.nodes ≡ slice_set old.traffic.nodes i after → after.names ≡ node.names → after.ports ≡ node.ports
         → ((x y : ℕ) → on_the_way new.traffic x y ≡ on_the_way old.traffic x y) → new.account ≡ old.account
         → Comes node.names (step_see_loss (place_name node.names (peer_place i p + 1)) last node.state) (Ok done) after.state node.answers after.answers
         → (effect : Effect) → effect ≡ no_effect → LosingComesTo config u (told_sight config u i p) (Ok (Happened effect)) (ShowsLosing config new lost2)

@@ -26,6 +26,7 @@ use Rattle.pg_step.specs.StepLaws.{place_timed}
 use Rattle.pg_step.specs.Turns.{Report, NodeTurn}
 use Rattle.pg_opens.proofs.Named.{atom_self, names_differ}
 use Rattle.pg_sends.specs.declared.done.Done.{Done}
+use Rattle.pg_sends.specs.declared.outgoing.Outgoing.{Ghosts as Listing}
 use Rattle.pg_node_state.specs.States.{Happens}
 use Rattle.pg_frame_world.specs.Effects.{sum_below, effect_of, losing_effect_in, no_effect}
 use Rattle.pg_frame_world.specs.Losing.{SeenAreLost, notices, losing_of}
@@ -245,7 +246,7 @@ module _ (config : Config) (w : TimedFrameWorld) (lost : List ℕ) (i p : ℕ) (
 
   -- ---- what is shown
 
-  module _ (nodes nodes2 : List Seen) (old new : Account) (node after : Seen) (done : Done) (shows : ShowsNodes config nodes w) (updates : ShowsUpdates old w)
+  module _ {S : Type 0} {listing : Listing S} (nodes nodes2 : List Seen) (old new : Account) (node after : Seen) (done : Done S listing) (shows : ShowsNodes config nodes w) (updates : ShowsUpdates old w)
       (here : slice_get nodes i ≡ Some node) (set : nodes2 ≡ slice_set nodes i after) (names : after.names ≡ node.names) (ports : after.ports ≡ node.ports)
       (happened : Happens node.names told_turn done after.state node.answers after.answers) (account : new ≡ old) where
     turned_so : Turned nodes nodes2 i node after told_turn done

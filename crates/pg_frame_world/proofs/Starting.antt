@@ -22,7 +22,7 @@ use Rattle.pg_opens.specs.Places.{name_at as place_name}
 use Rattle.pg_node_state.specs.declared.state.NodeState.{NodeState}
 use Rattle.pg_node_state.specs.States.{kept_by}
 use Rattle.pg_sends.specs.Sent.{stamped_of}
-use Rattle.pg_frame_world.specs.declared.outgoing.Outgoing.{Outgoing}
+use Rattle.pg_frame_world.specs.declared.ways.Ways.{Ways}
 use Rattle.pg_starts.specs.Seen.{Seen, seen_of}
 use Rattle.pg_frame_world.specs.Views.{ways_of, fresh_view, traffic_in, peer_place, on_the_way, IsWhole}
 use Rattle.pg_frame_world.specs.Worlds.{ShowsNode, TimedFrameWorld}
@@ -44,7 +44,7 @@ open_more peers (n ∷ nodes) [] node row going one = absurd going
 open_more peers (n ∷ nodes) (r ∷ rows) node row going one = (going.0, open_more peers nodes rows node row going.1 one)
 
 -- the same of the code's nodes
-pub opening_more : {T : Type 0} {g : Ghosts T} (peers : ℕ) (nodes : List (NodeState T g)) (outs : List Outgoing) (k : ℕ) (node : NodeState T g) (out : Outgoing) → k < length nodes → node ≡ get_or nodes k node
+pub opening_more : {T : Type 0} {g : Ghosts T} (peers : ℕ) (nodes : List (NodeState T g)) (outs : List Ways) (k : ℕ) (node : NodeState T g) (out : Ways) → k < length nodes → node ≡ get_or nodes k node
     → AllOpen peers (map seen_of (take k nodes)) (map ways_of outs) → AnnouncesToEach peers (seen_of node) (ways_of out) → AllOpen peers (map seen_of (take (k + 1) nodes)) (map ways_of (outs ++ out ∷ []))
 opening_more {T} {g} peers nodes outs k node out within here before one =
     let nodes_are : map seen_of (take (k + 1) nodes) ≡ map seen_of (take k nodes) ++ seen_of node ∷ [] =
@@ -194,7 +194,7 @@ all_few {T} {g} config nodes are once few i d l =
 -- ---- the code's world
 
 -- The nodes as they start, and what they send then; the slice is that of the nodes.
-module _ {T : Type 0} {g : Ghosts T} (given : Config) (nodes slice : List (NodeState T g)) (outs : List Outgoing) (same : slice ≡ nodes) (are : map seen_of nodes ≡ firsts given (length given))
+module _ {T : Type 0} {g : Ghosts T} (given : Config) (nodes slice : List (NodeState T g)) (outs : List Ways) (same : slice ≡ nodes) (are : map seen_of nodes ≡ firsts given (length given))
     (going : AllOpen (length slice - 1) (map seen_of slice) (map ways_of outs)) where
   all_open : AllOpen (length (map seen_of nodes) - 1) (map seen_of nodes) (map ways_of outs)
   all_open = subst (λ n. AllOpen (n - 1) (map seen_of nodes) (map ways_of outs)) (sym (length-map nodes seen_of))

@@ -10,14 +10,14 @@ use Rattle.pg_machine.specs.Places.{is_pair}
 use Rattle.pg_machine.specs.Clocked.{Stamped}
 use Rattle.pg_node_state.specs.declared.state.NodeState.{NodeState}
 use Rattle.pg_node_state.specs.States.{names_of}
-use Rattle.pg_frame_world.specs.declared.outgoing.Outgoing.{Outgoing}
+use Rattle.pg_frame_world.specs.declared.ways.Ways.{Ways}
 use Rattle.pg_starts.specs.Seen.{seen_of}
 use Rattle.pg_frame_world.specs.Views.{ways_of, traffic_in, IsWhole, peer_place}
 use Rattle.pg_frame_world.proofs.Peering.{place_within}
 use Rattle.pg_frame_world.proofs.Turning.{way_at, pair_is}
 use Rattle.pg_frame_world.proofs.Viewing.{read_here, seen_here, whole_row}
 
-module _ {T : Type 0} {g : Ghosts T} (nodes : List (NodeState T g)) (outs : List Outgoing) (whole : IsWhole (traffic_in nodes outs)) (i p : ℕ) (pair : is_pair (length (map seen_of nodes)) i p ≡ true) where
+module _ {T : Type 0} {g : Ghosts T} (nodes : List (NodeState T g)) (outs : List Ways) (whole : IsWhole (traffic_in nodes outs)) (i p : ℕ) (pair : is_pair (length (map seen_of nodes)) i p ≡ true) where
   pub taker_there : i < length nodes
   taker_there = let l = (pair_is (length (map seen_of nodes)) i p pair).0 in omega (arith, l, length-map nodes seen_of)
 
@@ -42,7 +42,7 @@ module _ {T : Type 0} {g : Ghosts T} (nodes : List (NodeState T g)) (outs : List
       let l = place_within i p (length nodes) taker_there peer_there apart in
       omega (arith, known, l, length-map nodes seen_of)
 
-  module _ (sender : Outgoing) (there : sender ≡ get_or outs p sender) where
+  module _ (sender : Ways) (there : sender ≡ get_or outs p sender) where
     pub sender_row : get_or (map ways_of outs) p [] ≡ ways_of sender
     sender_row = read_here ways_of outs p sender [] peer_row there
 
@@ -56,7 +56,7 @@ module _ {T : Type 0} {g : Ghosts T} (nodes : List (NodeState T g)) (outs : List
     sender_way = ap (λ (r : List (List (Stamped Message))). get_or r (peer_place p i) []) (sym sender_row)
 
     -- the first packet was taken off its way
-    module _ (passed : Outgoing) (is : ways_of passed ≡ slice_set (ways_of sender) (peer_place p i) (drop 1 (get_or (ways_of sender) (peer_place p i) []))) where
+    module _ (passed : Ways) (is : ways_of passed ≡ slice_set (ways_of sender) (peer_place p i) (drop 1 (get_or (ways_of sender) (peer_place p i) []))) where
       ways : map ways_of (slice_set outs p passed) ≡ slice_set (map ways_of outs) p (ways_of passed)
       ways = map-set ways_of outs p passed
 

@@ -30,6 +30,7 @@ use Rattle.pg_step.specs.declared.refusal.Refusal.TheVariants.{NoSuchPlace}
 use Rattle.pg_history.specs.History.{answers_by}
 use Rattle.pg_opens.specs.Places.{whole_in, name_at as place_name}
 use Rattle.pg_sends.specs.declared.done.Done.{Done}
+use Rattle.pg_sends.specs.declared.outgoing.Outgoing.{Ghosts as Listing}
 use Rattle.pg_node_state.specs.declared.state.fault.NodeFault.{NodeFault}
 use Rattle.pg_node_state.specs.declared.state.fault.NodeFault.TheVariants.{Refused, OutOfMemory}
 use Rattle.pg_node_state.specs.declared.state.fault.NodeFault.TheVariants.{Message as BadMessage, TooLong, Damaged}
@@ -89,7 +90,7 @@ pub pair_turned : (size x y : ℕ) → is_pair size x y ≡ true → is_pair siz
 pair_turned size x y e = let p = pair_is size x y e in is_pair_so size y x p.1 p.0 (λ d. p.2 (sym d))
 
 -- What an event of node i has left of the nodes: the node is another, which has made this turn, and what it did can be sent.
-pub record Turned (nodes nodes2 : List Seen) (i : ℕ) (node after : Seen) (t : TimedTurn) (done : Done) : Type 0 where
+pub record Turned {S : Type 0} {listing : Listing S} (nodes nodes2 : List Seen) (i : ℕ) (node after : Seen) (t : TimedTurn) (done : Done S listing) : Type 0 where
   pub here : slice_get nodes i ≡ Some node
   pub set : nodes2 ≡ slice_set nodes i after
   pub names : after.names ≡ node.names
@@ -109,7 +110,7 @@ pub record Left (config : Config) (nodes2 : List Seen) (e : Event Action) (sends
   pub ways : Passes config e sends w v
   pub records : Records w v (node_of e) asked began
 
-module _ (config : Config) (nodes nodes2 : List Seen) (w : TimedFrameWorld) (e : Event Action) (node after : Seen) (t : TimedTurn) (done : Done)
+module _ {S : Type 0} {listing : Listing S} (config : Config) (nodes nodes2 : List Seen) (w : TimedFrameWorld) (e : Event Action) (node after : Seen) (t : TimedTurn) (done : Done S listing)
     (shows : ShowsNodes config nodes w) (turned : Turned nodes nodes2 (node_of e) node after t done) where
   shown : ShowsNode config w (node_of e) node
   shown = shows.each (node_of e) node turned.here
@@ -163,18 +164,18 @@ module _ (config : Config) (nodes nodes2 : List Seen) (w : TimedFrameWorld) (e :
       nowhere = nowhere;
     }
 
-  module _ (can : AreSendable node.names done.sends.items) where
+  module _ (can : AreSendable node.names (listing.listed done.sends)) where
     -- what the turn sends is what was put on the ways
-    sends_are : sends_in (all_of (nodes_at config (node_of e))) done.sends.items ≡ t.sends
-    sends_are = subst (λ ns. sends_in ns done.sends.items ≡ t.sends) shown.names turned.happened.told.sends
+    sends_are : sends_in (all_of (nodes_at config (node_of e))) (listing.listed done.sends) ≡ t.sends
+    sends_are = subst (λ ns. sends_in ns (listing.listed done.sends) ≡ t.sends) shown.names turned.happened.told.sends
 
-    fits : AreSendable (all_of (nodes_at config (node_of e))) done.sends.items
-    fits = subst (λ ns. AreSendable ns done.sends.items) shown.names can
+    fits : AreSendable (all_of (nodes_at config (node_of e))) (listing.listed done.sends)
+    fits = subst (λ ns. AreSendable ns (listing.listed done.sends)) shown.names can
 
-    sends_there : (y : ℕ) → y < length config → y ≢ node_of e → turn.sends y ≡ packets_to done.sends.items (peer_place (node_of e) y)
+    sends_there : (y : ℕ) → y < length config → y ≢ node_of e → turn.sends y ≡ packets_to (listing.listed done.sends) (peer_place (node_of e) y)
     sends_there y l n = ap (λ b. cond b (t.sends (name_at config y)) []) (lt-ltb y (length config) l)
         ∙ (ap (λ (f : Node → List (Stamped Message)). f (name_at config y)) (sym sends_are)
-        ∙ sent_to config (node_of e) within shows.apart done.sends.items y fits.each l n)
+        ∙ sent_to config (node_of e) within shows.apart (listing.listed done.sends) y fits.each l n)
 
     sends_nowhere : (y : ℕ) → is_pair (length config) (node_of e) y ≡ false → turn.sends y ≡ []
     sends_nowhere y none = go (nat_lt y (length config)) (ltb-true y (length config)) (cases_eq y (node_of e))
@@ -182,37 +183,37 @@ module _ (config : Config) (nodes nodes2 : List Seen) (w : TimedFrameWorld) (e :
         go : (b : Bool) → (b ≡ true → y < length config) → (y ≡ node_of e) ⊎ (y ≢ node_of e) → cond b (t.sends (name_at config y)) [] ≡ []
         go false h d = refl
         go true h (inl d) = ap (λ z. t.sends (name_at config z)) d ∙ (ap (λ (f : Node → List (Stamped Message)). f (name_at config (node_of e))) (sym sends_are)
-            ∙ sent_home config (node_of e) within shows.apart done.sends.items fits.each)
+            ∙ sent_home config (node_of e) within shows.apart (listing.listed done.sends) fits.each)
         go true h (inr n) = let both : true ≡ false = sym (is_pair_so (length config) (node_of e) y within (h refl) n) ∙ none in absurd (cc)
 
     -- it did what is told in short
-    counted_at : (y : ℕ) → y < length config → length (turn.sends y) ≡ count_to (node_of e) done.sends.items y
+    counted_at : (y : ℕ) → y < length config → length (turn.sends y) ≡ count_to (node_of e) (listing.listed done.sends) y
     counted_at y l = go (cases_eq y (node_of e))
       where
         nothing_here : turn.sends (node_of e) ≡ []
         nothing_here = sends_nowhere (node_of e) (no_pair (length config) (node_of e))
 
-        go : (y ≡ node_of e) ⊎ (y ≢ node_of e) → length (turn.sends y) ≡ count_to (node_of e) done.sends.items y
-        go (inl d) = ap (λ k. length (turn.sends k)) d ∙ (ap length nothing_here ∙ sym (ap (λ b. cond b 0 (length (packets_to done.sends.items (peer_place (node_of e) y)))) (eq-eqb y (node_of e) d)))
-        go (inr n) = ap length (sends_there y l n) ∙ sym (ap (λ b. cond b 0 (length (packets_to done.sends.items (peer_place (node_of e) y)))) (ne_eqb y (node_of e) n))
+        go : (y ≡ node_of e) ⊎ (y ≢ node_of e) → length (turn.sends y) ≡ count_to (node_of e) (listing.listed done.sends) y
+        go (inl d) = ap (λ k. length (turn.sends k)) d ∙ (ap length nothing_here ∙ sym (ap (λ b. cond b 0 (length (packets_to (listing.listed done.sends) (peer_place (node_of e) y)))) (eq-eqb y (node_of e) d)))
+        go (inr n) = ap length (sends_there y l n) ∙ sym (ap (λ b. cond b 0 (length (packets_to (listing.listed done.sends) (peer_place (node_of e) y)))) (ne_eqb y (node_of e) n))
 
-    counted : sum_below (length config) (λ y. length (turn.sends y)) ≡ length done.sends.items
-    counted = sum_same (length config) (λ y. length (turn.sends y)) (count_to (node_of e) done.sends.items) counted_at
-        ∙ count_all (node_of e) (length config) within (all_of (nodes_at config (node_of e))) (known config (node_of e) within) done.sends.items fits.each
+    counted : sum_below (length config) (λ y. length (turn.sends y)) ≡ length (listing.listed done.sends)
+    counted = sum_same (length config) (λ y. length (turn.sends y)) (count_to (node_of e) (listing.listed done.sends)) counted_at
+        ∙ count_all (node_of e) (length config) within (all_of (nodes_at config (node_of e))) (known config (node_of e) within) (listing.listed done.sends) fits.each
 
     pub did : effect_of (length config) turn ≡ effect_by done
     did = λ j. record { sent = counted j; began = op_of (sym turned.happened.told.began j); odd = sym turned.happened.told.odd j }
 
     module _ (v : TimedFrameWorld) (changes : Changes e turn w v) where
       -- what is on the way from the node
-      own_way : (y : ℕ) → is_pair (length config) (node_of e) y ≡ true → v.wire (node_of e) y ≡ w.wire (node_of e) y ++ packets_to done.sends.items (peer_place (node_of e) y)
+      own_way : (y : ℕ) → is_pair (length config) (node_of e) y ≡ true → v.wire (node_of e) y ≡ w.wire (node_of e) y ++ packets_to (listing.listed done.sends) (peer_place (node_of e) y)
       own_way y pair = let p = pair_is (length config) (node_of e) y pair in
           changes.sent y ∙ ap (λ xs. w.wire (node_of e) y ++ xs) (sends_there y p.1 p.2)
 
       own_nowhere : (y : ℕ) → is_pair (length config) (node_of e) y ≡ false → v.wire (node_of e) y ≡ []
       own_nowhere y none = changes.sent y ∙ (λ j. shows.nowhere (node_of e) y none j ++ sends_nowhere y none j)
 
-      pub ways_after : Passes config e done.sends.items w v
+      pub ways_after : Passes config e (listing.listed done.sends) w v
       ways_after = record { own = own_way; taken = changes.taken; others = changes.ways }
 
       pub shown_after : ((x y : ℕ) → is_pair (length config) x y ≡ false → Takes e x y → ⊥) → ShowsNodes config nodes2 v
@@ -239,11 +240,11 @@ module _ (config : Config) (nodes : List Seen) (w : TimedFrameWorld) (i : ℕ) (
   own_is = ap (λ b. Some (cond b (step_act (nodes_at config i) (ports_at config i) action (w.node i)) (Err NoSuchPlace))) its_place ∙ ap Some (sym own_told)
 
   -- it is refused
-  pub own_refused : (fault : NodeFault) (s : Timed State) (before after : ℕ → List Answer) (Shown : TimedFrameWorld → Type 0)
-      → Comes node.names (step_act (whole_in node.names) node.ports action node.state) (Err fault) s before after → ComesTo config w (Do i action) (Err fault) Shown
-  own_refused fault s before after Shown comes = go (step_act (whole_in node.names) node.ports action node.state) fault own_is comes
+  pub own_refused : {S : Type 0} (listing : Listing S) (fault : NodeFault) (s : Timed State) (before after : ℕ → List Answer) (Shown : TimedFrameWorld → Type 0)
+      → Comes {S = S} {h = listing} node.names (step_act (whole_in node.names) node.ports action node.state) (Err fault) s before after → ComesTo config w (Do i action) (Err fault) Shown
+  own_refused {S} listing fault s before after Shown comes = go (step_act (whole_in node.names) node.ports action node.state) fault own_is comes
     where
-      go : (r : Result TimedTurn Refusal) (fault : NodeFault) → told_event config w (Do i action) ≡ Some r → Comes node.names r (Err fault) s before after → ComesTo config w (Do i action) (Err fault) Shown
+      go : (r : Result TimedTurn Refusal) (fault : NodeFault) → told_event config w (Do i action) ≡ Some r → Comes {S = S} {h = listing} node.names r (Err fault) s before after → ComesTo config w (Do i action) (Err fault) Shown
       go (Ok t) OutOfMemory is h = tt
       go (Ok t) (Refused refusal) is h = absurd h
       go (Ok t) (BadMessage fault) is h = absurd h
@@ -255,10 +256,10 @@ module _ (config : Config) (nodes : List Seen) (w : TimedFrameWorld) (i : ℕ) (
       go (Err refusal) TooLong is h = absurd (cc)
       go (Err refusal) Damaged is h = absurd (cc)
 
-  module _ (nodes2 : List Seen) (after : Seen) (done : Done) (set : nodes2 ≡ slice_set nodes i after) (names : after.names ≡ node.names) (ports : after.ports ≡ node.ports)
-      (fits : AreSendable node.names done.sends.items) where
+  module _ {S : Type 0} {listing : Listing S} (nodes2 : List Seen) (after : Seen) (done : Done S listing) (set : nodes2 ≡ slice_set nodes i after) (names : after.names ≡ node.names) (ports : after.ports ≡ node.ports)
+      (fits : AreSendable node.names (listing.listed done.sends)) where
     own_so : (t : TimedTurn) → step_act (whole_in node.names) node.ports action node.state ≡ Ok t → Happens node.names t done after.state node.answers after.answers
-        → ComesTo config w (Do i action) (Ok (HasHappened (effect_by done))) (Left config nodes2 (Do i action) done.sends.items None done.began w)
+        → ComesTo config w (Do i action) (Ok (HasHappened (effect_by done))) (Left config nodes2 (Do i action) (listing.listed done.sends) None done.began w)
     own_so t is happened =
         let turn = place_timed config t in
         let v = perform (without_input w (Do i action)) i turn in
@@ -282,11 +283,11 @@ module _ (config : Config) (nodes : List Seen) (w : TimedFrameWorld) (i : ℕ) (
 
     -- it happened
     pub own_left : Comes node.names (step_act (whole_in node.names) node.ports action node.state) (Ok done) after.state node.answers after.answers
-        → ComesTo config w (Do i action) (Ok (HasHappened (effect_by done))) (Left config nodes2 (Do i action) done.sends.items None done.began w)
+        → ComesTo config w (Do i action) (Ok (HasHappened (effect_by done))) (Left config nodes2 (Do i action) (listing.listed done.sends) None done.began w)
     own_left comes = go (step_act (whole_in node.names) node.ports action node.state) refl comes
       where
         go : (r : Result TimedTurn Refusal) → step_act (whole_in node.names) node.ports action node.state ≡ r
-            → Comes node.names r (Ok done) after.state node.answers after.answers → ComesTo config w (Do i action) (Ok (HasHappened (effect_by done))) (Left config nodes2 (Do i action) done.sends.items None done.began w)
+            → Comes node.names r (Ok done) after.state node.answers after.answers → ComesTo config w (Do i action) (Ok (HasHappened (effect_by done))) (Left config nodes2 (Do i action) (listing.listed done.sends) None done.began w)
         go (Ok t) is h = own_so t is h
         go (Err refusal) is h = absurd (cc)
 
@@ -322,12 +323,12 @@ module _ (config : Config) (nodes : List Seen) (w : TimedFrameWorld) (i p : ℕ)
     take_is = take_told ∙ (ap (told_of_first (nodes_at config i) (name_at config p) (w.node i)) begins ∙ ap Some (sym taken_told))
 
     -- it is refused
-    pub taken_refused : (fault : NodeFault) (s : Timed State) (before after : ℕ → List Answer) (Shown : TimedFrameWorld → Type 0)
-        → Comes node.names (step_take (whole_in node.names) (place_name node.names (peer_place i p + 1)) x node.state) (Err fault) s before after
+    pub taken_refused : {S : Type 0} (listing : Listing S) (fault : NodeFault) (s : Timed State) (before after : ℕ → List Answer) (Shown : TimedFrameWorld → Type 0)
+        → Comes {S = S} {h = listing} node.names (step_take (whole_in node.names) (place_name node.names (peer_place i p + 1)) x node.state) (Err fault) s before after
         → ComesTo config w (Take i p) (Err fault) Shown
-    taken_refused fault s before after Shown comes = go (step_take (whole_in node.names) (place_name node.names (peer_place i p + 1)) x node.state) fault take_is comes
+    taken_refused {S} listing fault s before after Shown comes = go (step_take (whole_in node.names) (place_name node.names (peer_place i p + 1)) x node.state) fault take_is comes
       where
-        go : (r : Result TimedTurn Refusal) (fault : NodeFault) → told_event config w (Take i p) ≡ Some r → Comes node.names r (Err fault) s before after → ComesTo config w (Take i p) (Err fault) Shown
+        go : (r : Result TimedTurn Refusal) (fault : NodeFault) → told_event config w (Take i p) ≡ Some r → Comes {S = S} {h = listing} node.names r (Err fault) s before after → ComesTo config w (Take i p) (Err fault) Shown
         go (Ok t) OutOfMemory is h = tt
         go (Ok t) (Refused refusal) is h = absurd h
         go (Ok t) (BadMessage fault) is h = absurd h
@@ -339,10 +340,10 @@ module _ (config : Config) (nodes : List Seen) (w : TimedFrameWorld) (i p : ℕ)
         go (Err refusal) TooLong is h = absurd (cc)
         go (Err refusal) Damaged is h = absurd (cc)
 
-    module _ (nodes2 : List Seen) (after : Seen) (done : Done) (set : nodes2 ≡ slice_set nodes i after) (names : after.names ≡ node.names) (ports : after.ports ≡ node.ports)
-        (fits : AreSendable node.names done.sends.items) where
+    module _ {S : Type 0} {listing : Listing S} (nodes2 : List Seen) (after : Seen) (done : Done S listing) (set : nodes2 ≡ slice_set nodes i after) (names : after.names ≡ node.names) (ports : after.ports ≡ node.ports)
+        (fits : AreSendable node.names (listing.listed done.sends)) where
       take_so : (t : TimedTurn) → step_take (whole_in node.names) (place_name node.names (peer_place i p + 1)) x node.state ≡ Ok t
-          → Happens node.names t done after.state node.answers after.answers → ComesTo config w (Take i p) (Ok (HasHappened (effect_by done))) (Left config nodes2 (Take i p) done.sends.items (update_asked_by x.packet) done.began w)
+          → Happens node.names t done after.state node.answers after.answers → ComesTo config w (Take i p) (Ok (HasHappened (effect_by done))) (Left config nodes2 (Take i p) (listing.listed done.sends) (update_asked_by x.packet) done.began w)
       take_so t is happened =
           let turn = place_timed config t in
           let v = perform (without_input {C = Action} w (Take i p)) i turn in
@@ -370,10 +371,10 @@ module _ (config : Config) (nodes : List Seen) (w : TimedFrameWorld) (i p : ℕ)
 
       -- it happened
       pub take_left : Comes node.names (step_take (whole_in node.names) (place_name node.names (peer_place i p + 1)) x node.state) (Ok done) after.state node.answers after.answers
-          → ComesTo config w (Take i p) (Ok (HasHappened (effect_by done))) (Left config nodes2 (Take i p) done.sends.items (update_asked_by x.packet) done.began w)
+          → ComesTo config w (Take i p) (Ok (HasHappened (effect_by done))) (Left config nodes2 (Take i p) (listing.listed done.sends) (update_asked_by x.packet) done.began w)
       take_left comes = go (step_take (whole_in node.names) (place_name node.names (peer_place i p + 1)) x node.state) refl comes
         where
           go : (r : Result TimedTurn Refusal) → step_take (whole_in node.names) (place_name node.names (peer_place i p + 1)) x node.state ≡ r
-              → Comes node.names r (Ok done) after.state node.answers after.answers → ComesTo config w (Take i p) (Ok (HasHappened (effect_by done))) (Left config nodes2 (Take i p) done.sends.items (update_asked_by x.packet) done.began w)
+              → Comes node.names r (Ok done) after.state node.answers after.answers → ComesTo config w (Take i p) (Ok (HasHappened (effect_by done))) (Left config nodes2 (Take i p) (listing.listed done.sends) (update_asked_by x.packet) done.began w)
           go (Ok t) is h = take_so t is h
           go (Err refusal) is h = absurd (cc)

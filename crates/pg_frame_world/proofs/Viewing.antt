@@ -16,7 +16,7 @@ use Rattle.pg_node_state.specs.declared.state.NodeState.{NodeState}
 use Rattle.pg_node_state.specs.Issued.{ports_of}
 use Rattle.pg_sends.specs.Sendable.{AreSendable}
 use Rattle.pg_node_state.specs.States.{names_of, state_of, answers_of}
-use Rattle.pg_frame_world.specs.declared.outgoing.Outgoing.{Outgoing}
+use Rattle.pg_frame_world.specs.declared.ways.Ways.{Ways}
 use Rattle.pg_starts.specs.Seen.{Seen, seen_of}
 use Rattle.pg_frame_world.specs.Views.{ways_of, packets_to, FitWays, Traffic, traffic_in, IsWhole}
 use Rattle.pg_frame_world.proofs.Turning.{way_at, set_here, set_other}
@@ -65,17 +65,17 @@ module _ (traffic : Traffic) (whole : IsWhole traffic) (i : ℕ) where
 
 -- ---- the code's world
 
-module _ {T : Type 0} {g : Ghosts T} (nodes : List (NodeState T g)) (outs : List Outgoing) where
+module _ {T : Type 0} {g : Ghosts T} (nodes : List (NodeState T g)) (outs : List Ways) where
   -- a node that is as it was
   pub seen_same : (old new : NodeState T g) → names_of new ≡ names_of old → ports_of new ≡ ports_of old → state_of new ≡ state_of old → answers_of new ≡ answers_of old → seen_of new ≡ seen_of old
   seen_same old new names ports state answers = λ j. record { names = names j; ports = ports j; state = state j; answers = answers j }
 
   -- room was made for what is sent
-  pub view_room : (i : ℕ) (old new : Outgoing) → i < length outs → old ≡ get_or outs i old → ways_of new ≡ ways_of old → traffic_in nodes (slice_set outs i new) ≡ traffic_in nodes outs
+  pub view_room : (i : ℕ) (old new : Ways) → i < length outs → old ≡ get_or outs i old → ways_of new ≡ ways_of old → traffic_in nodes (slice_set outs i new) ≡ traffic_in nodes outs
   view_room i old new within here same = ap (λ (rows : List (List (List (Stamped Message)))). record { nodes = map seen_of nodes; ways = rows }) (map_same ways_of outs i old new within here same)
 
   -- and the node has refused the event
-  pub view_refused : (i : ℕ) (old new : Outgoing) (state after : NodeState T g) → i < length outs → old ≡ get_or outs i old → ways_of new ≡ ways_of old
+  pub view_refused : (i : ℕ) (old new : Ways) (state after : NodeState T g) → i < length outs → old ≡ get_or outs i old → ways_of new ≡ ways_of old
       → i < length nodes → state ≡ get_or nodes i state → seen_of after ≡ seen_of state → traffic_in (slice_set nodes i after) (slice_set outs i new) ≡ traffic_in nodes outs
   view_refused i old new state after within here same inside there seen =
       ap (λ (seens : List Seen). record { nodes = seens; ways = map ways_of (slice_set outs i new) }) (map_same seen_of nodes i state after inside there seen)
@@ -88,17 +88,17 @@ module _ {T : Type 0} {g : Ghosts T} (nodes : List (NodeState T g)) (outs : List
     pub seen_here : slice_get (map seen_of nodes) i ≡ Some (seen_of state)
     seen_here = slice_get_read (map seen_of nodes) (length nodes) i (seen_of state) (sym (length-map nodes seen_of)) within (sym (read_here seen_of nodes i state (seen_of state) within here))
 
-    pub peers_are : (out : Outgoing) → out ≡ get_or outs i out → length (ways_of out) + 1 ≡ length (names_of state)
+    pub peers_are : (out : Ways) → out ≡ get_or outs i out → length (ways_of out) + 1 ≡ length (names_of state)
     peers_are out there =
         let l : i < length outs = omega (arith, within, rows_are) in
         ap (λ (row : List (List (Stamped Message))). length row + 1) (sym (read_here ways_of outs i out [] l there))
         ∙ (whole.others i (omega (arith, within, length-map nodes seen_of)) ∙ sym (whole.known i (seen_of state) seen_here))
 
-    pub fit_ways : (out : Outgoing) (sends : List (ℕ × Packet)) → out ≡ get_or outs i out → AreSendable (names_of state) sends → FitWays (length (ways_of out)) sends
+    pub fit_ways : (out : Ways) (sends : List (ℕ × Packet)) → out ≡ get_or outs i out → AreSendable (names_of state) sends → FitWays (length (ways_of out)) sends
     fit_ways out sends there fits = (names_of state, peers_are out there, fits)
 
     -- the node made a turn, and what it sends was put on its ways
-    module _ (after : NodeState T g) (out out2 : Outgoing) (sends : List (ℕ × Packet)) (names : names_of after ≡ names_of state) (there : out ≡ get_or outs i out)
+    module _ (after : NodeState T g) (out out2 : Ways) (sends : List (ℕ × Packet)) (names : names_of after ≡ names_of state) (there : out ≡ get_or outs i out)
         (len : length (ways_of out2) ≡ length (ways_of out)) (sent : (k : ℕ) → get_or (ways_of out2) k [] ≡ get_or (ways_of out) k [] ++ packets_to sends k) where
       abbrev pub sent_view : Traffic
       sent_view = traffic_in (slice_set nodes i after) (slice_set outs i out2)
@@ -137,7 +137,7 @@ module _ {T : Type 0} {g : Ghosts T} (nodes : List (NodeState T g)) (outs : List
           ∙ ap (λ (row : List (List (Stamped Message))). get_or row k []) (get_or-set_other (map ways_of outs) i x (ways_of out2) [] n)
 
 -- the same behind room that was made
-module _ {T : Type 0} {g : Ghosts T} (nodes : List (NodeState T g)) (outs outs1 : List Outgoing) (same : traffic_in nodes outs1 ≡ traffic_in nodes outs) where
+module _ {T : Type 0} {g : Ghosts T} (nodes : List (NodeState T g)) (outs outs1 : List Ways) (same : traffic_in nodes outs1 ≡ traffic_in nodes outs) where
   pub whole_as : IsWhole (traffic_in nodes outs) → IsWhole (traffic_in nodes outs1)
   whole_as whole = subst IsWhole (sym same) whole
 

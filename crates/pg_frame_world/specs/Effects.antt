@@ -10,6 +10,7 @@ use Rattle.pg_step.specs.LossLaws.{LosingFrameWorld}
 use Rattle.pg_step.specs.Step.{Action}
 use Rattle.pg_step.specs.Turns.{Report}
 use Rattle.pg_sends.specs.declared.done.Done.{Done}
+use Rattle.pg_sends.specs.declared.outgoing.Outgoing.{Ghosts as Listing}
 use Rattle.pg_frame_world.specs.declared.effect.Effect.{Effect}
 
 -- the sum of what is counted at each place below
@@ -41,8 +42,8 @@ losing_effect_in config u (Lose i keep) = None
 
 -- ---- what was done, in short
 
-abbrev pub effect_by : Done → Effect
-effect_by done = record { sent = length done.sends.items; began = op_of done.began; odd = done.odd }
+abbrev pub effect_by : {S : Type 0} {listing : Listing S} → Done S listing → Effect
+effect_by {S} {listing} done = record { sent = length (listing.listed done.sends); began = op_of done.began; odd = done.odd }
 
 abbrev pub no_effect : Effect
 no_effect = record { sent = 0; began = None; odd = None }

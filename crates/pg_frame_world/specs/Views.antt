@@ -11,7 +11,7 @@ use Rattle.pg_node_state.specs.declared.state.NodeState.{NodeState}
 use Rattle.pg_sends.specs.Sendable.{AreSendable}
 use Rattle.pg_sends.specs.Sent.{stamped_of}
 use Rattle.pg_starts.specs.Seen.{Seen, seen_of}
-use Rattle.pg_frame_world.specs.declared.outgoing.Outgoing.{Outgoing}
+use Rattle.pg_frame_world.specs.declared.ways.Ways.{Ways}
 use Rattle.pg_frame_world.specs.declared.way.Way.{Way}
 use Rattle.pg_account.specs.Histories.{Account, no_account}
 
@@ -26,11 +26,11 @@ abbrev pub HasWayRoom : Way → Type 0
 HasWayRoom way = deque_len way.packets < deque_capacity way.packets
 
 -- the packets on the way to each peer, by the places of the peers
-abbrev pub ways_of : Outgoing → List (List (Stamped Message))
+abbrev pub ways_of : Ways → List (List (Stamped Message))
 ways_of outgoing = map packets_of outgoing.ways.items
 
 -- one more packet to each peer needs no memory
-abbrev pub HaveWayRoom : Outgoing → Type 0
+abbrev pub HaveWayRoom : Ways → Type 0
 HaveWayRoom outgoing = (place : ℕ) (way : Way) → slice_get outgoing.ways.items place ≡ Some way → HasWayRoom way
 
 -- the first of some packets
@@ -59,7 +59,7 @@ pub record Traffic : Type 0 where
   pub nodes : List Seen
   pub ways : List (List (List (Stamped Message)))
 
-abbrev pub traffic_in : {T : Type 0} {g : Ghosts T} → List (NodeState T g) → List Outgoing → Traffic
+abbrev pub traffic_in : {T : Type 0} {g : Ghosts T} → List (NodeState T g) → List Ways → Traffic
 traffic_in nodes outgoing = record { nodes = map seen_of nodes; ways = map ways_of outgoing }
 
 -- a world as it is seen: its nodes and what is on the way, and what it has kept of its updates

@@ -2,7 +2,7 @@ ghost use Rattle.std.specs.Prelude.{◌≡◌};
 ghost use Rattle.pg_frame_world.specs.Effects.{effect_by, no_effect, op_of};
 
 use pg_group::Update;
-use pg_node_state::Done;
+use pg_node_state::{Done, Outgoing};
 use pg_step::{Odd, OpId};
 
 /// What an event did beside its change of the node that made it.
@@ -20,11 +20,11 @@ impl Effect {
     /// What was done, without the packets and without the update.
     ///
     /// Cost: no memory.
-    pub fn of(done: &Done) -> Effect
+    pub fn of<S: Outgoing>(done: &Done<S>) -> Effect
         ensures { result ≡ effect_by done.now }
     {
         Effect {
-            sent: done.sends.len(),
+            sent: done.sends.count(),
             began: op_of(&done.began),
             odd: done.odd,
         }

@@ -9,11 +9,11 @@ mod frame_world;
 mod frames;
 mod laws;
 mod message;
-mod outgoing;
 mod pending;
 mod starts;
 mod step;
 mod way;
+mod ways;
 mod world;
 
 pub use begun::ready;

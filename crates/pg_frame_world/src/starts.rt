@@ -13,7 +13,7 @@ ghost use Rattle.pg_frame_world.specs.Openings.{TellsNames, CantOpen, SomeCantOp
 ghost use Rattle.pg_frame_world.specs.Starts.{TellsFew, AnnouncesToEach, AllOpen};
 ghost use Rattle.pg_frame_world.specs.Views.{ways_of};
 
-use crate::outgoing::Outgoing;
+use crate::ways::Ways;
 use pg_config::WorldFault;
 use pg_group::GroupTable;
 use pg_message::Packet;
@@ -29,7 +29,7 @@ use std::alloc::{AllocError, Global};
 pub(crate) fn openings<T: GroupTable + Drop>(
     alloc: Global,
     nodes: &[NodeState<T>],
-) -> Result<Vec<Outgoing>, WorldFault>
+) -> Result<Vec<Ways>, WorldFault>
     requires few { All (λ node. TellsFew (kept_by node).table) nodes.now }
     requires named { All (λ node. TellsNames (kept_by node).table) nodes.now }
     ensures open { IfOk result (λ outgoing. AllOpen (length nodes.now - 1) (map seen_of nodes.now) (map ways_of outgoing.items)) }
@@ -52,7 +52,7 @@ fn opening<T: GroupTable + Drop>(
     alloc: Global,
     node: &NodeState<T>,
     peers: usize,
-) -> Result<Outgoing, WorldFault>
+) -> Result<Ways, WorldFault>
     requires few { TellsFew (kept_by node.now).table }
     requires named { TellsNames (kept_by node.now).table }
     ensures open { IfOk result (λ outgoing. AnnouncesToEach peers (seen_of node.now) (ways_of outgoing)) }
@@ -71,7 +71,7 @@ fn opening<T: GroupTable + Drop>(
 /// A packet that can be sent is on the way to each of so many peers.
 ///
 /// Errors: `TooLong`, where it takes more than a frame; `OutOfMemory`.
-fn opened(alloc: Global, peers: usize, packet: &Packet) -> Result<Outgoing, WorldFault>
+fn opened(alloc: Global, peers: usize, packet: &Packet) -> Result<Ways, WorldFault>
     requires short { IsShort (2 ^ 32) packet.now.message }
     requires named { is_sayable packet.now.message ≡ true }
     requires stamp { packet.now.stamp ≤ MAX_STAMP }
@@ -80,7 +80,7 @@ fn opened(alloc: Global, peers: usize, packet: &Packet) -> Result<Outgoing, Worl
     ensures fault { IfErr result (CantSend packet.now) }
 {
     match packet_len(packet) {
-        Ok(_) => Ok(Outgoing::opened(alloc, peers, packet)?),
+        Ok(_) => Ok(Ways::opened(alloc, peers, packet)?),
         Err(_) => Err(WorldFault::TooLong),
     }
 }

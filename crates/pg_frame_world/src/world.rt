@@ -11,8 +11,8 @@ mod losing;
 mod pending;
 
 use crate::effect::Effect;
-use crate::outgoing::Outgoing;
 use crate::step::{FrameStep, Stepped};
+use crate::ways::Ways;
 use pg_account::{Histories, Losses};
 use pg_group::GroupTable;
 use pg_message::Packet;
@@ -26,7 +26,7 @@ use std::collections::VecDeque;
 pub(crate) struct FrameNodes<T: GroupTable> {
     pub(crate) nodes: Vec<NodeState<T>>,
     // What is on the way from each of them.
-    outgoing: Vec<Outgoing>,
+    outgoing: Vec<Ways>,
     pub(crate) histories: Histories,
     pub(crate) losses: Losses,
     ghost whole: { IsWhole (traffic_in nodes.items outgoing.items) },
@@ -50,7 +50,7 @@ impl<T: GroupTable + Drop> FrameNodes<T> {
     pub(crate) fn of_parts(
         alloc: Global,
         nodes: Vec<NodeState<T>>,
-        outgoing: Vec<Outgoing>,
+        outgoing: Vec<Ways>,
     ) -> FrameNodes<T>
         requires { IsWhole (traffic_in nodes.items outgoing.items) }
         ensures view { view_of result ≡ fresh_view (traffic_in nodes.items outgoing.items) }

@@ -18,7 +18,7 @@ use Rattle.pg_step.specs.Nodes.{Node as Name, Nodes}
 use Rattle.pg_step.specs.State.{State}
 use Rattle.pg_step.specs.Step.{TimedTurn, step_take}
 use Rattle.pg_node.specs.declared.node.wire.Wire.{Wire}
-use Rattle.pg_sends.specs.declared.done.Done.{Done}
+use Rattle.pg_sends.specs.Dones.{FramedDone}
 use Rattle.pg_node_state.specs.declared.state.fault.NodeFault.{NodeFault}
 use Rattle.pg_node_state.specs.declared.state.fault.NodeFault.TheVariants.{Refused, OutOfMemory}
 use Rattle.pg_node_state.specs.declared.state.fault.NodeFault.TheVariants.{Message, TooLong, Damaged}
@@ -46,16 +46,25 @@ pub sent_links : (w0 w1 w2 : List Wire) (sends : List (ℕ × Packet)) (peer : �
 sent_links w0 w1 w2 sends peer old new same sent within here is place = ap (λ (f : ℕ → Link). f place) (one_link w2 peer old new passed within here is
     ∙ ap (at_link peer passed) (fun_ext (λ k. sent k ∙ ap (λ (f : ℕ → Link). with_more (f k) (frames_to sends k)) same)))
 
-abbrev as_some : Result Done NodeFault → Result (Option Done) NodeFault
+abbrev as_some : Result FramedDone NodeFault → Result (Option FramedDone) NodeFault
 as_some (Ok done) = Ok (Some done)
 as_some (Err fault) = Err fault
 
-abbrev as_none : Result (Option Packet) NodeFault → Result (Option Done) NodeFault
+abbrev as_none : Result (Option Packet) NodeFault → Result (Option FramedDone) NodeFault
 as_none (Ok packet) = Ok None
 as_none (Err fault) = Err fault
 
+-- the same was done
+pub same_done : (one other : FramedDone) → ◌≡◌ {A = Result (Option FramedDone) NodeFault} (Ok (Some one)) (Ok (Some other)) → one ≡ other
+same_done one other e = ap (λ (r : Result (Option FramedDone) NodeFault). go r) e
+  where
+    go : Result (Option FramedDone) NodeFault → FramedDone
+    go (Ok (Some done)) = done
+    go (Ok None) = one
+    go (Err fault) = one
+
 module _ (names : List Name) (s0 s : Timed State) (before after : ℕ → List Answer) where
-  pub in_room : (r : Result TimedTurn Refusal) (result : Result Done NodeFault) → Comes names r result s before after → ComesInRoom names r result s before after
+  pub in_room : (r : Result TimedTurn Refusal) (result : Result FramedDone NodeFault) → Comes names r result s before after → ComesInRoom names r result s before after
   in_room r (Ok done) h = h
   in_room r (Err OutOfMemory) h = tt
   in_room r (Err (Refused refusal)) h = h
@@ -63,7 +72,7 @@ module _ (names : List Name) (s0 s : Timed State) (before after : ℕ → List A
   in_room r (Err TooLong) h = h
   in_room r (Err Damaged) h = h
 
-  pub takes_ok : (r : Result TimedTurn Refusal) (done : Done) → ComesInRoom names r (Ok done) s before after → TakesNext names (taken_as r) (Ok (Some done)) s0 s before after
+  pub takes_ok : (r : Result TimedTurn Refusal) (done : FramedDone) → ComesInRoom names r (Ok done) s before after → TakesNext names (taken_as r) (Ok (Some done)) s0 s before after
   takes_ok (Ok t) done h = h
   takes_ok (Err refusal) done h = absurd (cc)
 
@@ -74,10 +83,10 @@ module _ (names : List Name) (s0 s : Timed State) (before after : ℕ → List A
   takes_err (Ok t) TooLong h = h
   takes_err (Ok t) Damaged h = h
   takes_err (Err refusal) OutOfMemory h = tt
-  takes_err (Err refusal) (Refused other) h = ap (λ (r : Result Done NodeFault). as_some r) h
-  takes_err (Err refusal) (Message fault) h = ap (λ (r : Result Done NodeFault). as_some r) h
-  takes_err (Err refusal) TooLong h = ap (λ (r : Result Done NodeFault). as_some r) h
-  takes_err (Err refusal) Damaged h = ap (λ (r : Result Done NodeFault). as_some r) h
+  takes_err (Err refusal) (Refused other) h = ap (λ (r : Result FramedDone NodeFault). as_some r) h
+  takes_err (Err refusal) (Message fault) h = ap (λ (r : Result FramedDone NodeFault). as_some r) h
+  takes_err (Err refusal) TooLong h = ap (λ (r : Result FramedDone NodeFault). as_some r) h
+  takes_err (Err refusal) Damaged h = ap (λ (r : Result FramedDone NodeFault). as_some r) h
 
   memory_out : (r : Result TimedTurn Refusal) → TakesNext names (taken_as r) (Err OutOfMemory) s0 s before after
   memory_out (Ok t) = tt

@@ -1,24 +1,33 @@
 -- The links where one of them changes, and where packets are sent one after the other.
-use Rattle.std.proofs.Common.{◌≡◌, ◌<◌, ◌≤◌, ◌+◌, ◌∙◌, ℕ, zero, suc, Bool, true, false, cond}
+use Rattle.std.proofs.Common.{◌≡◌, ◌<◌, ◌≤◌, ◌+◌, ◌∙◌, ℕ, zero, suc, Bool, true, false, ◌&&◌, cond}
 use Rattle.std.proofs.Common.{nat_eq, List, [], ◌∷◌, ◌++◌, get_or, length, Result, Ok, Err, IfOk}
-use Rattle.std.proofs.Common.{OnErr, refl, sym, ap, arith, subst, append_assoc, append-nil, drop}
+use Rattle.std.proofs.Common.{OnErr, refl, sym, ap, arith, subst, append_assoc, append-nil}
 use Rattle.std.specs.Prelude.{slice_set, IfErr, OnOk}
 use Rattle.std.specs.List.{AllByRecursion}
 use Rattle.std.proofs.Math.Path.{fun_ext}
-use Rattle.std.proofs.Math.Seq.{drop-cons}
 use Rattle.std.proofs.Math.Dec.{eqb-zero-suc, eqb-suc-zero, eqb-suc-suc}
-use Rattle.std.proofs.lemmas.Bool.{eqb-true, eq-eqb}
+use Rattle.std.proofs.lemmas.Bool.{eqb-true, eq-eqb, ne_eqb}
 use Rattle.std.proofs.lemmas.List.{length-set}
 use Rattle.pg_group.specs.Functions.{upd}
 use Rattle.pg_message.specs.declared.packet.Packet.{Packet}
+use Rattle.pg_multicall.specs.Places.{has_of}
+use Rattle.pg_multicall.specs.declared.places.Places.{Places}
 use Rattle.pg_writer.specs.declared.size.TheConstants.{MAX_SMALL_LEN}
-use Rattle.pg_step.specs.Nodes.{Node}
-use Rattle.pg_node.specs.declared.node.wire.Wire.{Wire}
 use Rattle.pg_writer.specs.Frames.{frame_of}
-use Rattle.pg_sends.specs.Frames.{frames_to, IsSmallFrame, AreSmallFrames}
-use Rattle.pg_sends.specs.Sendable.{FitLinks, IsSendable, Ascends, AreOnePacket}
+use Rattle.pg_node.specs.declared.node.wire.Wire.{Wire}
+use Rattle.pg_sends.specs.declared.framed.Framed.{Framed}
+use Rattle.pg_sends.specs.declared.goes.Goes.{Goes}
+use Rattle.pg_sends.specs.declared.goes.Goes.TheVariants.{Nobody, One, Marked}
+use Rattle.pg_sends.specs.Framed.{listed_of}
+use Rattle.pg_sends.specs.Frames.{frames_to, IsSmallFrame, AreSmallFrames, IsFrame}
+use Rattle.pg_sends.specs.Going.{going, goes_out}
+use Rattle.pg_sends.specs.Marked.{marks_of, sent_below}
+use Rattle.pg_sends.specs.Sendable.{FitLinks, IsSendable}
+use Rattle.pg_sends.proofs.FrameLaws.{listed_nobody, packet_framed}
+use Rattle.pg_sends.proofs.Sendables.{below_has, each_below}
+use Rattle.pg_sends.proofs.Sent.{mark_at, sent_more}
 use Rattle.pg_node.specs.Links.{Link, link_of, idle_link, part_in, links_in}
-use Rattle.pg_node.specs.Links.{at_link, room_in, with_more, HasFrameRoom, HaveFrameRoom, IsFrame, AreOneFrame}
+use Rattle.pg_node.specs.Links.{at_link, room_in, with_more, HasFrameRoom, HaveFrameRoom}
 
 -- a part where the link at a place is another
 pub part_set : {A : Type 0} (part : Wire → A) (none : A) (wires : List Wire) (k : ℕ) (wire : Wire) → k < length wires → (place : ℕ) → part_in part none (slice_set wires k wire) place ≡ cond (nat_eq k place) (part wire) (part_in part none wires place)
@@ -98,123 +107,135 @@ still_room wires k old new within here more room place l = subst (λ n. 4 + MAX_
     go true = omega (arith, its, more)
     go false = room place (omega (arith, l, same))
 
--- ---- packets that are sent
+-- ---- a frame that goes out
 
--- so far these are left to be sent
-pub record Sending (start : List Wire) (sends : List (ℕ × Packet)) (wires : List Wire) (rest : List (ℕ × Packet)) : Type 0 where
-  pub names : List Node
-  pub peers : length wires + 1 ≡ length names
+-- nothing more goes out
+pub with_none : (link : Link) → with_more link [] ≡ link
+with_none link = ap (λ (out : List ℕ). record link { outbox = out }) (append-nil link.outbox)
+
+with_both : (link : Link) (xs ys : List ℕ) → with_more (with_more link xs) ys ≡ with_more link (xs ++ ys)
+with_both link xs ys = ap (λ (out : List ℕ). record link { outbox = out }) (append_assoc link.outbox xs ys)
+
+frames_both : (xs ys : List (ℕ × Packet)) (place : ℕ) → frames_to (xs ++ ys) place ≡ frames_to xs place ++ frames_to ys place
+frames_both [] ys place = refl
+frames_both (x ∷ xs) ys place =
+    ap (λ (rest : List ℕ). cond (nat_eq x.0 place) (frame_of x.1) [] ++ rest) (frames_both xs ys place)
+    ∙ sym (append_assoc (cond (nat_eq x.0 place) (frame_of x.1) []) (frames_to xs place) (frames_to ys place))
+
+-- the frame of a packet to one peer, where that is marked
+frames_one : (frame : List ℕ) (packet : Packet) (b : Bool) (peer place : ℕ) → frame ≡ frame_of packet
+    → frames_to (cond b ((peer, packet) ∷ []) []) place ≡ cond (b && nat_eq peer place) frame []
+frames_one frame packet true peer place is = append-nil (cond (nat_eq peer place) (frame_of packet) []) ∙ sym (ap (λ (bytes : List ℕ). cond (nat_eq peer place) bytes []) is)
+frames_one frame packet false peer place is = refl
+
+pub frame_short : (frame : List ℕ) (packet : Packet) → IsFrame frame packet → length frame ≤ 4 + MAX_SMALL_LEN
+frame_short frame packet is = subst (λ (bytes : List ℕ). length bytes ≤ 4 + MAX_SMALL_LEN) (sym is.is) is.small.small
+
+-- the frame was appended at one place
+pub appended_there : (wires : List Wire) (peer : ℕ) (old new : Wire) (frame : List ℕ) → peer < length wires → old ≡ get_or wires peer old → link_of new ≡ with_more (link_of old) frame
+    → (place : ℕ) → links_in (slice_set wires peer new) place ≡ with_more (links_in wires place) (cond (nat_eq peer place) frame [])
+appended_there wires peer old new frame within here more place = part_set link_of idle_link wires peer new within place ∙ go place (nat_eq peer place) (eqb-true peer place)
+  where
+    go : (place : ℕ) (b : Bool) → (b ≡ true → peer ≡ place) → cond b (link_of new) (links_in wires place) ≡ with_more (links_in wires place) (cond b frame [])
+    go place true is = more ∙ ap (λ (l : Link). with_more l frame) (sym (part_here link_of idle_link wires peer old within here) ∙ ap (links_in wires) (is refl))
+    go place false is = sym (with_none (links_in wires place))
+
+-- and nothing of the room behind it was taken
+pub room_past : (wires : List Wire) (peer : ℕ) (new : Wire) → peer < length wires → (place : ℕ) → peer < place → room_in (slice_set wires peer new) place ≡ room_in wires place
+room_past wires peer new within place past = part_set (λ wire. wire.outbox.spare) 0 wires peer new within place
+    ∙ ap (λ b. cond b new.outbox.spare (room_in wires place)) (ne_eqb peer place unlike)
+  where
+    unlike : peer ≡ place → ⊥
+    unlike e = omega (arith, past, e)
+
+pub room_here : (wires : List Wire) (peer : ℕ) (wire : Wire) → peer < length wires → wire ≡ get_or wires peer wire → 4 + MAX_SMALL_LEN ≤ room_in wires peer → HasFrameRoom wire
+room_here wires peer wire within here room = subst (λ n. 4 + MAX_SMALL_LEN ≤ n) (part_here (λ w. w.outbox.spare) 0 wires peer wire within here) room
+
+-- what goes out to the marked peers at the places below n
+pub record IsOut (start : List Wire) (frame : List ℕ) (marked : Places) (peers n : ℕ) (wires : List Wire) : Type 0 where
   pub len : length wires ≡ length start
-  pub least : ℕ
-  pub apart : Ascends least rest
-  pub each : AllByRecursion (IsSendable names) rest
-  pub room : (place : ℕ) → least ≤ place → place < length wires → 4 + MAX_SMALL_LEN ≤ room_in wires place
-  pub sent : (place : ℕ) → with_more (links_in wires place) (frames_to rest place) ≡ with_more (links_in start place) (frames_to sends place)
-  pub small : AreSmallFrames rest → AreSmallFrames sends
+  pub room : (place : ℕ) → n ≤ place → place < length wires → 4 + MAX_SMALL_LEN ≤ room_in wires place
+  pub sent : (packet : Packet) → frame ≡ frame_of packet → (place : ℕ)
+      → links_in wires place ≡ with_more (links_in start place) (frames_to (sent_below packet.stamp packet.message (marks_of marked peers) n) place)
 
-pub all_left : (wires : List Wire) (sends : List (ℕ × Packet)) → FitLinks (length wires) sends → HaveFrameRoom wires → Sending wires sends wires sends
-all_left wires sends fit room = record {
-  names = fit.0;
-  peers = fit.1;
+pub none_yet : (start : List Wire) (frame : List ℕ) (marked : Places) (peers : ℕ) → HaveFrameRoom start → IsOut start frame marked peers 0 start
+none_yet start frame marked peers room = record {
   len = refl;
-  least = 0;
-  apart = fit.2.apart;
-  each = fit.2.each;
   room = λ place l within. room place within;
-  sent = λ place. refl;
-  small = λ all. all;
+  sent = λ packet is place. sym (with_none (links_in start place));
 }
 
-pub none_left : (start wires : List Wire) (sends : List (ℕ × Packet)) → Sending start sends wires [] → (place : ℕ) → links_in wires place ≡ with_more (links_in start place) (frames_to sends place)
-none_left start wires sends sending place = ap (λ (out : List ℕ). record (links_in wires place) { outbox = out }) (sym (append-nil (links_in wires place).outbox)) ∙ sending.sent place
+-- a marked peer is there
+pub marked_there : (peers count n : ℕ) (marked : Places) (packet : Packet) → n < count → has_of marked n ≡ true → FitLinks peers (going (Marked marked count) packet) → n < peers
+marked_there peers count n marked packet l is fit =
+    let sendable = below_has (IsSendable fit.0) packet.stamp packet.message (marks_of marked count) count n l (mark_at marked count n l ∙ is) fit.2.each in
+    omega (arith, sendable.place, fit.1)
 
-module _ (start wires : List Wire) (sends others : List (ℕ × Packet)) (sent : ℕ × Packet) (sending : Sending start sends wires (sent ∷ others)) where
-  pub its_place : sent.0 < length wires
-  its_place = omega (arith, sending.each.0.place, sending.peers)
+-- one more place was looked at
+pub one_more_out : (start wires wires2 : List Wire) (frame : List ℕ) (marked : Places) (peers n : ℕ) (b : Bool) → n < peers → b ≡ has_of marked n
+    → length wires2 ≡ length wires
+    → ((place : ℕ) → links_in wires2 place ≡ with_more (links_in wires place) (cond (b && nat_eq n place) frame []))
+    → ((place : ℕ) → n < place → room_in wires2 place ≡ room_in wires place)
+    → IsOut start frame marked peers n wires → IsOut start frame marked peers (n + 1) wires2
+one_more_out start wires wires2 frame marked peers n b l is same sent others before = record {
+  len = same ∙ before.len;
+  room = λ place past within. subst (λ k. 4 + MAX_SMALL_LEN ≤ k) (sym (others place (omega (arith, past)))) (before.room place (omega (arith, past)) (omega (arith, within, same)));
+  sent = λ packet frames place.
+      let below = sent_below packet.stamp packet.message (marks_of marked peers) n in
+      sent place ∙ (ap (λ (link : Link). with_more link (cond (b && nat_eq n place) frame [])) (before.sent packet frames place)
+      ∙ (with_both (links_in start place) (frames_to below place) (cond (b && nat_eq n place) frame [])
+      ∙ ap (λ (out : List ℕ). with_more (links_in start place) out)
+      (ap (λ (bytes : List ℕ). frames_to below place ++ bytes) (sym (frames_one frame packet b n place frames))
+      ∙ (sym (frames_both below (cond b ((n, packet) ∷ []) []) place)
+      ∙ ap (λ (sends : List (ℕ × Packet)). frames_to sends place) (sent_more packet.stamp packet.message marked peers n b below l is refl)))));
+}
 
-  pub its_room : (wire : Wire) → wire ≡ get_or wires sent.0 wire → HasFrameRoom wire
-  its_room wire here = subst (λ n. 4 + MAX_SMALL_LEN ≤ n) (part_here (λ w. w.outbox.spare) 0 wires sent.0 wire its_place here) (sending.room sent.0 sending.apart.0 its_place)
+-- ---- what goes out at all
 
-  module _ (old new : Wire) (here : old ≡ get_or wires sent.0 old) (more : link_of new ≡ with_more (link_of old) (frame_of sent.1)) (same : length (slice_set wires sent.0 new) ≡ length wires) (small : IsSmallFrame sent.1) where
-    one_place : (place : ℕ) (b : Bool) → (b ≡ true → sent.0 ≡ place)
-        → with_more (cond b (link_of new) (links_in wires place)) (frames_to others place) ≡ with_more (links_in wires place) (cond b (frame_of sent.1) [] ++ frames_to others place)
-    one_place place true is = ap (λ (l : Link). with_more l (frames_to others place)) (more ∙ ap (λ (l : Link). with_more l (frame_of sent.1)) (sym (part_here link_of idle_link wires sent.0 old its_place here) ∙ ap (links_in wires) (is refl)))
-        ∙ ap (λ (out : List ℕ). record (links_in wires place) { outbox = out }) (append_assoc (links_in wires place).outbox (frame_of sent.1) (frames_to others place))
-    one_place place false is = refl
+pub out_none : (start wires : List Wire) (framed : Framed) → framed.goes ≡ Nobody → wires ≡ start → (place : ℕ) → links_in wires place ≡ with_more (links_in start place) (frames_to (listed_of framed) place)
+out_none start wires framed goes same place = ap (λ (ws : List Wire). links_in ws place) same
+    ∙ (sym (with_none (links_in start place)) ∙ ap (λ (sends : List (ℕ × Packet)). with_more (links_in start place) (frames_to sends place)) (sym (listed_nobody framed goes)))
 
-    later_room : (place : ℕ) → sent.0 + 1 ≤ place → place < length (slice_set wires sent.0 new) → 4 + MAX_SMALL_LEN ≤ room_in (slice_set wires sent.0 new) place
-    later_room place l within = subst (λ n. 4 + MAX_SMALL_LEN ≤ n) (sym (part_set (λ w. w.outbox.spare) 0 wires sent.0 new its_place place)) (go (nat_eq sent.0 place) (eqb-true sent.0 place))
-      where
-        unlike : sent.0 ≡ place → ⊥
-        unlike e = omega (arith, l, e)
+pub small_none : (framed : Framed) → framed.goes ≡ Nobody → AreSmallFrames (listed_of framed)
+small_none framed goes = subst AreSmallFrames (sym (listed_nobody framed goes)) tt
 
-        go : (b : Bool) → (b ≡ true → sent.0 ≡ place) → 4 + MAX_SMALL_LEN ≤ cond b new.outbox.spare (room_in wires place)
-        go true is = absurd (unlike (is refl))
-        go false is = sending.room place (omega (arith, sending.apart.0, l)) (omega (arith, within, same))
+-- one peer
+module _ (framed : Framed) (peer : ℕ) (goes : framed.goes ≡ One peer) where
+  pub one_packet : (packet : Packet) × IsFrame framed.frame.items packet × (listed_of framed ≡ (peer, packet) ∷ [])
+  one_packet =
+      let found = packet_framed framed (ap goes_out goes) in
+      (found.0, found.1, found.2 ∙ ap (λ (g : Goes). going g found.0) goes)
 
-    pub one_less : Sending start sends (slice_set wires sent.0 new) others
-    one_less = record {
-      names = sending.names;
-      peers = omega (arith, same, sending.peers);
-      len = same ∙ sending.len;
-      least = sent.0 + 1;
-      apart = sending.apart.1;
-      each = sending.each.1;
-      room = later_room;
-      sent = λ place. ap (λ (l : Link). with_more l (frames_to others place)) (part_set link_of idle_link wires sent.0 new its_place place)
-          ∙ (one_place place (nat_eq sent.0 place) (eqb-true sent.0 place) ∙ sending.sent place);
-      small = λ all. sending.small (small, all);
-    }
+  pub one_there : (peers : ℕ) → FitLinks peers (listed_of framed) → peer < peers
+  one_there peers fit =
+      let each = subst (λ (sends : List (ℕ × Packet)). AllByRecursion (IsSendable fit.0) sends) one_packet.2 fit.2.each in
+      omega (arith, each.0.place, fit.1)
 
--- the next of those that are left
-next_of : (P : List (ℕ × Packet) → Type 0) (sends : List (ℕ × Packet)) (i : ℕ) (sent : ℕ × Packet) → i < length sends → sent ≡ get_or sends i sent → P (drop i sends) → P (sent ∷ drop (i + 1) sends)
-next_of P sends i sent within here = subst P (drop-cons sends i sent within ∙ (λ j. sym here j ∷ drop (next j) sends))
-  where
-    next : suc i ≡ i + 1
-    next = omega arith
+  pub one_out : (start wires : List Wire) → ((place : ℕ) → links_in wires place ≡ with_more (links_in start place) (cond (true && nat_eq peer place) framed.frame.items []))
+      → (place : ℕ) → links_in wires place ≡ with_more (links_in start place) (frames_to (listed_of framed) place)
+  one_out start wires sent place = sent place ∙ ap (λ (out : List ℕ). with_more (links_in start place) out)
+      (sym (frames_one framed.frame.items one_packet.0 true peer place one_packet.1.is) ∙ ap (λ (sends : List (ℕ × Packet)). frames_to sends place) (sym one_packet.2))
 
-pub next_left : (start wires : List Wire) (sends : List (ℕ × Packet)) (i : ℕ) (sent : ℕ × Packet) → i < length sends → sent ≡ get_or sends i sent → Sending start sends wires (drop i sends) → Sending start sends wires (sent ∷ drop (i + 1) sends)
-next_left start wires sends = next_of (Sending start sends wires) sends
+  pub one_small : AreSmallFrames (listed_of framed)
+  one_small = subst AreSmallFrames (sym one_packet.2) (one_packet.1.small, tt)
 
-pub next_frame : (frame : List ℕ) (sends : List (ℕ × Packet)) (i : ℕ) (sent : ℕ × Packet) → i < length sends → sent ≡ get_or sends i sent → AreOneFrame frame (drop i sends) → AreOneFrame frame (sent ∷ drop (i + 1) sends)
-next_frame frame sends = next_of (AreOneFrame frame) sends
+-- the marked peers
+module _ (framed : Framed) (marked : Places) (count : ℕ) (goes : framed.goes ≡ Marked marked count) where
+  pub many_packet : (packet : Packet) × IsFrame framed.frame.items packet × (listed_of framed ≡ going (Marked marked count) packet)
+  many_packet =
+      let found = packet_framed framed (ap goes_out goes) in
+      (found.0, found.1, found.2 ∙ ap (λ (g : Goes). going g found.0) goes)
 
--- ---- one packet to several
+  pub many_fit : (peers : ℕ) → FitLinks peers (listed_of framed) → (packet : Packet) × IsFrame framed.frame.items packet × FitLinks peers (going (Marked marked count) packet)
+  many_fit peers fit = (many_packet.0, many_packet.1, subst (λ (sends : List (ℕ × Packet)). FitLinks peers sends) many_packet.2 fit)
 
--- its frame is that of each
-frames_alike : (frame : List ℕ) (packet : Packet) (others : List (ℕ × Packet)) → frame ≡ frame_of packet → IsSmallFrame packet → AllByRecursion (λ other. other.1 ≡ packet) others → AllByRecursion (λ sent. IsFrame frame sent.1) others
-frames_alike frame packet [] is small all = tt
-frames_alike frame packet (x ∷ others) is small all = (record { is = is ∙ ap frame_of (sym all.0); small = subst IsSmallFrame (sym all.0) small }, frames_alike frame packet others is small all.1)
+  pub many_out : (start wires : List Wire) → ((packet : Packet) → IsFrame framed.frame.items packet → (place : ℕ)
+      → links_in wires place ≡ with_more (links_in start place) (frames_to (going (Marked marked count) packet) place))
+      → (place : ℕ) → links_in wires place ≡ with_more (links_in start place) (frames_to (listed_of framed) place)
+  many_out start wires sent place = sent many_packet.0 many_packet.1 place
+      ∙ ap (λ (sends : List (ℕ × Packet)). with_more (links_in start place) (frames_to sends place)) (sym many_packet.2)
 
-pub one_frame : (frame : List ℕ) (first : ℕ × Packet) (sends others : List (ℕ × Packet)) → sends ≡ first ∷ others → frame ≡ frame_of first.1 → IsSmallFrame first.1 → AreOnePacket sends → AreOneFrame frame sends
-one_frame frame first sends others e is small alike = subst (AreOneFrame frame) (sym e) (record {
-  short = subst (λ (f : List ℕ). length f ≤ 4 + MAX_SMALL_LEN) (sym is) small.small;
-  each = (record { is = is; small = small }, frames_alike frame first.1 others is small (subst AreOnePacket e alike));
-})
-
-pub first_of : (sends : List (ℕ × Packet)) (first : ℕ × Packet) → 0 < length sends → first ≡ get_or sends 0 first → sends ≡ first ∷ drop 1 sends
-first_of [] first some e = absurd (omega arith)
-first_of (x ∷ others) first some e = ap (λ (sent : ℕ × Packet). sent ∷ others) (sym e)
-
-pub one_of : (sends : List (ℕ × Packet)) (sent : ℕ × Packet) → 0 < length sends → length sends < 2 → sent ≡ get_or sends 0 sent → sends ≡ sent ∷ []
-one_of [] sent some few e = absurd (omega arith)
-one_of (x ∷ []) sent some few e = ap (λ (s : ℕ × Packet). s ∷ []) (sym e)
-one_of (x ∷ y ∷ others) sent some few e = absurd (omega arith)
-
--- one packet to one peer
-module _ (start : List Wire) (sends : List (ℕ × Packet)) (sent : ℕ × Packet) (e : sends ≡ sent ∷ []) (fit : FitLinks (length start) sends) (room : HaveFrameRoom start) where
-  only : Sending start sends start (sent ∷ [])
-  only = subst (Sending start sends start) e (all_left start sends fit room)
-
-  pub only_place : sent.0 < length start
-  only_place = its_place start start sends [] sent only
-
-  pub only_room : (wire : Wire) → wire ≡ get_or start sent.0 wire → HasFrameRoom wire
-  only_room = its_room start start sends [] sent only
-
-  pub only_sent : (old new : Wire) → old ≡ get_or start sent.0 old → link_of new ≡ with_more (link_of old) (frame_of sent.1) → length (slice_set start sent.0 new) ≡ length start → IsSmallFrame sent.1
-      → (place : ℕ) → links_in (slice_set start sent.0 new) place ≡ with_more (links_in start place) (frames_to sends place)
-  only_sent old new here more same small = none_left start (slice_set start sent.0 new) sends (one_less start start sends [] sent only old new here more same small)
-
-  pub only_small : IsSmallFrame sent.1 → AreSmallFrames sends
-  only_small small = subst AreSmallFrames (sym e) (small, tt)
+  pub many_small : AreSmallFrames (listed_of framed)
+  many_small =
+      let packet = many_packet.0 in
+      subst AreSmallFrames (sym many_packet.2) (each_below (λ sent. IsSmallFrame sent.1) packet.stamp packet.message (marks_of marked count) (λ k. many_packet.1.small) count)

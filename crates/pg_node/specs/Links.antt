@@ -1,14 +1,9 @@
 -- The links of a node to its peers, by the places of the peers, and the frames that go out there.
-use Rattle.std.specs.Prelude.{◌≡◌, ◌≤◌, ◌+◌, ◌<◌, ℕ, zero, suc, nat_eq}
+use Rattle.std.specs.Prelude.{◌≤◌, ◌+◌, ◌<◌, ℕ, zero, suc, nat_eq}
 use Rattle.std.specs.Prelude.{Bool, false, List, [], ◌∷◌, ◌++◌, length, drop}
-use Rattle.std.specs.List.{AllByRecursion}
-use Rattle.pg_message.specs.declared.packet.Packet.{Packet}
 use Rattle.pg_group.specs.Functions.{upd}
 use Rattle.pg_writer.specs.declared.size.TheConstants.{MAX_SMALL_LEN}
-use Rattle.pg_node.specs.declared.node.frame.Frame.{Frame}
 use Rattle.pg_node.specs.declared.node.wire.Wire.{Wire}
-use Rattle.pg_writer.specs.Frames.{frame_of}
-use Rattle.pg_sends.specs.Frames.{IsSmallFrame}
 
 -- what stands in the link to a peer: the bytes that came in and were not taken, those that go out and were not put, and
 -- whether a fault was told of it
@@ -60,19 +55,3 @@ HasFrameRoom wire = 4 + MAX_SMALL_LEN ≤ wire.outbox.spare
 -- nor does one at any place
 abbrev pub HaveFrameRoom : List Wire → Type 0
 HaveFrameRoom wires = (place : ℕ) → place < length wires → 4 + MAX_SMALL_LEN ≤ room_in wires place
-
--- ---- one frame for several
-
--- the bytes of a frame
-abbrev pub bytes_in : Frame → List ℕ
-bytes_in frame = frame.bytes.items
-
--- these bytes are the frame of a packet, a small one
-pub record IsFrame (frame : List ℕ) (packet : Packet) : Type 0 where
-  pub is : frame ≡ frame_of packet
-  pub small : IsSmallFrame packet
-
--- and of each of these, which are sent; it is short, if there are none
-pub record AreOneFrame (frame : List ℕ) (sends : List (ℕ × Packet)) : Type 0 where
-  pub short : length frame ≤ 4 + MAX_SMALL_LEN
-  pub each : AllByRecursion (λ sent. IsFrame frame sent.1) sends

@@ -12,7 +12,7 @@ use Rattle.pg_step.specs.State.{State}
 use Rattle.pg_step.specs.Step.{TimedTurn, step_take}
 use Rattle.pg_node.specs.declared.node.Node.{Node}
 use Rattle.pg_node_state.specs.declared.state.NodeState.{NodeState}
-use Rattle.pg_sends.specs.declared.done.Done.{Done}
+use Rattle.pg_sends.specs.Dones.{FramedDone}
 use Rattle.pg_node_state.specs.declared.state.fault.NodeFault.{NodeFault}
 use Rattle.pg_node_state.specs.declared.state.fault.NodeFault.TheVariants.{Refused, OutOfMemory, Message}
 use Rattle.pg_sends.specs.Frames.{frames_to}
@@ -56,7 +56,7 @@ step_link m p link s = cond (s.state.lost p) (Err (Refused NodeLost)) (taken_of 
 
 -- What came of it: the event happened as the turn does; there was no packet, and nothing changed; or the fault is what is told.
 -- Memory may run out where a packet or a fault of it is told.
-abbrev pub TakesNext : List Name → Result (Option TimedTurn) NodeFault → Result (Option Done) NodeFault → Timed State → Timed State → (ℕ → List Answer) → (ℕ → List Answer) → Type 0
+abbrev pub TakesNext : List Name → Result (Option TimedTurn) NodeFault → Result (Option FramedDone) NodeFault → Timed State → Timed State → (ℕ → List Answer) → (ℕ → List Answer) → Type 0
 TakesNext names (Ok (Some t)) (Ok (Some done)) s0 s before after = Happens names t done s before after
 TakesNext names (Ok (Some t)) (Err OutOfMemory) s0 s before after = Unit {0}
 TakesNext names (Ok None) (Ok None) s0 s before after = (s ≡ s0) × (after ≡ before)
@@ -66,7 +66,7 @@ TakesNext names (Err fault) result s0 s before after = result ≡ Err fault
 TakesNext names told result s0 s before after = ⊥
 
 -- the same of a packet, where room is made first, so that memory may run out whatever is told
-abbrev pub ComesInRoom : List Name → Result TimedTurn Refusal → Result Done NodeFault → Timed State → (ℕ → List Answer) → (ℕ → List Answer) → Type 0
+abbrev pub ComesInRoom : List Name → Result TimedTurn Refusal → Result FramedDone NodeFault → Timed State → (ℕ → List Answer) → (ℕ → List Answer) → Type 0
 ComesInRoom names told (Err OutOfMemory) s before after = Unit {0}
 ComesInRoom names told result s before after = Comes names told result s before after
 

@@ -6,13 +6,11 @@ ghost use Rattle.pg_node_state.specs.States.{names_of as names_known};
 
 mod begun;
 mod events;
-mod frame;
 mod moved;
 mod own;
 mod wire;
 mod wires;
 
-use crate::node::frame::Frame;
 use crate::node::wire::Wire;
 use pg_group::GroupTable;
 use pg_node_state::NodeState;
@@ -26,8 +24,6 @@ pub struct Node<T: GroupTable> {
     wires: Vec<Wire>,
     // Where bytes are on their way from an inlet.
     piece: Vec<u8>,
-    // Where a frame is written that goes to several peers.
-    frame: Frame,
     // No event has taken of the room for a small frame since it was made in every outbox.
     has_room: bool,
     alloc: Global,

@@ -19,6 +19,7 @@ use Rattle.pg_step.specs.Step.{TimedTurn, CLOCK_LIMIT, taken, at_clock, timed, s
 use Rattle.pg_step.specs.declared.refusal.Refusal.{Refusal}
 use Rattle.pg_step.specs.declared.refusal.Refusal.TheVariants as refusal
 use Rattle.pg_sends.specs.declared.done.Done.{Done}
+use Rattle.pg_sends.specs.declared.outgoing.Outgoing.{Ghosts as Listing}
 use Rattle.pg_node_state.specs.declared.state.fault.NodeFault.{NodeFault}
 use Rattle.pg_node_state.specs.declared.state.fault.NodeFault.TheVariants.{Refused, OutOfMemory}
 use Rattle.pg_node_state.specs.declared.state.fault.NodeFault.TheVariants as faults
@@ -56,7 +57,7 @@ module _ (m : Nodes) (p : Node) (x : Stamped Message) (s : Timed State) (clock :
   happened : (turn : NodeTurn) → taken (live_nodes m s.state) p x.packet s.state ≡ Ok turn → step_take m p x s ≡ Ok (at_clock clock turn)
   happened turn is = by_packet ∙ (ap (timed clock) is ∙ ap (λ b. cond b (Ok (at_clock clock turn)) (Err refusal.ClockFull)) (le-leb clock CLOCK_LIMIT within))
 
-  pub comes : (names : List Node) (turn : NodeTurn) (done : Done) (s1 : Timed State) (before after : ℕ → List Answer)
+  pub comes : {S : Type 0} {h : Listing S} (names : List Node) (turn : NodeTurn) (done : Done S h) (s1 : Timed State) (before after : ℕ → List Answer)
       → taken (live_nodes m s.state) p x.packet s.state ≡ Ok turn → turn.reported.gave ≡ None
       → IsReported names (at_clock clock turn) done → s1 ≡ (at_clock clock turn).state → after ≡ before
       → Comes names (step_take m p x s) (Ok done) s1 before after
@@ -82,17 +83,17 @@ module _ (m : Nodes) (p : Node) (x : Stamped Message) (s : Timed State) (clock :
   timed_is (Err refusal.NotLost) = ap (λ b. cond b (Err refusal.NotLost) (Err refusal.ClockFull)) (le-leb clock CLOCK_LIMIT within)
   timed_is (Err refusal.ClockFull) = ap (λ b. cond b (Err refusal.ClockFull) (Err refusal.ClockFull)) (le-leb clock CLOCK_LIMIT within)
 
-  pub comes_at : (names : List Node) (t : Result NodeTurn Refusal) (result : Result Done NodeFault) (s1 : Timed State) (before after : ℕ → List Answer)
+  pub comes_at : {S : Type 0} {h : Listing S} (names : List Node) (t : Result NodeTurn Refusal) (result : Result (Done S h) NodeFault) (s1 : Timed State) (before after : ℕ → List Answer)
       → taken (live_nodes m s.state) p x.packet s.state ≡ t → ComesAt clock names t result s1 before after
       → Comes names (step_take m p x s) result s1 before after
-  comes_at names t result s1 before after is told = subst (λ r. Comes names r result s1 before after) (sym (by_packet ∙ (ap (timed clock) is ∙ timed_is t))) (go t told)
+  comes_at {S} {h} names t result s1 before after is told = subst (λ r. Comes names r result s1 before after) (sym (by_packet ∙ (ap (timed clock) is ∙ timed_is t))) (go t told)
     where
       go : (t : Result NodeTurn Refusal) → ComesAt clock names t result s1 before after → Comes names (at_once t) result s1 before after
-      go (Ok turn) h = h
-      go (Err fault) h = h
+      go (Ok turn) comes = comes
+      go (Err fault) comes = comes
 
   -- the first groups of a peer
-  pub groups_come : (names : List Node) (node : Node) (groups : GroupList) (result : Result Done NodeFault) (s1 : Timed State) (before after : ℕ → List Answer)
+  pub groups_come : {S : Type 0} {h : Listing S} (names : List Node) (node : Node) (groups : GroupList) (result : Result (Done S h) NodeFault) (s1 : Timed State) (before after : ℕ → List Answer)
       → x.packet ≡ Exchange node groups
       → ((result ≡ Err (Refused refusal.NotAMessage)) ↔ (is_bad_exchange p node s.state ≡ true))
       → IfErr result (λ fault. (fault ≡ Refused refusal.NotAMessage) ⊎ (fault ≡ OutOfMemory))
@@ -100,7 +101,7 @@ module _ (m : Nodes) (p : Node) (x : Stamped Message) (s : Timed State) (clock :
       → OnOk result (s1 ≡ (at_clock clock (exchange p groups s.state)).state)
       → after ≡ before
       → Comes names (step_take m p x s) result s1 before after
-  groups_come names node groups result s1 before after is bad fault told state same = go (is_bad_exchange p node s.state) refl result refl
+  groups_come {S} {h} names node groups result s1 before after is bad fault told state same = go (is_bad_exchange p node s.state) refl result refl
     where
       leads : (b : Bool) → is_bad_exchange p node s.state ≡ b → taken (live_nodes m s.state) p x.packet s.state ≡ cond b (Err refusal.NotAMessage) (Ok (exchange p groups s.state))
       leads b e = ap (λ (x : Message). taken (live_nodes m s.state) p x s.state) is ∙ ap (λ b. cond b (Err refusal.NotAMessage) (Ok (exchange p groups s.state))) e
@@ -108,11 +109,11 @@ module _ (m : Nodes) (p : Node) (x : Stamped Message) (s : Timed State) (clock :
       refused : is_bad_exchange p node s.state ≡ true → step_take m p x s ≡ Err refusal.NotAMessage
       refused e = by_packet ∙ (ap (timed clock) (leads true e) ∙ ap (λ b. cond b (Err refusal.NotAMessage) (Err refusal.ClockFull)) (le-leb clock CLOCK_LIMIT within))
 
-      good : (r : Result Done NodeFault) → result ≡ r → is_bad_exchange p node s.state ≡ false → Comes names (step_take m p x s) r s1 before after
+      good : (r : Result (Done S h) NodeFault) → result ≡ r → is_bad_exchange p node s.state ≡ false → Comes names (step_take m p x s) r s1 before after
       good (Ok done) r e = comes names (exchange p groups s.state) done s1 before after (leads false e) refl
           (subst (λ z. IfOk z (IsReported names (at_clock clock (exchange p groups s.state)))) r told)
           (subst (λ z. OnOk z (s1 ≡ (at_clock clock (exchange p groups s.state)).state)) r state) same
-      good (Err OutOfMemory) r e = subst (λ z. Comes names z (Err OutOfMemory) s1 before after) (sym (happened (exchange p groups s.state) (leads false e))) tt
+      good (Err OutOfMemory) r e = subst (λ z. Comes {S = S} {h = h} names z (Err OutOfMemory) s1 before after) (sym (happened (exchange p groups s.state) (leads false e))) tt
       good (Err (Refused other)) r e = absurd (which (subst (λ z. IfErr z (λ fault. (fault ≡ Refused refusal.NotAMessage) ⊎ (fault ≡ OutOfMemory))) r fault))
         where
           which : (Refused other ≡ Refused refusal.NotAMessage) ⊎ (Refused other ≡ OutOfMemory) → ⊥
@@ -134,13 +135,13 @@ module _ (m : Nodes) (p : Node) (x : Stamped Message) (s : Timed State) (clock :
           which (inl f) = cc
           which (inr f) = cc
 
-      go : (b : Bool) → is_bad_exchange p node s.state ≡ b → (r : Result Done NodeFault) → result ≡ r → Comes names (step_take m p x s) r s1 before after
+      go : (b : Bool) → is_bad_exchange p node s.state ≡ b → (r : Result (Done S h) NodeFault) → result ≡ r → Comes names (step_take m p x s) r s1 before after
       go true e r is_r = subst (λ z. Comes names z r s1 before after) (sym (refused e)) (sym is_r ∙ bad.1 e)
       go false e r is_r = good r is_r e
 
 -- the loss of a peer that is not lost, within the limit of the clock
-pub loss_comes : (p : Node) (last : ℕ) (s : Timed State) (clock : ℕ) → s.state.lost p ≡ false → clock ≡ max s.clock last + 1 → clock ≤ CLOCK_LIMIT
-    → (names : List Node) (done : Done) (s1 : Timed State) (before after : ℕ → List Answer)
+pub loss_comes : {S : Type 0} {h : Listing S} (p : Node) (last : ℕ) (s : Timed State) (clock : ℕ) → s.state.lost p ≡ false → clock ≡ max s.clock last + 1 → clock ≤ CLOCK_LIMIT
+    → (names : List Node) (done : Done S h) (s1 : Timed State) (before after : ℕ → List Answer)
     → IsReported names (at_clock clock (see_loss p s.state)) done → s1 ≡ (at_clock clock (see_loss p s.state)).state → after ≡ before
     → Comes names (step_see_loss p last s) (Ok done) s1 before after
 loss_comes p last s clock here later within names done s1 before after told state same =

@@ -35,6 +35,7 @@ use Rattle.pg_step.specs.Turns.{NodeTurn}
 use Rattle.pg_step.specs.Commands.{command, fault_of, change_of, change, carried_out, answer}
 use Rattle.pg_step.specs.Step.{Issue, CLOCK_LIMIT, at_clock, timed, step_act}
 use Rattle.pg_sends.specs.declared.done.Done.{Done}
+use Rattle.pg_sends.specs.declared.outgoing.Outgoing.{Ghosts as Listing}
 use Rattle.pg_node_state.specs.declared.state.NodeState.{NodeState}
 use Rattle.pg_node_state.specs.Ports.{merged_in}
 use Rattle.pg_node_state.specs.States.{names_of, nodes_of, live_of, kept_by, Happens, Comes}
@@ -42,8 +43,8 @@ use Rattle.pg_node_state.proofs.Formed.{all_left}
 use Rattle.pg_sends.proofs.Updates.{update_is}
 
 -- a command at a port that is there, within the limit of the clock
-pub command_comes : (m : Nodes) (ports port : ℕ) (c : Command) (s : Timed State) → port < ports → s.clock + 1 ≤ CLOCK_LIMIT
-    → (names : List Node) (done : Done) (s1 : Timed State) (before after : ℕ → List Answer)
+pub command_comes : {S : Type 0} {h : Listing S} (m : Nodes) (ports port : ℕ) (c : Command) (s : Timed State) → port < ports → s.clock + 1 ≤ CLOCK_LIMIT
+    → (names : List Node) (done : Done S h) (s1 : Timed State) (before after : ℕ → List Answer)
     → Happens names (at_clock (s.clock + 1) (command m (live_nodes m s.state) port c s.state)) done s1 before after
     → Comes names (step_act m ports (Issue port c) s) (Ok done) s1 before after
 command_comes m ports port c s place within names done s1 before after happened = subst (λ r. Comes names r (Ok done) s1 before after) (sym is) happened

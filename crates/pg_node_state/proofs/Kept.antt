@@ -14,6 +14,7 @@ use Rattle.pg_step.specs.declared.answer.Answer.{Answer}
 use Rattle.pg_step.specs.Turns.{NodeTurn}
 use Rattle.pg_step.specs.Step.{at_clock}
 use Rattle.pg_sends.specs.declared.done.Done.{Done}
+use Rattle.pg_sends.specs.declared.outgoing.Outgoing.{Ghosts as Listing}
 use Rattle.pg_node_state.specs.States.{kept_by, Happens}
 
 -- a state that has these open commands, and nothing else
@@ -87,7 +88,7 @@ pub assembled_state : (t : State) (opens : Opens) (table : Table) (ended : Pid �
 assembled_state t opens table ended locks merged processes counts h e1 e2 e3 e4 e5 e6 = ap (λ (x : Timed State). x.state) (assembled 0 t opens table ended locks merged processes counts h e1 e2 e3 e4 e5 e6)
 
 -- a turn of the same nodes
-pub happens_as : (names names1 : List Node) (clock : ℕ) (t t1 : NodeTurn) (done : Done) (s : Timed State) (before after : ℕ → List Answer) → names1 ≡ names → t1 ≡ t
+pub happens_as : {S : Type 0} {h : Listing S} (names names1 : List Node) (clock : ℕ) (t t1 : NodeTurn) (done : Done S h) (s : Timed State) (before after : ℕ → List Answer) → names1 ≡ names → t1 ≡ t
     → Happens names1 (at_clock clock t1) done s before after → Happens names (at_clock clock t) done s before after
 happens_as names names1 clock t t1 done s before after e f h =
     subst (λ (u : NodeTurn). Happens names (at_clock clock u) done s before after) f (subst (λ (ns : List Node). Happens ns (at_clock clock t1) done s before after) e h)

@@ -26,6 +26,7 @@ use Rattle.pg_step.specs.declared.answer.Answer.{Answer}
 use Rattle.pg_step.specs.declared.refusal.Refusal.{Refusal}
 use Rattle.pg_step.specs.Turns.{NodeTurn}
 use Rattle.pg_sends.specs.declared.done.Done.{Done}
+use Rattle.pg_sends.specs.declared.outgoing.Outgoing.{Ghosts as Listing}
 use Rattle.pg_node_state.specs.declared.state.fault.NodeFault.{NodeFault}
 use Rattle.pg_node_state.specs.States.{ComesAt}
 
@@ -42,7 +43,7 @@ fresh_beyond opens x beyond = go (seek (use_at opens.names.items) opens.commands
     go (Some u) e = absurd (cc)
 
 -- a reply to a node that is seen as the same
-pub comes_as : (clock peer number : ℕ) (said : Said) (names names1 : List Node) (m m1 : Nodes) (s s1 : State) (before before1 : ℕ → List Answer) (result : Result Done NodeFault) (after : Timed State) (answers : ℕ → List Answer)
+pub comes_as : {S : Type 0} {h : Listing S} (clock peer number : ℕ) (said : Said) (names names1 : List Node) (m m1 : Nodes) (s s1 : State) (before before1 : ℕ → List Answer) (result : Result (Done S h) NodeFault) (after : Timed State) (answers : ℕ → List Answer)
     → names1 ≡ names → m1 ≡ m → s1 ≡ s → before1 ≡ before
     → ComesAt clock names1 (reply_taken m1 (name_at names1 (peer + 1)) (numbered m1.own number) said s1) result after before1 answers
     → ComesAt clock names (reply_taken m (name_at names (peer + 1)) (numbered m.own number) said s) result after before answers

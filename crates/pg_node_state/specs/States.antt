@@ -29,6 +29,7 @@ use Rattle.pg_step.specs.declared.refusal.Refusal.{Refusal}
 use Rattle.pg_step.specs.declared.refusal.Refusal.TheVariants.{NodeLost}
 use Rattle.pg_node_state.specs.declared.state.NodeState.{NodeState}
 use Rattle.pg_sends.specs.declared.done.Done.{Done}
+use Rattle.pg_sends.specs.declared.outgoing.Outgoing.{Ghosts as Listing}
 use Rattle.pg_node_state.specs.declared.state.fault.NodeFault.{NodeFault}
 use Rattle.pg_node_state.specs.declared.state.fault.NodeFault.TheVariants.{Refused, OutOfMemory}
 use Rattle.pg_node_state.specs.Ports.{merged_in}
@@ -82,8 +83,8 @@ abbrev pub step_see_loss : Node → ℕ → Timed State → Result TimedTurn Ref
 step_see_loss p last s = timed (max s.clock last + 1) (cond (s.state.lost p) (Err NodeLost) (Ok (see_loss p s.state)))
 
 -- what was done is what the turn sends and reports
-pub record IsReported (names : List Node) (t : TimedTurn) (done : Done) : Type 0 where
-  pub sends : sends_in names done.sends.items ≡ t.sends
+pub record IsReported {S : Type 0} {h : Listing S} (names : List Node) (t : TimedTurn) (done : Done S h) : Type 0 where
+  pub sends : sends_in names (h.listed done.sends) ≡ t.sends
   pub began : done.began ≡ t.reported.began
   pub odd : done.odd ≡ t.reported.odd
 
@@ -94,21 +95,21 @@ Gave own (Some gave) before after = (r : Reply) × Answers own gave.1 r
     × (after ≡ upd nat_eq before gave.0.port (before gave.0.port ++ record { number = gave.0.number; reply = r } ∷ []))
 
 -- an event happened as the turn does
-pub record Happens (names : List Node) (t : TimedTurn) (done : Done) (s : Timed State) (before after : ℕ → List Answer) : Type 0 where
+pub record Happens {S : Type 0} {h : Listing S} (names : List Node) (t : TimedTurn) (done : Done S h) (s : Timed State) (before after : ℕ → List Answer) : Type 0 where
   pub told : IsReported names t done
   pub state : s ≡ t.state
   pub answers : Gave (name_at names 0) t.reported.gave before after
 
 -- What came of an event by what the step tells of it: it happened as the turn does, unless memory ran out, or it was refused
 -- as the step refuses it.
-abbrev pub Comes : List Node → Result TimedTurn Refusal → Result Done NodeFault → Timed State → (ℕ → List Answer) → (ℕ → List Answer) → Type 0
+abbrev pub Comes : {S : Type 0} {h : Listing S} → List Node → Result TimedTurn Refusal → Result (Done S h) NodeFault → Timed State → (ℕ → List Answer) → (ℕ → List Answer) → Type 0
 Comes names (Ok t) (Ok done) s before after = Happens names t done s before after
 Comes names (Ok t) (Err OutOfMemory) s before after = Unit {0}
 Comes names (Ok t) (Err fault) s before after = ⊥
 Comes names (Err refusal) result s before after = result ≡ Err (Refused refusal)
 
 -- the same of a turn without clock, at the clock that the event sets
-abbrev pub ComesAt : ℕ → List Node → Result NodeTurn Refusal → Result Done NodeFault → Timed State → (ℕ → List Answer) → (ℕ → List Answer) → Type 0
+abbrev pub ComesAt : {S : Type 0} {h : Listing S} → ℕ → List Node → Result NodeTurn Refusal → Result (Done S h) NodeFault → Timed State → (ℕ → List Answer) → (ℕ → List Answer) → Type 0
 ComesAt clock names (Ok t) result s before after = Comes names (Ok (at_clock clock t)) result s before after
 ComesAt clock names (Err refusal) result s before after = Comes names (Err refusal) result s before after
 

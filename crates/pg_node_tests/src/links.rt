@@ -9,7 +9,7 @@ ghost use Rattle.pg_ring.specs.MemRingLaws.{Grows-rests, Grows-composes, Grows-a
 use crate::nodes::{Who, atom, new_node};
 use crate::told::told;
 use pg_index::IndexTable;
-use pg_node::{Node, NodeConfig, NodeFault};
+use pg_node::{Node, NodeConfig, NodeFault, Outgoing};
 use pg_ring::{Link, MemRing};
 use pg_step::Command;
 use pg_term::Atom;
@@ -182,13 +182,17 @@ impl Pair {
         0 < self.one.state().peer_count() && self.one.put(0, &mut self.outlet, 64) > 0
     }
 
-    /// Whether the first node takes this command, which makes a call.
+    /// Whether the first node takes this command, and sends something for it.
     pub fn is_given(&mut self, command: &Command) -> bool {
         if self.one.state().port_count() != 1 {
             return false;
         }
-        match told(self.one.command(0, command)) {
-            Ok(did) => did.call > 0,
+        match self.one.command(0, command) {
+            Ok(done) => {
+                let sends = done.sends.count() > 0;
+                drop(done);
+                sends
+            }
             Err(_) => false,
         }
     }

@@ -14,7 +14,8 @@ use Rattle.pg_step.specs.declared.refusal.Refusal.TheVariants.{ClockFull, NotAMe
 use Rattle.pg_step.specs.declared.refusal.Refusal.TheVariants.{NotWaiting, NodeLost, NotLost, NotDrained}
 use Rattle.pg_step.specs.Nodes.{Node, Nodes}
 use Rattle.pg_step.specs.Step.{TimedTurn, step_take}
-use Rattle.pg_sends.specs.declared.done.Done.{Done}
+use Rattle.pg_sends.specs.contracts.sends.VecTuple2UsizePacketOutgoing.TheImpl as packets
+use Rattle.pg_sends.specs.Dones.{PacketsDone}
 use Rattle.pg_node_state.specs.declared.state.fault.NodeFault.{NodeFault}
 use Rattle.pg_node_state.specs.declared.state.fault.NodeFault.TheVariants.{Refused, OutOfMemory}
 use Rattle.pg_node_state.specs.declared.state.fault.NodeFault.TheVariants.{Message, TooLong, Damaged}
@@ -66,7 +67,7 @@ module _ (names : List Node) (two : length names ≡ 2) (s : State) (packet : Pa
   all_frames (own ∷ peer ∷ next ∷ names) two sends each = absurd (cc)
 
   -- a packet that was taken
-  pub answers : (done : Done) (out0 out1 : List ℕ) → Comes names told (Ok done) s1 before after → AreSendable names done.sends.items
+  pub answers : (done : PacketsDone) (out0 out1 : List ℕ) → Comes names told (Ok done) s1 before after → AreSendable names done.sends.items
       → out1 ≡ out0 ++ frames_to done.sends.items 0 → AnswersServed (taken_packet (pair_in names) s packet) s1 out0 out1
   answers done out0 out1 comes fits out = subst (λ r. AnswersServed r s1 out0 out1) taken_is (go told comes)
     where
@@ -80,7 +81,7 @@ module _ (names : List Node) (two : length names ≡ 2) (s : State) (packet : Pa
       go (Err refusal) h = absurd (cc)
 
   -- a packet that was not taken
-  pub refuses : (fault : NodeFault) → Comes names told (Err fault) s1 before after → Refuses (taken_packet (pair_in names) s packet) (untaken_as fault)
+  pub refuses : (fault : NodeFault) → Comes {h = packets.ghosts} names told (Err fault) s1 before after → Refuses (taken_packet (pair_in names) s packet) (untaken_as fault)
   refuses fault comes = subst (λ r. Refuses r (untaken_as fault)) taken_is (go told fault comes)
     where
       its_own : (refusal : Refusal) → Refuses (turned (pair_in names) (Err refusal)) (refused_as refusal)
@@ -92,10 +93,10 @@ module _ (names : List Node) (two : length names ≡ 2) (s : State) (packet : Pa
       its_own NotLost = refl
       its_own NotDrained = refl
 
-      same_fault : (refusal : Refusal) (fault : NodeFault) → ◌≡◌ {A = Result Done NodeFault} (Err fault) (Err (Refused refusal)) → fault ≡ Refused refusal
+      same_fault : (refusal : Refusal) (fault : NodeFault) → ◌≡◌ {A = Result PacketsDone NodeFault} (Err fault) (Err (Refused refusal)) → fault ≡ Refused refusal
       same_fault refusal fault e = cc
 
-      go : (r : Result TimedTurn Refusal) (fault : NodeFault) → Comes names r (Err fault) s1 before after → Refuses (turned (pair_in names) r) (untaken_as fault)
+      go : (r : Result TimedTurn Refusal) (fault : NodeFault) → Comes {h = packets.ghosts} names r (Err fault) s1 before after → Refuses (turned (pair_in names) r) (untaken_as fault)
       go (Ok t) OutOfMemory h = tt
       go (Ok t) (Refused refusal) h = absurd h
       go (Ok t) (Message other) h = absurd h

@@ -2,22 +2,20 @@
 use Rattle.std.proofs.Common.{◌≡◌, ◌≢◌, ◌⊎◌, ◌∙◌, ℕ, cond, List, [], ◌∷◌, ◌++◌}
 use Rattle.std.proofs.Common.{refl, sym, ap, subst, inl, inr, append-nil}
 use Rattle.std.proofs.lemmas.Bool.{cases_eq}
-use Rattle.std.specs.Prelude.{Bool, true, false, ◌||◌, ◌+◌, Result, Ok, Err, Option, Some, None}
+use Rattle.std.specs.Prelude.{Bool, true, false, ◌||◌, ◌+◌, Result, Ok, Err, Option}
 use Rattle.pg_group.specs.declared.table.GroupTable.{Ghosts}
 use Rattle.pg_machine.specs.Clocked.{Timed}
-use Rattle.pg_sends.specs.declared.done.Done.{Done}
+use Rattle.pg_sends.specs.contracts.framing.FramedOutgoing.TheImpl as frames
+use Rattle.pg_sends.specs.Dones.{FramedDone}
 use Rattle.pg_node_state.specs.declared.state.fault.NodeFault.{NodeFault}
 use Rattle.pg_node_state.specs.declared.state.fault.NodeFault.TheVariants.{Refused, OutOfMemory}
 use Rattle.pg_node_state.specs.declared.state.fault.NodeFault.TheVariants.{TooLong, Message, Damaged}
 use Rattle.pg_node_state.specs.Issued.{ports_of}
-use Rattle.pg_message.specs.declared.packet.Packet.{Packet}
-use Rattle.pg_node.specs.Bytes.{ReadsNext, damages, marked}
+use Rattle.pg_node.specs.Bytes.{damages, marked}
 use Rattle.pg_sends.specs.Frames.{frames_to}
 use Rattle.pg_node.specs.Links.{Link, at_link}
-use Rattle.pg_node.specs.Nodes.{held_by, links_of, read_next, step_link, taken_of, taken_as, ComesInRoom}
+use Rattle.pg_node.specs.Nodes.{held_by, links_of, step_link, ComesInRoom}
 use Rattle.pg_node_state.specs.States.{names_of, state_of, answers_of, Happens, Comes}
-use Rattle.pg_sends.specs.Sent.{stamped_of}
-use Rattle.pg_node.proofs.Events.{step_read}
 use Rattle.pg_run.specs.declared.linked.LinkedNode.{LinkedNode}
 use Rattle.pg_run.specs.Acts.{Act, Standing, ActLeads, event_of, is_from, losses_of}
 use Rattle.pg_opens.specs.Places.{name_at, whole_in}
@@ -27,26 +25,26 @@ use Rattle.pg_run.proofs.Moving.{Closes, act_moved, peers_kept, unmoved, link_th
 use Rattle.pg_step.specs.declared.answer.Answer.{Answer}
 use Rattle.pg_step.specs.declared.refusal.Refusal.{Refusal}
 use Rattle.pg_step.specs.declared.refusal.Refusal.TheVariants.{NodeLost}
-use Rattle.pg_step.specs.Nodes.{Node as Name, Nodes}
+use Rattle.pg_step.specs.Nodes.{Node as Name}
 use Rattle.pg_step.specs.State.{State}
-use Rattle.pg_step.specs.Step.{TimedTurn, step_take}
+use Rattle.pg_step.specs.Step.{TimedTurn}
 
 -- ---- what is told of an event
 
 -- it happened by a turn of the step
-pub record HappenedBy (names : List Name) (told : Result TimedTurn Refusal) (done : Done) (s : Timed State) (before after : ℕ → List Answer) : Type 0 where
+pub record HappenedBy (names : List Name) (told : Result TimedTurn Refusal) (done : FramedDone) (s : Timed State) (before after : ℕ → List Answer) : Type 0 where
   pub turn : TimedTurn
   pub made : told ≡ Ok turn
   pub happens : Happens names turn done s before after
 
-pub happened_by : (names : List Name) (told : Result TimedTurn Refusal) (done : Done) (s : Timed State) (before after : ℕ → List Answer)
+pub happened_by : (names : List Name) (told : Result TimedTurn Refusal) (done : FramedDone) (s : Timed State) (before after : ℕ → List Answer)
     → ComesInRoom names told (Ok done) s before after → HappenedBy names told done s before after
 happened_by names (Ok turn) done s before after came = record { turn = turn; made = refl; happens = came }
 happened_by names (Err refusal) done s before after came = absurd (cc)
 
 -- where no room was made first it is no less
 pub in_room : (names : List Name) (told : Result TimedTurn Refusal) (fault : NodeFault) (s : Timed State) (before after : ℕ → List Answer)
-    → Comes names told (Err fault) s before after → ComesInRoom names told (Err fault) s before after
+    → Comes {h = frames.ghosts} names told (Err fault) s before after → ComesInRoom names told (Err fault) s before after
 in_room names told OutOfMemory s before after came = tt
 in_room names told (Refused other) s before after came = came
 in_room names told (Message other) s before after came = came

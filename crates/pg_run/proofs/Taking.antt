@@ -2,7 +2,7 @@
 use Rattle.std.proofs.Common.{◌≡◌, ◌≢◌, ◌<◌, ◌+◌, ◌∙◌, ◌⊎◌, ℕ, cond, take, length, List}
 use Rattle.std.proofs.Common.{[], ◌∷◌, ◌++◌, refl, sym, ap, subst, inl, inr, append-nil}
 use Rattle.std.specs.Prelude.{if◌then◌else◌, max, nat_eq, nat_le, Bool, true}
-use Rattle.std.specs.Prelude.{false, Option, Some, None, Result, Ok, Err, IfErr}
+use Rattle.std.specs.Prelude.{false, Option, Some, None, Result, Ok, Err}
 use Rattle.std.proofs.lemmas.Bool.{cases_eq, eq-eqb, ne_eqb}
 use Rattle.pg_frame.specs.declared.fault.TooLong as frame
 use Rattle.pg_frame.specs.Frames.{front_of, after_front}
@@ -12,7 +12,8 @@ use Rattle.pg_message.specs.declared.fault.MessageFault.{MessageFault}
 use Rattle.pg_message.specs.declared.packet.Packet.{Packet}
 use Rattle.pg_message.specs.Reading.{packet_spelled}
 use Rattle.pg_node.specs.declared.node.Node.{Node}
-use Rattle.pg_sends.specs.declared.done.Done.{Done}
+use Rattle.pg_sends.specs.Dones.{FramedDone}
+use Rattle.pg_sends.specs.Framed.{listed_of}
 use Rattle.pg_node_state.specs.declared.state.fault.NodeFault.{NodeFault}
 use Rattle.pg_node_state.specs.declared.state.fault.NodeFault.TheVariants.{Refused, OutOfMemory}
 use Rattle.pg_node_state.specs.declared.state.fault.NodeFault.TheVariants.{TooLong, Message, Damaged}
@@ -27,10 +28,8 @@ use Rattle.pg_sends.specs.Sent.{stamped_of}
 use Rattle.pg_opens.specs.Places.{name_at}
 use Rattle.pg_run.specs.declared.linked.LinkedNode.{LinkedNode}
 use Rattle.pg_run.specs.Acts.{Act, Took, Saw, Did, event_of, is_from, loss_of}
-use Rattle.pg_node_state.specs.declared.state.NodeState.{NodeState}
-use Rattle.pg_run.specs.Events.{ActsOnce, IsOfPeer, TookNext, IsFault, told_of_peer, told_of_loss}
-use Rattle.pg_run.proofs.Following.{follows_on}
-use Rattle.pg_run.specs.Follows.{Follows, node_of, peers_of, log_of}
+use Rattle.pg_run.specs.Events.{ActsOnce, IsOfPeer, IsFault, told_of_loss}
+use Rattle.pg_run.specs.Follows.{node_of, peers_of, log_of}
 use Rattle.pg_run.proofs.Acting.{happened_by, acts_once}
 use Rattle.pg_run.proofs.Fronts.{front_alone, front_alone_len, front_taken}
 use Rattle.pg_run.proofs.Moving.{Closes, link_there, link_else, marks_kept}
@@ -84,13 +83,13 @@ next_is link packet e =
 -- ---- what a node took
 
 -- the packet that was taken, which was the next, and what it led to
-pub record TookPacket (names : List Name) (set : Nodes) (p : Name) (link : Link) (done : Done) (s0 s : Timed State) (before after : ℕ → List Answer) : Type 0 where
+pub record TookPacket (names : List Name) (set : Nodes) (p : Name) (link : Link) (done : FramedDone) (s0 s : Timed State) (before after : ℕ → List Answer) : Type 0 where
   pub packet : Packet
   pub next : next_packet link ≡ Ok (Some packet)
   pub came : ComesInRoom names (step_take set p (stamped_of packet) s0) (Ok done) s before after
 
 module _ (names : List Name) (set : Nodes) (p : Name) (link : Link) (s0 s : Timed State) (before after : ℕ → List Answer) where
-  pub took_packet : (done : Done) → TakesNext names (step_link set p link s0) (Ok (Some done)) s0 s before after → TookPacket names set p link done s0 s before after
+  pub took_packet : (done : FramedDone) → TakesNext names (step_link set p link s0) (Ok (Some done)) s0 s before after → TookPacket names set p link done s0 s before after
   took_packet done took = by_lost (s0.state.lost p) took
     where
       by_turn : (packet : Packet) (r : Result TimedTurn Refusal) → next_packet link ≡ Ok (Some packet) → step_take set p (stamped_of packet) s0 ≡ r
@@ -240,12 +239,12 @@ module _ {T L I : Type 0} {g : Ghosts T} (accepts : L → List ℕ → L → Typ
   Gives a turn n = Gave (name_at (names_of (held_by (node_of a))) 0) turn.reported.gave (answers_of (held_by (node_of a))) (answers_of (held_by n))
 
   -- a packet was taken, and that was logged
-  pub take_acts : (a b : LinkedNode T L I g) (m : Node T g) (peer : ℕ) (packet : Packet) (done : Done) → peer + 1 < length (names_of (held_by (node_of a))) → next_packet (links_of (node_of a) peer) ≡ Ok (Some packet)
+  pub take_acts : (a b : LinkedNode T L I g) (m : Node T g) (peer : ℕ) (packet : Packet) (done : FramedDone) → peer + 1 < length (names_of (held_by (node_of a))) → next_packet (links_of (node_of a) peer) ≡ Ok (Some packet)
       → ComesInRoom (names_of (held_by (node_of a)))
       (step_take (nodes_of (held_by (node_of a))) (name_at (names_of (held_by (node_of a))) (peer + 1)) (stamped_of packet) (state_of (held_by (node_of a))))
       (Ok done) (state_of (held_by m)) (answers_of (held_by (node_of a))) (answers_of (held_by m))
-      → AreSendable (names_of (held_by (node_of a))) done.sends.items → AreSmallFrames done.sends.items
-      → ((place : ℕ) → links_of m place ≡ at_link peer passed (sent_out done.sends.items (links_of (node_of a))) place)
+      → AreSendable (names_of (held_by (node_of a))) (listed_of done.sends) → AreSmallFrames (listed_of done.sends)
+      → ((place : ℕ) → links_of m place ≡ at_link peer passed (sent_out (listed_of done.sends) (links_of (node_of a))) place)
       → names_of (held_by m) ≡ names_of (held_by (node_of a)) → ports_of (held_by m) ≡ ports_of (held_by (node_of a))
       → node_of b ≡ m → log_of b ≡ log_of a ++ ((state_of (held_by m)).clock, event_of (Took peer (stamped_of packet))) ∷ [] → peers_of b ≡ peers_of a
       → ActsOnce accepts gives (IsOfPeer peer) a b
@@ -255,7 +254,7 @@ module _ {T L I : Type 0} {g : Ghosts T} (accepts : L → List ℕ → L → Typ
       (step_take (nodes_of (held_by (node_of a))) (name_at (names_of (held_by (node_of a))) (peer + 1)) (stamped_of packet) (state_of (held_by (node_of a))))
       done (state_of (held_by m)) (answers_of (held_by (node_of a))) (answers_of (held_by m)) came in
       let is = next_is (links peer) packet next in
-      let act : Act = record { input = Took peer (stamped_of packet); turn = happened.turn; sends = done.sends.items; came = take (4 + length is.body) (links peer).unread } in
+      let act : Act = record { input = Took peer (stamped_of packet); turn = happened.turn; sends = (listed_of done.sends); came = take (4 + length is.body) (links peer).unread } in
       let held = ap held_by node in record {
         act = act;
         wanted = refl;
@@ -278,23 +277,23 @@ module _ {T L I : Type 0} {g : Ghosts T} (accepts : L → List ℕ → L → Typ
               };
             })
             (log ∙ ap (λ (n : Node T g). log_of a ++ ((state_of (held_by n)).clock, event_of (Took peer (stamped_of packet))) ∷ []) (sym node)) peers
-            (λ place none. ap (λ (n : Node T g). (links_of n place).outbox) node ∙ (ap (λ (l : Link). l.outbox) (sent place) ∙ passed_outbox peer (sent_out done.sends.items links) place))
+            (λ place none. ap (λ (n : Node T g). (links_of n place).outbox) node ∙ (ap (λ (l : Link). l.outbox) (sent place) ∙ passed_outbox peer (sent_out (listed_of done.sends) links) place))
             (λ place. inl refl)
-            (λ place. taken_unread peer links (sent_out done.sends.items links) is.body (λ other. refl) is.front place
+            (λ place. taken_unread peer links (sent_out (listed_of done.sends) links) is.body (λ other. refl) is.front place
             ∙ (ap (λ (l : Link). cond (is_from place (Took peer (stamped_of packet))) (take (4 + length is.body) (links peer).unread) [] ++ l.unread) (sym (sent place))
             ∙ ap (λ (n : Node T g). cond (is_from place (Took peer (stamped_of packet))) (take (4 + length is.body) (links peer).unread) [] ++ (links_of n place).unread) (sym node)))
             (λ place. ap (λ (n : Node T g). (links_of n place).damaged) node
-            ∙ (ap (λ (l : Link). l.damaged) (sent place) ∙ marks_kept peer passed (λ l. refl) (sent_out done.sends.items links) place))
+            ∙ (ap (λ (l : Link). l.damaged) (sent place) ∙ marks_kept peer passed (λ l. refl) (sent_out (listed_of done.sends) links) place))
             (λ place. untaken_of peer links packet act.came place next);
       }
 
   -- an action was made, and that was logged
-  pub action_acts : (a b : LinkedNode T L I g) (m : Node T g) (action : Action) (done : Done)
+  pub action_acts : (a b : LinkedNode T L I g) (m : Node T g) (action : Action) (done : FramedDone)
       → ComesInRoom (names_of (held_by (node_of a)))
       (step_act (nodes_of (held_by (node_of a))) (ports_of (held_by (node_of a))) action (state_of (held_by (node_of a))))
       (Ok done) (state_of (held_by m)) (answers_of (held_by (node_of a))) (answers_of (held_by m))
-      → AreSendable (names_of (held_by (node_of a))) done.sends.items → AreSmallFrames done.sends.items
-      → ((place : ℕ) → links_of m place ≡ sent_out done.sends.items (links_of (node_of a)) place)
+      → AreSendable (names_of (held_by (node_of a))) (listed_of done.sends) → AreSmallFrames (listed_of done.sends)
+      → ((place : ℕ) → links_of m place ≡ sent_out (listed_of done.sends) (links_of (node_of a)) place)
       → names_of (held_by m) ≡ names_of (held_by (node_of a)) → ports_of (held_by m) ≡ ports_of (held_by (node_of a))
       → node_of b ≡ m → log_of b ≡ log_of a ++ ((state_of (held_by m)).clock, event_of (Did action)) ∷ [] → peers_of b ≡ peers_of a
       → ActsOnce accepts gives (λ input. input ≡ Did action) a b
@@ -302,7 +301,7 @@ module _ {T L I : Type 0} {g : Ghosts T} (accepts : L → List ℕ → L → Typ
       let happened = happened_by (names_of (held_by (node_of a)))
       (step_act (nodes_of (held_by (node_of a))) (ports_of (held_by (node_of a))) action (state_of (held_by (node_of a))))
       done (state_of (held_by m)) (answers_of (held_by (node_of a))) (answers_of (held_by m)) came in
-      let act : Act = record { input = Did action; turn = happened.turn; sends = done.sends.items; came = [] } in
+      let act : Act = record { input = Did action; turn = happened.turn; sends = (listed_of done.sends); came = [] } in
       let held = ap held_by node in record {
         act = act;
         wanted = refl;
@@ -325,7 +324,7 @@ module _ {T L I : Type 0} {g : Ghosts T} (accepts : L → List ℕ → L → Typ
       }
 
   -- the loss of a peer was seen, and that was logged
-  pub loss_acts : (a b : LinkedNode T L I g) (m : Node T g) (peer last : ℕ) (done : Done) → peer + 1 < length (names_of (held_by (node_of a)))
+  pub loss_acts : (a b : LinkedNode T L I g) (m : Node T g) (peer last : ℕ) (done : FramedDone) → peer + 1 < length (names_of (held_by (node_of a)))
       → Comes (names_of (held_by (node_of a))) (told_of_loss (node_of a) peer last) (Ok done) (state_of (held_by m)) (answers_of (held_by (node_of a))) (answers_of (held_by m))
       → links_of m ≡ at_link peer closed (links_of (node_of a))
       → names_of (held_by m) ≡ names_of (held_by (node_of a)) → ports_of (held_by m) ≡ ports_of (held_by (node_of a))
@@ -369,7 +368,7 @@ drained_by true drained rest turn made = absurd (cc)
 drained_by false true rest turn made = refl
 drained_by false false rest turn made = absurd (cc)
 
-pub was_drained : {T : Type 0} {g : Ghosts T} (node : Node T g) (peer last : ℕ) (done : Done) (s : Timed State) (before after : ℕ → List Answer)
+pub was_drained : {T : Type 0} {g : Ghosts T} (node : Node T g) (peer last : ℕ) (done : FramedDone) (s : Timed State) (before after : ℕ → List Answer)
     → Comes (names_of (held_by node)) (told_of_loss node peer last) (Ok done) s before after → is_drained (links_of node peer) ≡ true
 was_drained node peer last done s before after came =
     let happened = happened_by (names_of (held_by node)) (told_of_loss node peer last) done s before after came in

@@ -1,4 +1,5 @@
 pub mod Announcing
+pub mod FrameLaws
 pub mod Nobody
 pub mod Sendables
 pub mod Sent

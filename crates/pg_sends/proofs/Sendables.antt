@@ -1,17 +1,19 @@
 -- What is sent to the marked peers can be sent.
-use Rattle.std.proofs.Common.{◌≡◌, ℕ, zero, suc, ◌+◌, ◌<◌, ◌≤◌, Bool, true, false, cond}
+use Rattle.std.proofs.Common.{◌≡◌, ◌⊎◌, inl, inr, ℕ, zero, suc, ◌+◌, ◌<◌, ◌≤◌, Bool, true, false, cond}
 use Rattle.std.proofs.Common.{get_or, length, List, [], ◌∷◌, ◌++◌, refl, sym, subst, ◌∙◌, arith}
 use Rattle.std.specs.List.{AllByRecursion}
+use Rattle.std.proofs.Math.Nat.{eq-or-lt_of_le}
 use Rattle.pg_message.specs.declared.message.Message.{Message}
 use Rattle.pg_message.specs.declared.packet.Packet.{Packet}
 use Rattle.pg_message.specs.declared.packet.TheConstants.{MAX_STAMP}
 use Rattle.pg_message.specs.Writing.{is_exchange, is_sayable}
 use Rattle.pg_step.specs.Nodes.{Node}
 use Rattle.pg_sends.specs.declared.orders.Order.{Order}
-use Rattle.pg_sends.specs.declared.orders.Order.TheVariants.{Lock, Free, Change, End}
+use Rattle.pg_sends.specs.declared.orders.Order.TheVariants.{Lock, Free, Change, End, Reply}
 use Rattle.pg_sends.specs.Orders.{message_of}
 use Rattle.pg_sends.specs.Sendable.{IsSendable, Ascends, AreOnePacket, AreSendable}
-use Rattle.pg_sends.proofs.Sent.{sent_below, and_nothing}
+use Rattle.pg_sends.specs.Marked.{sent_below}
+use Rattle.pg_sends.proofs.Sent.{and_nothing}
 
 -- no order is an exchange
 pub order_small : (order : Order) → is_exchange (message_of order) ≡ false
@@ -19,6 +21,7 @@ order_small (Lock name reference) = refl
 order_small (Free name reference) = refl
 order_small (Change update reference) = refl
 order_small (End pid) = refl
+order_small (Reply reference said) = refl
 
 -- nothing is sent
 pub nothing_sendable : (names : List Node) (sends : List (ℕ × Packet)) → sends ≡ [] → AreSendable names sends
@@ -103,3 +106,40 @@ module _ (names : List Node) (clock : ℕ) (message : Message) (goes : List Bool
 
       before : (n k : ℕ) → suc n + 1 ≤ k → n + 1 ≤ k
       before n k l = omega (arith, l)
+
+-- what holds of a packet to each peer holds of those to the marked
+pub each_below : (P : ℕ × Packet → Type 0) (clock : ℕ) (message : Message) (goes : List Bool) → ((k : ℕ) → P (k, record { stamp = clock; message = message })) → (n : ℕ)
+    → AllByRecursion P (sent_below clock message goes n)
+each_below P clock message goes holds zero = tt
+each_below P clock message goes holds (suc n) = go (get_or goes n false) (sent_below clock message goes n) (each_below P clock message goes holds n)
+  where
+    go : (b : Bool) (xs : List (ℕ × Packet)) → AllByRecursion P xs → AllByRecursion P (xs ++ cond b ((n, record { stamp = clock; message = message }) ∷ []) [])
+    go true [] all = (holds n, tt)
+    go false [] all = tt
+    go b (x ∷ xs) all = (all.0, go b xs all.1)
+
+-- what holds of the packets to the marked holds of the one to each of them
+pub below_has : (P : ℕ × Packet → Type 0) (clock : ℕ) (message : Message) (goes : List Bool) (n k : ℕ) → k < n → get_or goes k false ≡ true
+    → AllByRecursion P (sent_below clock message goes n) → P (k, record { stamp = clock; message = message })
+below_has P clock message goes zero k l marked all = absurd (nowhere k l)
+  where
+    nowhere : (k : ℕ) → k < zero → ⊥
+    nowhere k l = omega arith
+below_has P clock message goes (suc n) k l marked all = go (eq-or-lt_of_le (at_most k n l)) (λ h. below_has P clock message goes n k h marked)
+  where
+    at_most : (k n : ℕ) → k < suc n → k ≤ n
+    at_most k n l = omega arith
+
+    first : (b : Bool) (xs : List (ℕ × Packet)) → AllByRecursion P (xs ++ cond b ((n, record { stamp = clock; message = message }) ∷ []) []) → AllByRecursion P xs
+    first b [] held = tt
+    first b (x ∷ xs) held = (held.0, first b xs held.1)
+
+    last : (b : Bool) (xs : List (ℕ × Packet)) → b ≡ true → AllByRecursion P (xs ++ cond b ((n, record { stamp = clock; message = message }) ∷ []) []) → P (n, record { stamp = clock; message = message })
+    last true [] e held = held.0
+    last false [] e held = absurd (cc)
+    last b (x ∷ xs) e held = last b xs e held.1
+
+    go : (k ≡ n) ⊎ (k < n) → (k < n → AllByRecursion P (sent_below clock message goes n) → P (k, record { stamp = clock; message = message })) → P (k, record { stamp = clock; message = message })
+    go (inl e) earlier = subst (λ (j : ℕ). P (j, record { stamp = clock; message = message })) (sym e)
+        (last (get_or goes n false) (sent_below clock message goes n) (subst (λ (j : ℕ). get_or goes j false ≡ true) e marked) all)
+    go (inr h) earlier = earlier h (first (get_or goes n false) (sent_below clock message goes n) all)

@@ -12,25 +12,15 @@ use Rattle.pg_message.specs.declared.packet.Packet.{Packet}
 use Rattle.pg_machine.specs.Clocked.{Stamped, stamped}
 use Rattle.pg_multicall.specs.Places.{has_of}
 use Rattle.pg_multicall.specs.declared.places.Places.{Places}
-use Rattle.pg_step.specs.Nodes.{Node, is_peer}
+use Rattle.pg_step.specs.Nodes.{Node, is_peer, to_one}
 use Rattle.pg_opens.specs.Places.{name_at, lost_in, live_in}
 use Rattle.pg_opens.proofs.Named.{atom_self, atom_other, names_differ, reads_at}
 use Rattle.pg_opens.proofs.Named.{reads_nobody, place_cases, any_filtered}
-use Rattle.pg_sends.specs.Marked.{is_marked}
-use Rattle.pg_sends.specs.Marked.{marks_of}
+use Rattle.pg_sends.specs.Marked.{is_marked, marks_of, one_sent, sent_below}
 use Rattle.pg_sends.specs.Sent.{stamped_of, sends_in}
 
 next : (k : ℕ) → k + 1 ≡ suc k
 next k = omega arith
-
--- a packet to the peer at a place, where it is marked
-abbrev pub one_sent : ℕ → Message → List Bool → ℕ → List (ℕ × Packet)
-one_sent clock message goes n = cond (get_or goes n false) ((n, record { stamp = clock; message = message }) ∷ []) []
-
--- the packets to the marked peers at the places below n
-abbrev pub sent_below : ℕ → Message → List Bool → ℕ → List (ℕ × Packet)
-sent_below clock message goes zero = []
-sent_below clock message goes (suc n) = sent_below clock message goes n ++ one_sent clock message goes n
 
 pub sent_next : (clock : ℕ) (message : Message) (goes : List Bool) (n : ℕ) → sent_below clock message goes (n + 1) ≡ sent_below clock message goes n ++ one_sent clock message goes n
 sent_next clock message goes n = ap (sent_below clock message goes) (next n)
@@ -195,6 +185,35 @@ mark_at goes (suc n) k l = go (mark_at goes n k) (eq-or-lt_of_le (at_most k n l)
     go earlier (inl e) = get_or_push (marks_of goes n) (has_of goes n) false k (length_marks goes n ∙ sym e) ∙ ap (has_of goes) (sym e)
     go earlier (inr h) = get_or_append_left (marks_of goes n) (has_of goes n ∷ []) false k (before k n (length (marks_of goes n)) (length_marks goes n) h) ∙ earlier h
 
+-- the packets to the marked of so many peers
+pub marked_sent_below : (names : List Node) (clock : ℕ) (message : Message) (goes : Places) (peers : ℕ) → IsDistinct same_atom names → peers + 1 ≡ length names
+    → sends_in names (sent_below clock message (marks_of goes peers) peers) ≡ (λ q. stamped clock (cond (is_marked names (marks_of goes peers) q) (message ∷ []) []))
+marked_sent_below names clock message goes peers apart same =
+    ap (λ n. sends_in names (sent_below clock message (marks_of goes peers) n)) (sym (length_marks goes peers))
+    ∙ all_sent names clock message (marks_of goes peers) apart (ap (λ n. n + 1) (length_marks goes peers) ∙ same)
+
+-- one packet to a peer
+pub one_sent_to : (names : List Node) (peer : ℕ) (packet : Packet) → sends_in names ((peer, packet) ∷ []) ≡ (λ q. stamped packet.stamp (to_one (name_at names (peer + 1)) packet.message q))
+one_sent_to names peer packet = fun_ext (λ q. go (same_atom (name_at names (peer + 1)) q))
+  where
+    go : (b : Bool) → cond b (stamped_of packet ∷ []) [] ++ [] ≡ stamped packet.stamp (cond b (packet.message ∷ []) [])
+    go true = refl
+    go false = refl
+
+-- nobody is marked
+pub nobody_marked : (clock : ℕ) (message : Message) (goes : Places) → ((peer : ℕ) → has_of goes peer ≡ false) → (peers n : ℕ) → n ≤ peers → sent_below clock message (marks_of goes peers) n ≡ []
+nobody_marked clock message goes none peers zero within = refl
+nobody_marked clock message goes none peers (suc n) within = go (nobody_marked clock message goes none peers n (before n peers within))
+  where
+    before : (n m : ℕ) → suc n ≤ m → n ≤ m
+    before n m l = omega arith
+
+    last : (n m : ℕ) → suc n ≤ m → n < m
+    last n m l = omega arith
+
+    go : sent_below clock message (marks_of goes peers) n ≡ [] → sent_below clock message (marks_of goes peers) n ++ one_sent clock message (marks_of goes peers) n ≡ []
+    go earlier = λ i. earlier i ++ cond ((mark_at goes peers n (last n peers within) ∙ none n) i) ((n, record { stamp = clock; message = message }) ∷ []) []
+
 -- one more place was looked at
 pub sent_more : (clock : ℕ) (message : Message) (goes : Places) (peers n : ℕ) (b : Bool) (sends : List (ℕ × Packet)) → n < peers → b ≡ has_of goes n
     → sends ≡ sent_below clock message (marks_of goes peers) n
@@ -202,6 +221,19 @@ pub sent_more : (clock : ℕ) (message : Message) (goes : Places) (peers n : ℕ
 sent_more clock message goes peers n b sends l is before =
     (λ i. before i ++ cond ((is ∙ sym (mark_at goes peers n l)) i) ((n, record { stamp = clock; message = message }) ∷ []) [])
     ∙ sym (sent_next clock message (marks_of goes peers) n)
+
+-- one more is counted, where it is marked
+pub count_more : (clock : ℕ) (message : Message) (goes : Places) (peers n count : ℕ) (b : Bool) → n < peers → b ≡ has_of goes n
+    → count ≡ length (sent_below clock message (marks_of goes peers) n)
+    → cond b (count + 1) count ≡ length (sent_below clock message (marks_of goes peers) (n + 1))
+count_more clock message goes peers n count b l is before = go b ∙ ap (λ (ys : List (ℕ × Packet)). length ys) (sent_more clock message goes peers n b xs l is refl)
+  where
+    xs : List (ℕ × Packet)
+    xs = sent_below clock message (marks_of goes peers) n
+
+    go : (b : Bool) → cond b (count + 1) count ≡ length (xs ++ cond b ((n, record { stamp = clock; message = message }) ∷ []) [])
+    go true = ap (λ m. m + 1) before ∙ sym (length_push xs (n, record { stamp = clock; message = message }))
+    go false = before ∙ sym (ap (λ (ys : List (ℕ × Packet)). length ys) (and_nothing xs))
 
 -- of each peer at a place below this one it is marked where it passes a test
 abbrev pub AreMarks : (Node → Bool) → List Node → Places → ℕ → Type 0

@@ -13,7 +13,17 @@ pub record IsSmallFrame (packet : Packet) : Type 0 where
   pub read : packet_spelled (written (term_of_packet packet)) ≡ Ok packet
   pub small : length (frame_of packet) ≤ 4 + MAX_SMALL_LEN
 
--- the same of packets that go to places
+-- these bytes are the frame of a packet, a small one
+pub record IsFrame (frame : List ℕ) (packet : Packet) : Type 0 where
+  pub is : frame ≡ frame_of packet
+  pub small : IsSmallFrame packet
+
+-- the frame of a small packet is appended
+pub record IsAppended (before after : List ℕ) (packet : Packet) : Type 0 where
+  pub items : after ≡ before ++ frame_of packet
+  pub small : IsSmallFrame packet
+
+-- packets that go to places are small
 abbrev pub AreSmallFrames : List (ℕ × Packet) → Type 0
 AreSmallFrames sends = AllByRecursion (λ sent. IsSmallFrame sent.1) sends
 

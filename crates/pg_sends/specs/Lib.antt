@@ -1,4 +1,7 @@
+pub mod Dones
+pub mod Framed
 pub mod Frames
+pub mod Going
 pub mod Marked
 pub mod Opening
 pub mod Orders

@@ -1,5 +1,7 @@
--- Peers that are marked, by their places.
-use Rattle.std.specs.Prelude.{ℕ, zero, suc, Bool, false, drop, List, [], ◌∷◌, ◌++◌}
+-- Peers that are marked, by their places, and the packets to them.
+use Rattle.std.specs.Prelude.{ℕ, zero, suc, Bool, false, cond, drop, get_or, List, [], ◌∷◌, ◌++◌}
+use Rattle.pg_message.specs.declared.message.Message.{Message}
+use Rattle.pg_message.specs.declared.packet.Packet.{Packet}
 use Rattle.pg_multicall.specs.Places.{has_of}
 use Rattle.pg_multicall.specs.declared.places.Places.{Places}
 use Rattle.pg_opens.specs.Places.{reads}
@@ -13,3 +15,12 @@ is_marked names marks = reads (λ mark. mark) false (drop 1 names) marks
 abbrev pub marks_of : Places → ℕ → List Bool
 marks_of places zero = []
 marks_of places (suc n) = marks_of places n ++ has_of places n ∷ []
+
+-- a packet to the peer at a place, where it is marked
+abbrev pub one_sent : ℕ → Message → List Bool → ℕ → List (ℕ × Packet)
+one_sent clock message goes n = cond (get_or goes n false) ((n, record { stamp = clock; message = message }) ∷ []) []
+
+-- the packets to the marked peers at the places below n
+abbrev pub sent_below : ℕ → Message → List Bool → ℕ → List (ℕ × Packet)
+sent_below clock message goes zero = []
+sent_below clock message goes (suc n) = sent_below clock message goes n ++ one_sent clock message goes n

@@ -20,9 +20,9 @@ ghost use Rattle.pg_message.specs.declared.packet.TheConstants.{MAX_STAMP};
 
 use crate::done::Done;
 use crate::orders::{Order, own_under};
+use crate::outgoing::Outgoing;
 use crate::sends::{to_asked, to_granted, to_live};
 use pg_group::Update;
-use pg_message::Packet;
 use pg_opens::Opens;
 use pg_step::OpId;
 use std::alloc::{AllocError, Global};
@@ -30,16 +30,21 @@ use std::alloc::{AllocError, Global};
 /// An attempt is given up: each peer that granted frees the lock.
 ///
 /// Errors: `AllocError`.
-pub fn freed(alloc: Global, clock: u32, opens: &Opens, number: u32) -> Result<Done, AllocError>
+pub fn freed<S: Outgoing + Drop>(
+    alloc: Global,
+    clock: u32,
+    opens: &Opens,
+    number: u32,
+) -> Result<Done<S>, AllocError>
     requires locking { is_locking (uses_of opens.now number) ≡ true }
     requires within { clock ≤ MAX_STAMP }
     requires named { (update : Update) → update_of (uses_of opens.now number) ≡ Some update → is_name (name_of update) ≡ true }
     ensures sends { (op : OpId) (update : Update) (first : Node) (st : Node → Status) → uses_of opens.now number ≡ Locking op update first st
-        → IfOk result (λ done. sends_in (names_of opens.now) done.sends.items ≡ (λ q. stamped clock (to_peers (live_of opens.now)
+        → IfOk result (λ done. sends_in (names_of opens.now) (S.listed done.sends) ≡ (λ q. stamped clock (to_peers (live_of opens.now)
         (λ q. is_yes (st q)) (messages.DelLock (name_of update) (own_reference (live_of opens.now) number)) q))) }
     ensures began { IfOk result (λ done. done.began ≡ None) }
     ensures odd { IfOk result (λ done. done.odd ≡ None) }
-    ensures fits { IfOk result (λ done. AreSendable (names_of opens.now) done.sends.items) }
+    ensures fits { IfOk result (λ done. AreSendable (names_of opens.now) (S.listed done.sends)) }
 {
     let update = update_under(opens, number);
     let order = Order::Free(update.name(), own_under(opens, number));
@@ -50,16 +55,21 @@ pub fn freed(alloc: Global, clock: u32, opens: &Opens, number: u32) -> Result<Do
 /// The rest is asked for the lock.
 ///
 /// Errors: `AllocError`.
-pub fn asked(alloc: Global, clock: u32, opens: &Opens, number: u32) -> Result<Done, AllocError>
+pub fn asked<S: Outgoing + Drop>(
+    alloc: Global,
+    clock: u32,
+    opens: &Opens,
+    number: u32,
+) -> Result<Done<S>, AllocError>
     requires locking { is_locking (uses_of opens.now number) ≡ true }
     requires within { clock ≤ MAX_STAMP }
     requires named { (update : Update) → update_of (uses_of opens.now number) ≡ Some update → is_name (name_of update) ≡ true }
     ensures sends { (op : OpId) (update : Update) (first : Node) (st : Node → Status) → uses_of opens.now number ≡ Locking op update first st
-        → IfOk result (λ done. sends_in (names_of opens.now) done.sends.items ≡ (λ q. stamped clock (to_peers (live_of opens.now)
+        → IfOk result (λ done. sends_in (names_of opens.now) (S.listed done.sends) ≡ (λ q. stamped clock (to_peers (live_of opens.now)
         (asks (λ q. true) st) (messages.Call (own_reference (live_of opens.now) number) (requests.SetLock (name_of update))) q))) }
     ensures began { IfOk result (λ done. done.began ≡ None) }
     ensures odd { IfOk result (λ done. done.odd ≡ None) }
-    ensures fits { IfOk result (λ done. AreSendable (names_of opens.now) done.sends.items) }
+    ensures fits { IfOk result (λ done. AreSendable (names_of opens.now) (S.listed done.sends)) }
 {
     let update = update_under(opens, number);
     let order = Order::Lock(update.name(), own_under(opens, number));
@@ -70,23 +80,23 @@ pub fn asked(alloc: Global, clock: u32, opens: &Opens, number: u32) -> Result<Do
 /// The update goes to every live peer, under the next reference.
 ///
 /// Errors: `AllocError`.
-pub fn begun(
+pub fn begun<S: Outgoing + Drop>(
     alloc: Global,
     clock: u32,
     opens: &Opens,
     number: u32,
     op: OpId,
-) -> Result<Done, AllocError>
+) -> Result<Done<S>, AllocError>
     requires locking { is_locking (uses_of opens.now number) ≡ true }
     requires within { clock ≤ MAX_STAMP }
     requires named { (update : Update) → update_of (uses_of opens.now number) ≡ Some update → is_name (name_of update) ≡ true }
     requires next { references_of opens.now + 1 < 2 ^ 32 }
     ensures sends { (other : OpId) (update : Update) (first : Node) (st : Node → Status) → uses_of opens.now number ≡ Locking other update first st
-        → IfOk result (λ done. sends_in (names_of opens.now) done.sends.items ≡ (λ q. stamped clock (to_peers (live_of opens.now)
+        → IfOk result (λ done. sends_in (names_of opens.now) (S.listed done.sends) ≡ (λ q. stamped clock (to_peers (live_of opens.now)
         (λ q. true) (messages.Call (own_reference (live_of opens.now) (references_of opens.now + 1)) (requests.Change update)) q))) }
     ensures began { (update : Update) → update_of (uses_of opens.now number) ≡ Some update → IfOk result (λ done. done.began ≡ Some (op, update)) }
     ensures odd { IfOk result (λ done. done.odd ≡ None) }
-    ensures fits { IfOk result (λ done. AreSendable (names_of opens.now) done.sends.items) }
+    ensures fits { IfOk result (λ done. AreSendable (names_of opens.now) (S.listed done.sends)) }
 {
     let update = update_under(opens, number);
     let call = own_under(opens, opens.references() + 1);
@@ -103,22 +113,22 @@ pub fn begun(
 /// The command ends: every live peer frees the lock. `lock`: the number of its reference.
 ///
 /// Errors: `AllocError`.
-pub fn ended(
+pub fn ended<S: Outgoing + Drop>(
     alloc: Global,
     clock: u32,
     opens: &Opens,
     number: u32,
     lock: u32,
-) -> Result<Done, AllocError>
+) -> Result<Done<S>, AllocError>
     requires updating { is_updating (uses_of opens.now number) ≡ true }
     requires within { clock ≤ MAX_STAMP }
     requires named { (update : Update) → update_of (uses_of opens.now number) ≡ Some update → is_name (name_of update) ≡ true }
     ensures sends { (op : OpId) (update : Update) (holder : ℕ) (replied : Node → Bool) → uses_of opens.now number ≡ Updating op update holder replied
-        → IfOk result (λ done. sends_in (names_of opens.now) done.sends.items ≡ (λ q. stamped clock (to_peers (live_of opens.now)
+        → IfOk result (λ done. sends_in (names_of opens.now) (S.listed done.sends) ≡ (λ q. stamped clock (to_peers (live_of opens.now)
         (λ q. true) (messages.DelLock (name_of update) (own_reference (live_of opens.now) lock)) q))) }
     ensures began { IfOk result (λ done. done.began ≡ None) }
     ensures odd { IfOk result (λ done. done.odd ≡ None) }
-    ensures fits { IfOk result (λ done. AreSendable (names_of opens.now) done.sends.items) }
+    ensures fits { IfOk result (λ done. AreSendable (names_of opens.now) (S.listed done.sends)) }
 {
     let update = update_under(opens, number);
     let order = Order::Free(update.name(), own_under(opens, lock));
@@ -127,8 +137,8 @@ pub fn ended(
 }
 
 /// What a turn sends, with no odd reply.
-pub fn done_with(sends: Vec<(usize, Packet)>, began: Option<(OpId, Update)>) -> Done
-    ensures sends { result.sends.items ≡ sends.items }
+pub fn done_with<S: Outgoing + Drop>(sends: S, began: Option<(OpId, Update)>) -> Done<S>
+    ensures sends { S.listed result.sends ≡ S.listed sends }
     ensures began { result.began ≡ began }
     ensures odd { result.odd ≡ None }
 {

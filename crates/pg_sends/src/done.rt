@@ -1,35 +1,37 @@
-ghost use Rattle.std.specs.Prelude.{◌≡◌};
+ghost use Rattle.std.specs.Prelude.{◌≡◌, ◌≤◌, length};
 
+use crate::outgoing::Outgoing;
 use pg_group::Update;
 use pg_message::Packet;
 use pg_step::{Odd, OpId};
 use std::alloc::Global;
 
-/// What an event did beside its change of the state.
+/// What an event did beside its change of the state. `S`: the form in which it sends.
 #[derive(Debug, Drop)]
-pub struct Done {
+pub struct Done<S: Outgoing = Vec<(usize, Packet)>> {
     /// The packets that it sends, each to a peer by its place among the peers.
-    pub sends: Vec<(usize, Packet)>,
+    pub sends: S,
     /// The command that got its last grant, with its update.
     pub began: Option<(OpId, Update)>,
     /// A reply that completed nothing.
     pub odd: Option<Odd>,
+    ghost counted: { 0 ≤ length (S.listed sends) },
 }
 
-impl Done {
+impl<S: Outgoing> Done<S> {
     ghost use Rattle.std.specs.Prelude.{List, [], None};
     ghost use Rattle.pg_step.specs.Nodes.{Node};
     ghost use Rattle.pg_sends.specs.Sendable.{AreSendable};
 
     /// Nothing is sent, and nothing began. It takes no memory.
-    pub fn nothing(alloc: Global) -> Done
-        ensures sends { result.sends.items ≡ [] }
+    pub fn nothing(alloc: Global) -> Done<S>
+        ensures sends { S.listed result.sends ≡ [] }
         ensures began { result.began ≡ None }
         ensures odd { result.odd ≡ None }
-        ensures fits { (names : List Node) → AreSendable names result.sends.items }
+        ensures fits { (names : List Node) → AreSendable names (S.listed result.sends) }
     {
         Done {
-            sends: Vec::new(alloc),
+            sends: S::nothing(alloc),
             began: None,
             odd: None,
         }

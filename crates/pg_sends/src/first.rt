@@ -21,6 +21,7 @@ ghost use Rattle.pg_sends.specs.Sent.{sends_in};
 use crate::calls::done_with;
 use crate::done::Done;
 use crate::orders::{Order, own_under};
+use crate::outgoing::Outgoing;
 use crate::sends::{to_live, to_place};
 use pg_group::Update;
 use pg_opens::Opens;
@@ -30,13 +31,13 @@ use std::alloc::{AllocError, Global};
 /// The node at a place is asked, under the next reference.
 ///
 /// Errors: `AllocError`.
-pub fn first_asked(
+pub fn first_asked<S: Outgoing + Drop>(
     alloc: Global,
     clock: u32,
     opens: &Opens,
     op: OpId,
     first: usize,
-) -> Result<Done, AllocError>
+) -> Result<Done<S>, AllocError>
     requires waits { stage_seen (stages_of opens.now op) ≡ seen.Waiting }
     requires next { references_of opens.now + 1 < 2 ^ 32 }
     requires place { first < length (names_of opens.now) }
@@ -44,11 +45,11 @@ pub fn first_asked(
     requires within { clock ≤ MAX_STAMP }
     requires named { (update : Update) → stages_of opens.now op ≡ Waiting update → is_name (name_of update) ≡ true }
     ensures sends { (update : Update) → stages_of opens.now op ≡ Waiting update
-        → IfOk result (λ done. sends_in (names_of opens.now) done.sends.items ≡ (λ q. stamped clock (to_one (name_at (names_of opens.now) first)
+        → IfOk result (λ done. sends_in (names_of opens.now) (S.listed done.sends) ≡ (λ q. stamped clock (to_one (name_at (names_of opens.now) first)
         (messages.Call (own_reference (live_of opens.now) (references_of opens.now + 1)) (requests.SetLock (name_of update))) q))) }
     ensures began { IfOk result (λ done. done.began ≡ None) }
     ensures odd { IfOk result (λ done. done.odd ≡ None) }
-    ensures fits { IfOk result (λ done. AreSendable (names_of opens.now) done.sends.items) }
+    ensures fits { IfOk result (λ done. AreSendable (names_of opens.now) (S.listed done.sends)) }
 {
     let name = waiting_under(opens, op).name();
     let lock = own_under(opens, opens.references() + 1);
@@ -59,17 +60,22 @@ pub fn first_asked(
 /// Every peer that counts is asked, under the next reference.
 ///
 /// Errors: `AllocError`.
-pub fn all_asked(alloc: Global, clock: u32, opens: &Opens, op: OpId) -> Result<Done, AllocError>
+pub fn all_asked<S: Outgoing + Drop>(
+    alloc: Global,
+    clock: u32,
+    opens: &Opens,
+    op: OpId,
+) -> Result<Done<S>, AllocError>
     requires waits { stage_seen (stages_of opens.now op) ≡ seen.Waiting }
     requires next { references_of opens.now + 1 < 2 ^ 32 }
     requires within { clock ≤ MAX_STAMP }
     requires named { (update : Update) → stages_of opens.now op ≡ Waiting update → is_name (name_of update) ≡ true }
     ensures sends { (update : Update) → stages_of opens.now op ≡ Waiting update
-        → IfOk result (λ done. sends_in (names_of opens.now) done.sends.items ≡ (λ q. stamped clock (to_peers (live_of opens.now)
+        → IfOk result (λ done. sends_in (names_of opens.now) (S.listed done.sends) ≡ (λ q. stamped clock (to_peers (live_of opens.now)
         (λ q. true) (messages.Call (own_reference (live_of opens.now) (references_of opens.now + 1)) (requests.SetLock (name_of update))) q))) }
     ensures began { IfOk result (λ done. done.began ≡ None) }
     ensures odd { IfOk result (λ done. done.odd ≡ None) }
-    ensures fits { IfOk result (λ done. AreSendable (names_of opens.now) done.sends.items) }
+    ensures fits { IfOk result (λ done. AreSendable (names_of opens.now) (S.listed done.sends)) }
 {
     let name = waiting_under(opens, op).name();
     let lock = own_under(opens, opens.references() + 1);
@@ -80,16 +86,20 @@ pub fn all_asked(alloc: Global, clock: u32, opens: &Opens, op: OpId) -> Result<D
 /// The update of a command that waits begins, and nobody is sent anything.
 ///
 /// Errors: `AllocError`.
-pub fn began_alone(alloc: Global, opens: &Opens, op: OpId) -> Result<Done, AllocError>
+pub fn began_alone<S: Outgoing + Drop>(
+    alloc: Global,
+    opens: &Opens,
+    op: OpId,
+) -> Result<Done<S>, AllocError>
     requires waits { stage_seen (stages_of opens.now op) ≡ seen.Waiting }
-    ensures sends { IfOk result (λ done. done.sends.items ≡ []) }
+    ensures sends { IfOk result (λ done. S.listed done.sends ≡ []) }
     ensures began { (update : Update) → stages_of opens.now op ≡ Waiting update → IfOk result (λ done. done.began ≡ Some (op, update)) }
     ensures odd { IfOk result (λ done. done.odd ≡ None) }
-    ensures fits { (names : List Node) → IfOk result (λ done. AreSendable names done.sends.items) }
+    ensures fits { (names : List Node) → IfOk result (λ done. AreSendable names (S.listed done.sends)) }
 {
     let update = waiting_under(opens, op).copy(alloc)?;
     Ok(Done {
-        sends: Vec::new(alloc),
+        sends: S::nothing(alloc),
         began: Some((op, update)),
         odd: None,
     })

@@ -1,15 +1,17 @@
-//! What a node sends its peers for a command of its own, by what it names.
+//! What a node sends its peers, by what it names.
 
 ghost use Rattle.std.specs.Prelude.{◌≡◌, IfOk};
 ghost use Rattle.pg_opens.specs.Opens.{live_of};
 ghost use Rattle.pg_step.specs.Attempts.{own_reference};
+ghost use Rattle.pg_writer.specs.Told.{reference_lent};
 ghost use Rattle.pg_sends.specs.Orders.{message_of, reference_in};
 
 use pg_group::Update;
-use pg_message::{Message, Request};
+use pg_message::{Message, Request, Said};
 use pg_opens::Opens;
-use pg_refs::reference_of;
+use pg_refs::{reference_of, words_of};
 use pg_term::{Atom, Pid, Reference, Term};
+use pg_writer::Mark;
 use std::alloc::{AllocError, Global};
 
 /// A reference of a node by its number. It is made where it goes.
@@ -21,7 +23,7 @@ pub struct Numbered<'a> {
     pub number: u32,
 }
 
-impl Numbered<'_> {
+impl<'a> Numbered<'a> {
     /// The reference. A copy of the name of the node.
     ///
     /// Errors: `AllocError`.
@@ -29,6 +31,13 @@ impl Numbered<'_> {
         ensures { IfOk result (λ reference. reference ≡ reference_in self.entry) }
     {
         reference_of(self.node, self.number)
+    }
+
+    /// The reference, lent to a writer by its parts. It takes no memory.
+    pub(crate) fn lent(self) -> Mark<'a>
+        ensures { reference_lent result ≡ reference_in self.entry }
+    {
+        Mark::Parts(self.node, 1, words_of(self.number))
     }
 }
 
@@ -42,7 +51,7 @@ pub fn own_under(opens: &Opens, number: u32) -> Numbered<'_>
     }
 }
 
-/// What a node sends its peers for a command of its own.
+/// What a node sends its peers: for a command of its own, or as the answer to one of theirs.
 #[derive(Clone, Copy)]
 pub enum Order<'a> {
     /// The lock of a name is asked for, under a reference.
@@ -53,6 +62,8 @@ pub enum Order<'a> {
     Change(&'a Update, Numbered<'a>),
     /// A process has ended.
     End(&'a Pid),
+    /// This is said to a call, by its reference.
+    Reply(&'a Reference, Said),
 }
 
 impl Order<'_> {
@@ -74,6 +85,7 @@ impl Order<'_> {
                 Message::Call(reference.made()?, Request::Change(update.copy(alloc)?))
             }
             Order::End(pid) => Message::Down(pid.copy()?),
+            Order::Reply(reference, said) => Message::Reply(reference.copy()?, *said),
         })
     }
 }

@@ -10,40 +10,34 @@ ghost use Rattle.pg_sends.specs.Sendable.{AreSendable};
 ghost use Rattle.pg_step.specs.Peers.{verdict};
 ghost use Rattle.pg_message.specs.declared.packet.TheConstants.{MAX_STAMP};
 
+use crate::calls::done_with;
 use crate::done::Done;
-use pg_message::{Message, Packet, Said};
+use crate::orders::Order;
+use crate::outgoing::Outgoing;
+use crate::sends::send_one;
+use pg_message::Said;
 use pg_term::Reference;
 use std::alloc::{AllocError, Global};
 
 /// A reply to a peer, and nothing else. `peer`: its place among the peers.
 ///
 /// Errors: `AllocError`.
-pub fn reply(
+pub fn reply<S: Outgoing + Drop>(
     alloc: Global,
     clock: u32,
     peer: usize,
     reference: &Reference,
     said: Said,
-) -> Result<Done, AllocError>
+) -> Result<Done<S>, AllocError>
     requires within { clock ≤ MAX_STAMP }
-    ensures sends { (names : List Node) → IfOk result (λ done. sends_in names done.sends.items
+    ensures sends { (names : List Node) → IfOk result (λ done. sends_in names (S.listed done.sends)
         ≡ (λ q. stamped clock (to_one (name_at names (peer + 1)) (messages.Reply reference.now said) q))) }
     ensures began { IfOk result (λ done. done.began ≡ None) }
     ensures odd { IfOk result (λ done. done.odd ≡ None) }
-    ensures fits { (names : List Node) → peer + 1 < length names → IfOk result (λ done. AreSendable names done.sends.items) }
+    ensures fits { (names : List Node) → peer + 1 < length names → IfOk result (λ done. AreSendable names (S.listed done.sends)) }
 {
-    let reference = reference.copy()?;
-    let mut sends = Vec::with_capacity(alloc, 1)?;
-    let packet = Packet {
-        stamp: clock,
-        message: Message::Reply(reference, said),
-    };
-    sends.push_reserved((peer, packet));
-    Ok(Done {
-        sends,
-        began: None,
-        odd: None,
-    })
+    let sends = send_one(alloc, clock, Order::Reply(reference, said), peer)?;
+    Ok(done_with(sends, None))
 }
 
 /// What is said to a request for a lock.

@@ -13,8 +13,7 @@ ghost use Rattle.pg_step.specs.Attempts.{asks, is_yes};
 ghost use Rattle.pg_opens.specs.Opens.{names_of, live_of, uses_of};
 ghost use Rattle.pg_opens.specs.Places.{name_at};
 ghost use Rattle.pg_opens.specs.Readings.{is_locking};
-ghost use Rattle.pg_sends.specs.Marked.{is_marked};
-ghost use Rattle.pg_sends.specs.Marked.{marks_of};
+ghost use Rattle.pg_sends.specs.Marked.{is_marked, marks_of, sent_below};
 ghost use Rattle.pg_sends.specs.Orders.{message_of};
 ghost use Rattle.pg_sends.specs.Sent.{sends_in};
 ghost use Rattle.pg_sends.specs.Sendable.{AreSendable};
@@ -22,6 +21,7 @@ ghost use Rattle.pg_message.specs.Writing.{is_sayable};
 ghost use Rattle.pg_message.specs.declared.packet.TheConstants.{MAX_STAMP};
 
 use crate::orders::Order;
+use crate::outgoing::Outgoing;
 use pg_marks::Asked;
 use pg_message::Packet;
 use pg_multicall::Places;
@@ -31,20 +31,20 @@ use std::alloc::{AllocError, Global};
 /// An order to each live peer. Its cost grows with the peers and the names.
 ///
 /// Errors: `AllocError`.
-pub fn to_live(
+pub fn to_live<S: Outgoing>(
     alloc: Global,
     clock: u32,
     order: Order<'_>,
     opens: &Opens,
-) -> Result<Vec<(usize, Packet)>, AllocError>
+) -> Result<S, AllocError>
     requires within { clock ≤ MAX_STAMP }
     requires named { is_sayable (message_of order) ≡ true }
-    ensures sends { IfOk result (λ sends. sends_in (names_of opens.now) sends.items
+    ensures sends { IfOk result (λ sends. sends_in (names_of opens.now) (S.listed sends)
         ≡ (λ q. stamped clock (to_peers (live_of opens.now) (λ q. true) (message_of order.entry) q))) }
-    ensures fits { IfOk result (λ sends. AreSendable (names_of opens.now) sends.items) }
+    ensures fits { IfOk result (λ sends. AreSendable (names_of opens.now) (S.listed sends)) }
 {
     let goes = live_peers(opens);
-    to_marked(alloc, clock, order, goes, peer_count(opens))
+    send_marked(alloc, clock, order, goes, peer_count(opens))
 }
 
 /// A copy of a packet to each live peer. Its cost grows with the peers and the packet.
@@ -66,90 +66,148 @@ pub fn copies_to_live(
 /// asked.
 ///
 /// Errors: `AllocError`.
-pub fn to_asked(
+pub fn to_asked<S: Outgoing>(
     alloc: Global,
     clock: u32,
     order: Order<'_>,
     opens: &Opens,
     number: u32,
-) -> Result<Vec<(usize, Packet)>, AllocError>
+) -> Result<S, AllocError>
     requires locking { is_locking (uses_of opens.now number) ≡ true }
     requires within { clock ≤ MAX_STAMP }
     requires named { is_sayable (message_of order) ≡ true }
     ensures sends { (op : OpId) (update : Update) (first : Node) (st : Node → Status)
         → uses_of opens.now number ≡ Locking op update first st
-        → IfOk result (λ sends. sends_in (names_of opens.now) sends.items
+        → IfOk result (λ sends. sends_in (names_of opens.now) (S.listed sends)
         ≡ (λ q. stamped clock (to_peers (live_of opens.now) (asks (λ q. true) st) (message_of order.entry) q))) }
-    ensures fits { IfOk result (λ sends. AreSendable (names_of opens.now) sends.items) }
+    ensures fits { IfOk result (λ sends. AreSendable (names_of opens.now) (S.listed sends)) }
 {
     let goes = asked_peers(opens, number);
-    to_marked(alloc, clock, order, goes, peer_count(opens))
+    send_marked(alloc, clock, order, goes, peer_count(opens))
 }
 
 /// An order to each live peer and has granted the lock that is asked for under the reference of this number.
 ///
 /// Errors: `AllocError`.
-pub fn to_granted(
+pub fn to_granted<S: Outgoing>(
     alloc: Global,
     clock: u32,
     order: Order<'_>,
     opens: &Opens,
     number: u32,
-) -> Result<Vec<(usize, Packet)>, AllocError>
+) -> Result<S, AllocError>
     requires locking { is_locking (uses_of opens.now number) ≡ true }
     requires within { clock ≤ MAX_STAMP }
     requires named { is_sayable (message_of order) ≡ true }
     ensures sends { (op : OpId) (update : Update) (first : Node) (st : Node → Status)
         → uses_of opens.now number ≡ Locking op update first st
-        → IfOk result (λ sends. sends_in (names_of opens.now) sends.items
+        → IfOk result (λ sends. sends_in (names_of opens.now) (S.listed sends)
         ≡ (λ q. stamped clock (to_peers (live_of opens.now) (λ q. is_yes (st q)) (message_of order.entry) q))) }
-    ensures fits { IfOk result (λ sends. AreSendable (names_of opens.now) sends.items) }
+    ensures fits { IfOk result (λ sends. AreSendable (names_of opens.now) (S.listed sends)) }
 {
     let goes = granted_peers(opens, number);
-    to_marked(alloc, clock, order, goes, peer_count(opens))
+    send_marked(alloc, clock, order, goes, peer_count(opens))
 }
 
 /// An order to the node at a place, by the names, which is a peer.
 ///
 /// Errors: `AllocError`.
-pub fn to_place(
+pub fn to_place<S: Outgoing>(
     alloc: Global,
     clock: u32,
     order: Order<'_>,
     place: usize,
-) -> Result<Vec<(usize, Packet)>, AllocError>
+) -> Result<S, AllocError>
     requires peer { 0 < place }
     requires within { clock ≤ MAX_STAMP }
     requires named { is_sayable (message_of order) ≡ true }
-    ensures sends { (names : List Node) → IfOk result (λ sends. sends_in names sends.items
+    ensures sends { (names : List Node) → IfOk result (λ sends. sends_in names (S.listed sends)
         ≡ (λ q. stamped clock (to_one (name_at names place) (message_of order.entry) q))) }
-    ensures fits { (names : List Node) → place < length names → IfOk result (λ sends. AreSendable names sends.items) }
+    ensures fits { (names : List Node) → place < length names → IfOk result (λ sends. AreSendable names (S.listed sends)) }
 {
-    let mut sends = Vec::with_capacity(alloc, 1)?;
-    let message = order.message(alloc)?;
-    let packet = Packet {
-        stamp: clock,
-        message,
-    };
-    sends.push((place - 1, packet))?;
-    Ok(sends)
+    send_one(alloc, clock, order, place - 1)
+}
+
+/// An order to the peer at a place among the peers.
+///
+/// Errors: `AllocError`.
+pub(crate) fn send_one<S: Outgoing>(
+    alloc: Global,
+    clock: u32,
+    order: Order<'_>,
+    peer: usize,
+) -> Result<S, AllocError>
+    requires within { clock ≤ MAX_STAMP }
+    requires named { is_sayable (message_of order) ≡ true }
+    ensures sends { (names : List Node) → IfOk result (λ sends. sends_in names (S.listed sends)
+        ≡ (λ q. stamped clock (to_one (name_at names (peer + 1)) (message_of order.entry) q))) }
+    ensures fits { (names : List Node) → peer + 1 < length names → IfOk result (λ sends. AreSendable names (S.listed sends)) }
+{
+    S::to_one(alloc, clock, order, peer)
 }
 
 /// An order to each peer that is marked, in the order of the peers. `goes`: who is marked, by the places of so many peers.
-/// It takes no memory where nobody is, else that of the list once.
-fn to_marked(
+fn send_marked<S: Outgoing>(
+    alloc: Global,
+    clock: u32,
+    order: Order<'_>,
+    goes: Places,
+    peers: usize,
+) -> Result<S, AllocError>
+    requires within { clock ≤ MAX_STAMP }
+    requires named { is_sayable (message_of order) ≡ true }
+    ensures sends { (names : List Node) → IsDistinct same_atom names → peers + 1 ≡ length names
+        → IfOk result (λ sends. sends_in names (S.listed sends)
+        ≡ (λ q. stamped clock (cond (is_marked names (marks_of goes peers) q) (message_of order.entry ∷ []) []))) }
+    ensures fits { (names : List Node) → peers + 1 ≡ length names → IfOk result (λ sends. AreSendable names (S.listed sends)) }
+{
+    S::to_marked(alloc, clock, order, goes, peers)
+}
+
+impl Outgoing for Vec<(usize, Packet)> {
+    ghost listed = { λ sends. sends.items };
+
+    fn nothing(alloc: Global) -> Vec<(usize, Packet)> {
+        Vec::new(alloc)
+    }
+
+    fn to_one(
+        alloc: Global,
+        stamp: u32,
+        order: Order<'_>,
+        peer: usize,
+    ) -> Result<Vec<(usize, Packet)>, AllocError> {
+        let mut sends = Vec::with_capacity(alloc, 1)?;
+        let message = order.message(alloc)?;
+        sends.push_reserved((peer, Packet { stamp, message }));
+        Ok(sends)
+    }
+
+    /// It takes no memory where nobody is marked, else that of the list once.
+    fn to_marked(
+        alloc: Global,
+        stamp: u32,
+        order: Order<'_>,
+        goes: Places,
+        peers: usize,
+    ) -> Result<Vec<(usize, Packet)>, AllocError> {
+        list_marked(alloc, stamp, order, goes, peers)
+    }
+
+    fn count(&self) -> usize {
+        self.len()
+    }
+}
+
+/// An order to each peer that is marked, as a list of packets.
+fn list_marked(
     alloc: Global,
     clock: u32,
     order: Order<'_>,
     goes: Places,
     peers: usize,
 ) -> Result<Vec<(usize, Packet)>, AllocError>
-    requires within { clock ≤ MAX_STAMP }
-    requires named { is_sayable (message_of order) ≡ true }
-    ensures sends { (names : List Node) → IsDistinct same_atom names → peers + 1 ≡ length names
-        → IfOk result (λ sends. sends_in names sends.items
-        ≡ (λ q. stamped clock (cond (is_marked names (marks_of goes peers) q) (message_of order.entry ∷ []) []))) }
-    ensures fits { (names : List Node) → peers + 1 ≡ length names → IfOk result (λ sends. AreSendable names sends.items) }
+    ensures { IfOk result (λ sends. sends.items ≡ sent_below clock (message_of order.entry) (marks_of goes peers) peers) }
 {
     let mut sends = room_for(alloc, goes, peers)?;
     for peer in 0..peers {

@@ -24,7 +24,9 @@ use Rattle.pg_step.specs.declared.refusal.Refusal.TheVariants.{NodeLost, NotDrai
 use Rattle.pg_step.specs.Config.{Config}
 use Rattle.pg_step.specs.State.{State}
 use Rattle.pg_step.specs.Step.{Action, TimedTurn, step_take, step_act}
-use Rattle.pg_sends.specs.declared.done.Done.{Done}
+use Rattle.pg_sends.specs.contracts.framing.FramedOutgoing.TheImpl as frames
+use Rattle.pg_sends.specs.Dones.{FramedDone}
+use Rattle.pg_sends.specs.Framed.{listed_of}
 use Rattle.pg_node_state.specs.declared.state.fault.NodeFault.{NodeFault}
 use Rattle.pg_node_state.specs.declared.state.fault.NodeFault.TheVariants.{Refused, OutOfMemory, Message as BadMessage}
 use Rattle.pg_node_state.specs.declared.state.fault.NodeFault.TheVariants.{TooLong as FrameTooLong, Damaged}
@@ -150,26 +152,26 @@ happened_as config w e did effect same One Other f (made, (v, happened, one)) = 
 
 module _ (config : Config) (lost : List ℕ) (crossing crossing2 : Crossing) (account account2 : Account) (w : TimedFrameWorld) (shows : ShowsBytesPast config lost crossing account w) (adds : Adds) where
   -- something of its own
-  module _ (i : ℕ) (stays : is_lost lost i ≡ false) (action : Action) (node after : Seen) (done : Done) (here : slice_get crossing.nodes i ≡ Some node) (set : crossing2.nodes ≡ slice_set crossing.nodes i after)
-      (names : after.names ≡ node.names) (ports : after.ports ≡ node.ports) (fits : AreSendable node.names done.sends.items) (small : AreSmallFrames done.sends.items)
-      (acts : Acts crossing crossing2 (Do i action) done.sends.items) (grew : Grew account account2 i None done.began) (effect : Effect) (did : effect ≡ effect_by done) where
+  module _ (i : ℕ) (stays : is_lost lost i ≡ false) (action : Action) (node after : Seen) (done : FramedDone) (here : slice_get crossing.nodes i ≡ Some node) (set : crossing2.nodes ≡ slice_set crossing.nodes i after)
+      (names : after.names ≡ node.names) (ports : after.ports ≡ node.ports) (fits : AreSendable node.names (listed_of done.sends)) (small : AreSmallFrames (listed_of done.sends))
+      (acts : Acts crossing crossing2 (Do i action) (listed_of done.sends)) (grew : Grew account account2 i None done.began) (effect : Effect) (did : effect ≡ effect_by done) where
     pub own_shown : ComesInRoom node.names (step_act (whole_in node.names) node.ports action node.state) (Ok done) after.state node.answers after.answers
         → EventComesTo config w (Do i action) (Ok (Happened effect)) (ShowsBytesPast config lost crossing2 account2)
     own_shown comes = happened_as config w (Do i action) (effect_by done) effect did _ _ whole
         (own_left config crossing.nodes w i action node shows.traffic.nodes here crossing2.nodes after done set names ports fits comes)
       where
-        whole : (v : TimedFrameWorld) → Left config crossing2.nodes (Do i action) done.sends.items None done.began w v → ShowsBytesPast config lost crossing2 account2 v
+        whole : (v : TimedFrameWorld) → Left config crossing2.nodes (Do i action) (listed_of done.sends) None done.began w v → ShowsBytesPast config lost crossing2 account2 v
         whole v left = record {
-          traffic = event_shown config lost crossing crossing2 w v (Do i action) done.sends.items shows.traffic stays acts left.ways small adds
+          traffic = event_shown config lost crossing crossing2 w v (Do i action) (listed_of done.sends) shows.traffic stays acts left.ways small adds
               (λ x y t. absurd t) (λ x y. inr (λ t. t)) (λ x y t. absurd t) left.nodes;
           updates = updates_after account account2 w v i None done.began shows.updates grew left.records;
         }
 
   -- a packet that was read
   module _ (i p : ℕ) (stays : is_lost lost i ≡ false) (pair : is_pair (length crossing.nodes) i p ≡ true) (packet : Packet) (first : FirstRead lost w crossing i p packet) (node : Seen) (here : slice_get crossing.nodes i ≡ Some node) where
-    module _ (after : Seen) (done : Done) (set : crossing2.nodes ≡ slice_set crossing.nodes i after)
-        (names : after.names ≡ node.names) (ports : after.ports ≡ node.ports) (fits : AreSendable node.names done.sends.items) (small : AreSmallFrames done.sends.items)
-        (acts : Acts crossing crossing2 (Take i p) done.sends.items) (grew : Grew account account2 i (update_asked_by packet.message) done.began) (effect : Effect) (did : effect ≡ effect_by done) where
+    module _ (after : Seen) (done : FramedDone) (set : crossing2.nodes ≡ slice_set crossing.nodes i after)
+        (names : after.names ≡ node.names) (ports : after.ports ≡ node.ports) (fits : AreSendable node.names (listed_of done.sends)) (small : AreSmallFrames (listed_of done.sends))
+        (acts : Acts crossing crossing2 (Take i p) (listed_of done.sends)) (grew : Grew account account2 i (update_asked_by packet.message) done.began) (effect : Effect) (did : effect ≡ effect_by done) where
       pub taken_shown : ComesInRoom node.names (step_take (whole_in node.names) (place_name node.names (peer_place i p + 1)) (stamped_of packet) node.state) (Ok done) after.state node.answers after.answers
           → EventComesTo config w (Take i p) (Ok (Happened effect)) (ShowsBytesPast config lost crossing2 account2)
       taken_shown comes = happened_as config w (Take i p) (effect_by done) effect did _ _ whole
@@ -187,9 +189,9 @@ module _ (config : Config) (lost : List ℕ) (crossing crossing2 : Crossing) (ac
               go (inr n) d = inr (λ both. n both.0)
               go (inl e) (inr n) = inr (λ both. n both.1)
 
-          whole : (v : TimedFrameWorld) → Left config crossing2.nodes (Take i p) done.sends.items (update_asked_by packet.message) done.began w v → ShowsBytesPast config lost crossing2 account2 v
+          whole : (v : TimedFrameWorld) → Left config crossing2.nodes (Take i p) (listed_of done.sends) (update_asked_by packet.message) done.began w v → ShowsBytesPast config lost crossing2 account2 v
           whole v left = record {
-            traffic = event_shown config lost crossing crossing2 w v (Take i p) done.sends.items shows.traffic stays acts left.ways small adds
+            traffic = event_shown config lost crossing crossing2 w v (Take i p) (listed_of done.sends) shows.traffic stays acts left.ways small adds
                 takes is_taken (λ x y t. sym t.1) left.nodes;
             updates = updates_after account account2 w v i (update_asked_by packet.message) done.began shows.updates grew left.records;
           }
@@ -201,10 +203,10 @@ module _ (config : Config) (lost : List ℕ) (crossing : Crossing) (w : TimedFra
   pub own_err : (i : ℕ) (action : Action) (node : Seen) (s : Timed State) (after : ℕ → List Answer) → slice_get crossing.nodes i ≡ Some node → (fault : NodeFault)
       → ComesInRoom node.names (step_act (whole_in node.names) node.ports action node.state) (Err fault) s node.answers after → Shown w → EventComesTo config w (Do i action) (Err fault) Shown
   own_err i action node s after here OutOfMemory comes shown = shown
-  own_err i action node s after here (Refused refusal) comes shown = (own_refused config crossing.nodes w i action node shows.nodes here (Refused refusal) s node.answers after Shown comes, shown)
-  own_err i action node s after here (BadMessage fault) comes shown = own_refused config crossing.nodes w i action node shows.nodes here (BadMessage fault) s node.answers after Shown comes
-  own_err i action node s after here FrameTooLong comes shown = own_refused config crossing.nodes w i action node shows.nodes here FrameTooLong s node.answers after Shown comes
-  own_err i action node s after here Damaged comes shown = own_refused config crossing.nodes w i action node shows.nodes here Damaged s node.answers after Shown comes
+  own_err i action node s after here (Refused refusal) comes shown = (own_refused config crossing.nodes w i action node shows.nodes here frames.ghosts (Refused refusal) s node.answers after Shown comes, shown)
+  own_err i action node s after here (BadMessage fault) comes shown = own_refused config crossing.nodes w i action node shows.nodes here frames.ghosts (BadMessage fault) s node.answers after Shown comes
+  own_err i action node s after here FrameTooLong comes shown = own_refused config crossing.nodes w i action node shows.nodes here frames.ghosts FrameTooLong s node.answers after Shown comes
+  own_err i action node s after here Damaged comes shown = own_refused config crossing.nodes w i action node shows.nodes here frames.ghosts Damaged s node.answers after Shown comes
 
   -- a packet that was read
   module _ (i p : ℕ) (pair : is_pair (length crossing.nodes) i p ≡ true) (packet : Packet) (first : FirstRead lost w crossing i p packet) (welcome : IsWelcome config w i p) (node : Seen) (here : slice_get crossing.nodes i ≡ Some node)
@@ -212,14 +214,14 @@ module _ (config : Config) (lost : List ℕ) (crossing : Crossing) (w : TimedFra
     step_there : Result TimedTurn Refusal
     step_there = step_take (whole_in node.names) (place_name node.names (peer_place i p + 1)) (stamped_of packet) node.state
 
-    refused_by : (fault : NodeFault) → Comes node.names (step_take (whole_in node.names) (place_name node.names (peer_place i p + 1)) (stamped_of packet) node.state) (Err fault) s node.answers after → ComesTo config w (Take i p) (Err fault) Shown
-    refused_by fault comes = taken_refused config crossing.nodes w i p shows.nodes pair node here (stamped_of packet) first.rest first.begins fault s node.answers after Shown comes
+    refused_by : (fault : NodeFault) → Comes {h = frames.ghosts} node.names (step_take (whole_in node.names) (place_name node.names (peer_place i p + 1)) (stamped_of packet) node.state) (Err fault) s node.answers after → ComesTo config w (Take i p) (Err fault) Shown
+    refused_by fault comes = taken_refused config crossing.nodes w i p shows.nodes pair node here (stamped_of packet) first.rest first.begins frames.ghosts fault s node.answers after Shown comes
 
-    no_message : (r : Result TimedTurn Refusal) → Comes node.names r (Err (Refused NotAMessage)) s node.answers after → r ≡ Err NotAMessage
+    no_message : (r : Result TimedTurn Refusal) → Comes {h = frames.ghosts} node.names r (Err (Refused NotAMessage)) s node.answers after → r ≡ Err NotAMessage
     no_message (Ok t) comes = absurd comes
     no_message (Err refusal) comes = let same : refusal ≡ NotAMessage = cc in ap (λ (x : Refusal). Err x) same
 
-    never : Comes node.names (step_take (whole_in node.names) (place_name node.names (peer_place i p + 1)) (stamped_of packet) node.state) (Err (Refused NotAMessage)) s node.answers after → ⊥
+    never : Comes {h = frames.ghosts} node.names (step_take (whole_in node.names) (place_name node.names (peer_place i p + 1)) (stamped_of packet) node.state) (Err (Refused NotAMessage)) s node.answers after → ⊥
     never comes = welcome (stamped_of packet) first.rest first.begins
         (sym (taken_told config crossing.nodes w i p shows.nodes pair node here (stamped_of packet) first.rest first.begins) ∙ no_message _ comes)
 

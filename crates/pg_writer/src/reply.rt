@@ -1,13 +1,14 @@
 //! The packet that answers a call, of parts that are only lent.
 
-ghost use Rattle.std.specs.Prelude.{◌≡◌, ◌≤◌, ◌++◌, length, IsOk, OnOk, OnErr};
+ghost use Rattle.std.specs.Prelude.{◌≡◌, ◌≤◌, ◌+◌, ◌++◌, length, Ok, IsOk, OnOk, OnErr};
 ghost use Rattle.pg_term_io.specs.Writing.{written};
 ghost use Rattle.pg_message.specs.declared.message.Message.TheVariants as messages;
+ghost use Rattle.pg_message.specs.Reading.{packet_spelled};
 ghost use Rattle.pg_message.specs.Writing.{term_of_packet, framed};
 ghost use Rattle.pg_writer.specs.Told.{reference_lent};
 
 use crate::frame::put_frame;
-use crate::size::{reply_len, stamp_len};
+use crate::size::{MAX_SMALL_LEN, reply_len, stamp_len};
 use crate::told::{Mark, Told};
 use bytes::BytesMut;
 use pg_message::{MAX_STAMP, Said};
@@ -32,6 +33,14 @@ pub fn write_reply_into(
         (term_of_packet (record { stamp = stamp; message = messages.Reply reference.now said })))) }
     ensures err { OnErr result (out.new.items ≡ out.old.items) }
 
+    // What is written is read as the packet, and is short.
+    ensures read { OnOk result (packet_spelled (written
+        (term_of_packet (record { stamp = stamp; message = messages.Reply reference.now said })))
+        ≡ Ok (record { stamp = stamp; message = messages.Reply reference.now said })) }
+    ensures few { OnOk result (length (framed (written
+        (term_of_packet (record { stamp = stamp; message = messages.Reply reference.now said }))))
+        ≤ 4 + MAX_SMALL_LEN) }
+
     // Only room can be missing.
     ensures succeeds { length (framed (written
         (term_of_packet (record { stamp = stamp; message = messages.Reply reference.now said })))) ≤ out.old.spare
@@ -48,7 +57,7 @@ pub fn write_reply_into(
 fn reply_packet_len(stamp: u32, mark: &Mark<'_>, said: Said) -> usize
     ensures value { result ≡ length (written (term_of_packet
         (record { stamp = stamp; message = messages.Reply (reference_lent mark.now) said }))) }
-    ensures few { result ≤ 4100 }
+    ensures few { result ≤ MAX_SMALL_LEN }
 {
     3 + stamp_len(stamp) + reply_len(mark, said)
 }

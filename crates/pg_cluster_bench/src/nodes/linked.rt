@@ -1,12 +1,12 @@
 //! A node between two rings of bytes.
 
 use crate::nodes::Player;
-use crate::nodes::made::new_state;
-use crate::nodes::packets::is_kept;
+use crate::nodes::made::{keep_if_call, new_state};
 use bytes::BytesMut;
 use pg_index::IndexTable;
 use pg_message::Packet;
-use pg_node::{Done, Node, NodeFault};
+use pg_node::{Done, Framed, Node, NodeFault};
+use pg_reader::read_packet;
 use pg_ring::{Inlet, Link, MemRing, RingFault};
 use pg_step::Command;
 use pg_term::Reference;
@@ -21,6 +21,7 @@ const RING: usize = 65_536;
 pub struct OverBytes {
     node: Node<IndexTable>,
     rings: Rings,
+    alloc: Global,
 }
 
 /// A ring to a node and one from it, and what is read of the second.
@@ -44,6 +45,33 @@ fn opened(alloc: Global) -> Option<Node<IndexTable>> {
     match new_state(alloc) {
         Ok(state) => Node::opened(alloc, state).ok(),
         Err(_) => None,
+    }
+}
+
+// Keeps the first call that is sent by an event, if it happened and one is; whether it happened, and there was memory.
+fn is_kept(alloc: Global, done: Option<Done<Framed>>, calls: &mut Vec<Reference>) -> bool {
+    match done {
+        Some(done) => {
+            let is_kept = is_call_kept(alloc, done.sends.frame(), calls);
+            drop(done);
+            is_kept
+        }
+        None => false,
+    }
+}
+
+// Keeps the call of a frame, if it is one; whether there was memory for it.
+fn is_call_kept(alloc: Global, frame: &[u8], calls: &mut Vec<Reference>) -> bool {
+    if frame.len() < 4 {
+        return true;
+    }
+    match read_packet(alloc, &frame[4..]) {
+        Ok(packet) => {
+            let is_kept = keep_if_call(&packet, calls);
+            drop(packet);
+            is_kept
+        }
+        Err(_) => false,
     }
 }
 
@@ -73,7 +101,7 @@ impl OverBytes {
             && self.node.pull(peer, &mut self.rings.to, RING).is_ok()
     }
 
-    fn taken(&mut self, peer: usize) -> Result<Option<Done>, NodeFault> {
+    fn taken(&mut self, peer: usize) -> Result<Option<Done<Framed>>, NodeFault> {
         if peer < self.node.state().peer_count() {
             self.node.take(peer)
         } else {
@@ -86,7 +114,7 @@ impl OverBytes {
         for _ in 0..10_000 {
             match self.taken(peer) {
                 Ok(Some(done)) => {
-                    if !is_kept(Some(done), calls) {
+                    if !is_kept(self.alloc, Some(done), calls) {
                         return false;
                     }
                 }
@@ -98,7 +126,7 @@ impl OverBytes {
     }
 
     // Gives a command at the port.
-    fn given(&mut self, command: &Command) -> Option<Done> {
+    fn given(&mut self, command: &Command) -> Option<Done<Framed>> {
         if self.node.state().port_count() == 1 {
             self.node.command(0, command).ok()
         } else {
@@ -115,7 +143,7 @@ impl Player for OverBytes {
             return None;
         };
         match opened(alloc) {
-            Some(node) => Some(OverBytes { node, rings }),
+            Some(node) => Some(OverBytes { node, rings, alloc }),
             None => None,
         }
     }
@@ -145,7 +173,7 @@ impl Player for OverBytes {
     fn ask(&mut self, commands: &[Command], calls: &mut Vec<Reference>) -> bool {
         for command in commands {
             let done = self.given(command);
-            if !is_kept(done, calls) {
+            if !is_kept(self.alloc, done, calls) {
                 return false;
             }
         }

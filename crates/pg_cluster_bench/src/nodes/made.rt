@@ -4,7 +4,7 @@ ghost use Rattle.std.specs.Prelude.{◌≡◌, IsTrue, false};
 ghost use Rattle.pg_term.specs.Same.{same_atom};
 
 use pg_index::IndexTable;
-use pg_message::Message;
+use pg_message::{Message, Packet};
 use pg_node::{Done, NodeConfig, NodeState};
 use pg_term::{Atom, Reference, TermFault};
 use std::alloc::{AllocError, Global};
@@ -57,9 +57,14 @@ fn state_of(
 
 /// Keeps the reference of the first call that is sent, if one is; whether there was memory for it.
 pub fn keep_call(done: &Done, calls: &mut Vec<Reference>) -> bool {
-    let Some((_, packet)) = done.sends.first() else {
-        return true;
-    };
+    match done.sends.first() {
+        Some((_, packet)) => keep_if_call(packet, calls),
+        None => true,
+    }
+}
+
+/// Keeps the reference of a packet, if it is a call; whether there was memory for it.
+pub fn keep_if_call(packet: &Packet, calls: &mut Vec<Reference>) -> bool {
     match &packet.message {
         Message::Call(reference, _) => keep(reference, calls),
         _ => true,

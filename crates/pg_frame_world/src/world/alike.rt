@@ -2,7 +2,7 @@
 
 ghost use Rattle.std.specs.Prelude.{◌≡◌, ◌↔◌, IsTrue, IfOk, map};
 
-use crate::outgoing::Outgoing;
+use crate::ways::Ways;
 use crate::world::FrameNodes;
 use pg_group::GroupTable;
 use pg_node_state::NodeState;
@@ -68,7 +68,7 @@ fn are_alike<T: GroupTable + Drop>(
 /// Whether the same packets are on each way, but for their stamps.
 ///
 /// Cost: no memory.
-fn same_ways(outgoing: &[Outgoing], others: &[Outgoing]) -> bool
+fn same_ways(outgoing: &[Ways], others: &[Ways]) -> bool
     ensures { IsTrue result ↔ (map without_stamps (map ways_of outgoing.now) ≡ map without_stamps (map ways_of others.now)) }
 {
     if outgoing.len() != others.len() {

@@ -2,7 +2,7 @@
 
 ghost use Rattle.std.specs.Prelude.{◌≡◌, IfOk, map};
 
-use crate::outgoing::Outgoing;
+use crate::ways::Ways;
 use crate::world::FrameNodes;
 use pg_group::GroupTable;
 use std::alloc::{AllocError, Global};
@@ -38,7 +38,7 @@ ghost use Rattle.pg_frame_world.specs.Views.{ways_of};
 /// The same packets on each way.
 ///
 /// Errors: `AllocError`.
-fn copy_ways(alloc: Global, outgoing: &[Outgoing]) -> Result<Vec<Outgoing>, AllocError>
+fn copy_ways(alloc: Global, outgoing: &[Ways]) -> Result<Vec<Ways>, AllocError>
     ensures { IfOk result (λ copies. map ways_of copies.items ≡ map ways_of outgoing.now) }
 {
     let mut copies = Vec::with_capacity(alloc, outgoing.len())?;

@@ -15,7 +15,6 @@ ghost use Rattle.pg_node.specs.Links.{link_of, links_in};
 ghost use Rattle.pg_node_state.specs.States.{names_of as names_known, kept_by};
 
 use crate::node::Node;
-use crate::node::frame::Frame;
 use crate::node::wire::Wire;
 use pg_group::GroupTable;
 use pg_message::Packet;
@@ -74,10 +73,6 @@ impl<T: GroupTable + Drop> Node<T> {
             Ok(piece) => piece,
             Err(AllocError) => return Err(NodeFault::OutOfMemory),
         };
-        let frame = match Frame::new(alloc) {
-            Ok(frame) => frame,
-            Err(AllocError) => return Err(NodeFault::OutOfMemory),
-        };
         let wires = match opening_wires(alloc, &state) {
             Ok(wires) => wires,
             Err(fault) => return Err(fault),
@@ -86,7 +81,6 @@ impl<T: GroupTable + Drop> Node<T> {
             state,
             wires,
             piece,
-            frame,
             has_room: false,
             alloc,
         })

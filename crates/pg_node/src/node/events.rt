@@ -8,7 +8,7 @@ use crate::node::Node;
 use crate::node::wires::{make_room, send_all};
 use pg_group::GroupTable;
 use pg_message::Packet;
-use pg_node_state::{Done, NodeFault};
+use pg_node_state::{Done, Framed, NodeFault};
 use pg_step::{Command, OpId, Refusal};
 use std::alloc::AllocError;
 
@@ -18,6 +18,8 @@ impl<T: GroupTable + Drop> Node<T> {
     ghost use Rattle.pg_node.specs.Bytes.{ReadsNext, next_packet, marked, passed, closed};
     ghost use Rattle.pg_node.specs.Nodes.{held_by, links_of, has_lost, read_next, step_link};
     ghost use Rattle.pg_node.specs.Nodes.{taken_of, TakesNext, ComesInRoom, sent_out, step_lose};
+    ghost use Rattle.pg_sends.specs.Dones.{FramedDone};
+    ghost use Rattle.pg_sends.specs.Framed.{listed_of};
     ghost use Rattle.pg_sends.specs.Frames.{AreSmallFrames};
     ghost use Rattle.pg_node.specs.Links.{at_link};
     ghost use Rattle.pg_node_state.specs.Issued.{ports_of};
@@ -35,15 +37,15 @@ impl<T: GroupTable + Drop> Node<T> {
     /// the link for good, and change nothing else; no other error changes anything, and the frame stays.
     ///
     /// Cost: that of the body's length, of the event, and of the frames that go out.
-    pub fn take(&mut self, peer: usize) -> Result<Option<Done>, NodeFault>
+    pub fn take(&mut self, peer: usize) -> Result<Option<Done<Framed>>, NodeFault>
         requires place { peer + 1 < length (names_of (held_by self.old)) }
         ensures event { TakesNext (names_of (held_by self.old))
             (step_link (nodes_of (held_by self.old)) (name_at (names_of (held_by self.old)) (peer + 1)) (links_of self.old peer) (state_of (held_by self.old)))
             result (state_of (held_by self.old)) (state_of (held_by self.new)) (answers_of (held_by self.old)) (answers_of (held_by self.new)) }
-        ensures sent { (done : Done) → result ≡ Ok (Some done)
-            → (place : ℕ) → links_of self.new place ≡ at_link peer passed (sent_out done.sends.items (links_of self.old)) place }
-        ensures small { (done : Done) → result ≡ Ok (Some done) → AreSmallFrames done.sends.items }
-        ensures fits { (done : Done) → result ≡ Ok (Some done) → AreSendable (names_of (held_by self.old)) done.sends.items }
+        ensures sent { (done : FramedDone) → result ≡ Ok (Some done)
+            → (place : ℕ) → links_of self.new place ≡ at_link peer passed (sent_out (listed_of done.sends) (links_of self.old)) place }
+        ensures small { (done : FramedDone) → result ≡ Ok (Some done) → AreSmallFrames (listed_of done.sends) }
+        ensures fits { (done : FramedDone) → result ≡ Ok (Some done) → AreSendable (names_of (held_by self.old)) (listed_of done.sends) }
         ensures none { result ≡ Ok None → links_of self.new ≡ links_of self.old }
         ensures marked { IfErr result (λ fault. links_of self.new ≡ at_link peer (λ l. marked l fault) (links_of self.old)) }
         ensures stays { Stays (held_by self.old) (held_by self.new) result }
@@ -58,15 +60,15 @@ impl<T: GroupTable + Drop> Node<T> {
     }
 
     /// The same of a packet that is read whole.
-    fn take_packet(&mut self, peer: usize) -> Result<Option<Done>, NodeFault>
+    fn take_packet(&mut self, peer: usize) -> Result<Option<Done<Framed>>, NodeFault>
         requires place { peer + 1 < length (names_of (held_by self.old)) }
         ensures event { TakesNext (names_of (held_by self.old))
             (step_link (nodes_of (held_by self.old)) (name_at (names_of (held_by self.old)) (peer + 1)) (links_of self.old peer) (state_of (held_by self.old)))
             result (state_of (held_by self.old)) (state_of (held_by self.new)) (answers_of (held_by self.old)) (answers_of (held_by self.new)) }
-        ensures sent { (done : Done) → result ≡ Ok (Some done)
-            → (place : ℕ) → links_of self.new place ≡ at_link peer passed (sent_out done.sends.items (links_of self.old)) place }
-        ensures small { (done : Done) → result ≡ Ok (Some done) → AreSmallFrames done.sends.items }
-        ensures fits { (done : Done) → result ≡ Ok (Some done) → AreSendable (names_of (held_by self.old)) done.sends.items }
+        ensures sent { (done : FramedDone) → result ≡ Ok (Some done)
+            → (place : ℕ) → links_of self.new place ≡ at_link peer passed (sent_out (listed_of done.sends) (links_of self.old)) place }
+        ensures small { (done : FramedDone) → result ≡ Ok (Some done) → AreSmallFrames (listed_of done.sends) }
+        ensures fits { (done : FramedDone) → result ≡ Ok (Some done) → AreSendable (names_of (held_by self.old)) (listed_of done.sends) }
         ensures none { result ≡ Ok None → links_of self.new ≡ links_of self.old }
         ensures marked { IfErr result (λ fault. links_of self.new ≡ at_link peer (λ l. marked l fault) (links_of self.old)) }
         ensures stays { Stays (held_by self.old) (held_by self.new) result }
@@ -78,17 +80,21 @@ impl<T: GroupTable + Drop> Node<T> {
     }
 
     /// Takes the packet, if there is one, which the next frame of a peer holds.
-    fn take_next(&mut self, peer: usize, next: Option<Packet>) -> Result<Option<Done>, NodeFault>
+    fn take_next(
+        &mut self,
+        peer: usize,
+        next: Option<Packet>,
+    ) -> Result<Option<Done<Framed>>, NodeFault>
         requires place { peer + 1 < length (names_of (held_by self.old)) }
         requires few { (packet : Packet) → next ≡ Some packet → IsShort (2 ^ 32) packet.message }
         requires next { next_packet (links_of self.old peer) ≡ Ok next }
         ensures event { TakesNext (names_of (held_by self.old))
             (taken_of (nodes_of (held_by self.old)) (name_at (names_of (held_by self.old)) (peer + 1)) (state_of (held_by self.old)) (Ok next))
             result (state_of (held_by self.old)) (state_of (held_by self.new)) (answers_of (held_by self.old)) (answers_of (held_by self.new)) }
-        ensures sent { (done : Done) → result ≡ Ok (Some done)
-            → (place : ℕ) → links_of self.new place ≡ at_link peer passed (sent_out done.sends.items (links_of self.old)) place }
-        ensures small { (done : Done) → result ≡ Ok (Some done) → AreSmallFrames done.sends.items }
-        ensures fits { (done : Done) → result ≡ Ok (Some done) → AreSendable (names_of (held_by self.old)) done.sends.items }
+        ensures sent { (done : FramedDone) → result ≡ Ok (Some done)
+            → (place : ℕ) → links_of self.new place ≡ at_link peer passed (sent_out (listed_of done.sends) (links_of self.old)) place }
+        ensures small { (done : FramedDone) → result ≡ Ok (Some done) → AreSmallFrames (listed_of done.sends) }
+        ensures fits { (done : FramedDone) → result ≡ Ok (Some done) → AreSendable (names_of (held_by self.old)) (listed_of done.sends) }
         ensures none { result ≡ Ok None → links_of self.new ≡ links_of self.old }
         ensures marked { IfErr result (λ fault. links_of self.new ≡ at_link peer (λ l. marked l fault) (links_of self.old)) }
         ensures stays { Stays (held_by self.old) (held_by self.new) result }
@@ -132,28 +138,23 @@ impl<T: GroupTable + Drop> Node<T> {
     /// in the place of each. Nothing else changes, and the frame stays.
     ///
     /// Cost: that of the event, and of the frames that go out.
-    pub fn take_read(&mut self, peer: usize, packet: &Packet) -> Result<Done, NodeFault>
+    pub fn take_read(&mut self, peer: usize, packet: &Packet) -> Result<Done<Framed>, NodeFault>
         requires place { peer + 1 < length (names_of (held_by self.old)) }
         requires few { IsShort (2 ^ 32) packet.now.message }
         requires next { next_packet (links_of self.old peer) ≡ Ok (Some packet.now) }
         ensures event { ComesInRoom (names_of (held_by self.old))
             (step_take (nodes_of (held_by self.old)) (name_at (names_of (held_by self.old)) (peer + 1)) (stamped_of packet.now) (state_of (held_by self.old)))
             result (state_of (held_by self.new)) (answers_of (held_by self.old)) (answers_of (held_by self.new)) }
-        ensures sent { IfOk result (λ done. (place : ℕ) → links_of self.new place ≡ at_link peer passed (sent_out done.sends.items (links_of self.old)) place) }
-        ensures small { IfOk result (λ done. AreSmallFrames done.sends.items) }
-        ensures fits { IfOk result (λ done. AreSendable (names_of (held_by self.old)) done.sends.items) }
+        ensures sent { IfOk result (λ done. (place : ℕ) → links_of self.new place ≡ at_link peer passed (sent_out (listed_of done.sends) (links_of self.old)) place) }
+        ensures small { IfOk result (λ done. AreSmallFrames (listed_of done.sends)) }
+        ensures fits { IfOk result (λ done. AreSendable (names_of (held_by self.old)) (listed_of done.sends)) }
         ensures marked { IfErr result (λ fault. links_of self.new ≡ at_link peer (λ l. marked l fault) (links_of self.old)) }
         ensures stays { Stays (held_by self.old) (held_by self.new) result }
     {
         make_room(&mut self.wires, &mut self.has_room)?;
-        match self.state.take(peer, packet) {
+        match self.state.take_as(peer, packet) {
             Ok(done) => {
-                send_all(
-                    &mut self.wires,
-                    &mut self.has_room,
-                    &mut self.frame,
-                    done.sends.as_slice(),
-                );
+                send_all(&mut self.wires, &mut self.has_room, &done.sends);
                 let wire = &mut self.wires[peer];
                 wire.pass();
                 Ok(done)
@@ -167,16 +168,16 @@ impl<T: GroupTable + Drop> Node<T> {
     }
 
     /// The same of a packet that is given to the node.
-    fn take_owned(&mut self, peer: usize, packet: Packet) -> Result<Done, NodeFault>
+    fn take_owned(&mut self, peer: usize, packet: Packet) -> Result<Done<Framed>, NodeFault>
         requires place { peer + 1 < length (names_of (held_by self.old)) }
         requires few { IsShort (2 ^ 32) packet.message }
         requires next { next_packet (links_of self.old peer) ≡ Ok (Some packet) }
         ensures event { ComesInRoom (names_of (held_by self.old))
             (step_take (nodes_of (held_by self.old)) (name_at (names_of (held_by self.old)) (peer + 1)) (stamped_of packet) (state_of (held_by self.old)))
             result (state_of (held_by self.new)) (answers_of (held_by self.old)) (answers_of (held_by self.new)) }
-        ensures sent { IfOk result (λ done. (place : ℕ) → links_of self.new place ≡ at_link peer passed (sent_out done.sends.items (links_of self.old)) place) }
-        ensures small { IfOk result (λ done. AreSmallFrames done.sends.items) }
-        ensures fits { IfOk result (λ done. AreSendable (names_of (held_by self.old)) done.sends.items) }
+        ensures sent { IfOk result (λ done. (place : ℕ) → links_of self.new place ≡ at_link peer passed (sent_out (listed_of done.sends) (links_of self.old)) place) }
+        ensures small { IfOk result (λ done. AreSmallFrames (listed_of done.sends)) }
+        ensures fits { IfOk result (λ done. AreSendable (names_of (held_by self.old)) (listed_of done.sends)) }
         ensures marked { IfErr result (λ fault. links_of self.new ≡ at_link peer (λ l. marked l fault) (links_of self.old)) }
         ensures stays { Stays (held_by self.old) (held_by self.new) result }
     {
@@ -187,14 +188,9 @@ impl<T: GroupTable + Drop> Node<T> {
                 return Err(NodeFault::OutOfMemory);
             }
         }
-        match self.state.take_owned(peer, packet) {
+        match self.state.take_owned_as(peer, packet) {
             Ok(done) => {
-                send_all(
-                    &mut self.wires,
-                    &mut self.has_room,
-                    &mut self.frame,
-                    done.sends.as_slice(),
-                );
+                send_all(&mut self.wires, &mut self.has_room, &done.sends);
                 let wire = &mut self.wires[peer];
                 wire.pass();
                 Ok(done)
@@ -213,26 +209,21 @@ impl<T: GroupTable + Drop> Node<T> {
     /// Errors: those of `NodeState::command`; `OutOfMemory` may come in the place of each. They change nothing.
     ///
     /// Cost: that of the event, and of the frames that go out.
-    pub fn command(&mut self, port: u16, command: &Command) -> Result<Done, NodeFault>
+    pub fn command(&mut self, port: u16, command: &Command) -> Result<Done<Framed>, NodeFault>
         requires place { port < ports_of (held_by self.old) }
         ensures event { ComesInRoom (names_of (held_by self.old))
             (step_act (nodes_of (held_by self.old)) (ports_of (held_by self.old)) (Issue port command.now) (state_of (held_by self.old)))
             result (state_of (held_by self.new)) (answers_of (held_by self.old)) (answers_of (held_by self.new)) }
-        ensures sent { IfOk result (λ done. (place : ℕ) → links_of self.new place ≡ sent_out done.sends.items (links_of self.old) place) }
-        ensures fits { IfOk result (λ done. AreSendable (names_of (held_by self.old)) done.sends.items) }
-        ensures small { IfOk result (λ done. AreSmallFrames done.sends.items) }
+        ensures sent { IfOk result (λ done. (place : ℕ) → links_of self.new place ≡ sent_out (listed_of done.sends) (links_of self.old) place) }
+        ensures fits { IfOk result (λ done. AreSendable (names_of (held_by self.old)) (listed_of done.sends)) }
+        ensures small { IfOk result (λ done. AreSmallFrames (listed_of done.sends)) }
         ensures kept { OnErr result (links_of self.new ≡ links_of self.old) }
         ensures stays { Stays (held_by self.old) (held_by self.new) result }
     {
         make_room(&mut self.wires, &mut self.has_room)?;
-        match self.state.command(port, command) {
+        match self.state.command_as(port, command) {
             Ok(done) => {
-                send_all(
-                    &mut self.wires,
-                    &mut self.has_room,
-                    &mut self.frame,
-                    done.sends.as_slice(),
-                );
+                send_all(&mut self.wires, &mut self.has_room, &done.sends);
                 Ok(done)
             }
             Err(fault) => Err(fault),
@@ -244,26 +235,21 @@ impl<T: GroupTable + Drop> Node<T> {
     /// Errors: those of `NodeState::retry`; `OutOfMemory` may come in the place of each. They change nothing.
     ///
     /// Cost: that of the event, and of the frames that go out.
-    pub fn retry(&mut self, op: OpId) -> Result<Done, NodeFault>
+    pub fn retry(&mut self, op: OpId) -> Result<Done<Framed>, NodeFault>
         requires place { op.port < ports_of (held_by self.old) }
         ensures event { ComesInRoom (names_of (held_by self.old))
             (step_act (nodes_of (held_by self.old)) (ports_of (held_by self.old)) (Retry op) (state_of (held_by self.old)))
             result (state_of (held_by self.new)) (answers_of (held_by self.old)) (answers_of (held_by self.new)) }
-        ensures sent { IfOk result (λ done. (place : ℕ) → links_of self.new place ≡ sent_out done.sends.items (links_of self.old) place) }
-        ensures fits { IfOk result (λ done. AreSendable (names_of (held_by self.old)) done.sends.items) }
-        ensures small { IfOk result (λ done. AreSmallFrames done.sends.items) }
+        ensures sent { IfOk result (λ done. (place : ℕ) → links_of self.new place ≡ sent_out (listed_of done.sends) (links_of self.old) place) }
+        ensures fits { IfOk result (λ done. AreSendable (names_of (held_by self.old)) (listed_of done.sends)) }
+        ensures small { IfOk result (λ done. AreSmallFrames (listed_of done.sends)) }
         ensures kept { OnErr result (links_of self.new ≡ links_of self.old) }
         ensures stays { Stays (held_by self.old) (held_by self.new) result }
     {
         make_room(&mut self.wires, &mut self.has_room)?;
-        match self.state.retry(op) {
+        match self.state.retry_as(op) {
             Ok(done) => {
-                send_all(
-                    &mut self.wires,
-                    &mut self.has_room,
-                    &mut self.frame,
-                    done.sends.as_slice(),
-                );
+                send_all(&mut self.wires, &mut self.has_room, &done.sends);
                 Ok(done)
             }
             Err(fault) => Err(fault),
@@ -277,7 +263,7 @@ impl<T: GroupTable + Drop> Node<T> {
     /// peer is left (none is at a damaged link), and by `ClockFull`; `OutOfMemory`. They change nothing.
     ///
     /// Cost: that of `NodeState::see_loss`.
-    pub fn see_loss(&mut self, peer: usize, last: u32) -> Result<Done, NodeFault>
+    pub fn see_loss(&mut self, peer: usize, last: u32) -> Result<Done<Framed>, NodeFault>
         requires place { peer + 1 < length (names_of (held_by self.old)) }
         ensures event { Comes (names_of (held_by self.old))
             (step_lose (name_at (names_of (held_by self.old)) (peer + 1)) last (links_of self.old peer) (state_of (held_by self.old)))
@@ -292,7 +278,7 @@ impl<T: GroupTable + Drop> Node<T> {
         if !self.wires[peer].is_drained() {
             return Err(NodeFault::Refused(Refusal::NotDrained));
         }
-        match self.state.see_loss(peer, last) {
+        match self.state.see_loss_as(peer, last) {
             Ok(done) => {
                 let wire = &mut self.wires[peer];
                 wire.close();

@@ -5,7 +5,7 @@ ghost use Rattle.std.specs.Prelude.{◌≡◌, ◌<◌, ◌+◌, ℕ, Some, Ok, 
 use crate::node::Node;
 use crate::node::wires::{make_room, send_all};
 use pg_group::GroupTable;
-use pg_node_state::{Done, NodeFault};
+use pg_node_state::{Done, Framed, NodeFault};
 use pg_reader::OwnReply;
 
 impl<T: GroupTable + Drop> Node<T> {
@@ -15,6 +15,7 @@ impl<T: GroupTable + Drop> Node<T> {
     ghost use Rattle.pg_node.specs.Bytes.{next_packet, marked, passed};
     ghost use Rattle.pg_node.specs.Links.{at_link};
     ghost use Rattle.pg_node.specs.Nodes.{held_by, links_of, has_lost, read_next, sent_out, ComesInRoom};
+    ghost use Rattle.pg_sends.specs.Framed.{listed_of};
     ghost use Rattle.pg_sends.specs.Frames.{AreSmallFrames};
     ghost use Rattle.pg_sends.specs.Sendable.{AreSendable};
     ghost use Rattle.pg_node_state.specs.States.{Stays};
@@ -34,30 +35,29 @@ impl<T: GroupTable + Drop> Node<T> {
     }
 
     /// Takes the reply that `own_reply` has read of a peer, as `take_read` does where it is read as a packet.
-    pub(crate) fn take_own_reply(&mut self, peer: usize, reply: OwnReply) -> Result<Done, NodeFault>
+    pub(crate) fn take_own_reply(
+        &mut self,
+        peer: usize,
+        reply: OwnReply,
+    ) -> Result<Done<Framed>, NodeFault>
         requires place { peer + 1 < length (names_of (held_by self.old)) }
         requires next { next_packet (links_of self.old peer) ≡ Ok (Some (own_reply (name_at (names_of (held_by self.old)) 0) reply)) }
         ensures event { ComesInRoom (names_of (held_by self.old))
             (step_take (nodes_of (held_by self.old)) (name_at (names_of (held_by self.old)) (peer + 1)) (stamped_of (own_reply (name_at (names_of (held_by self.old)) 0) reply)) (state_of (held_by self.old)))
             result (state_of (held_by self.new)) (answers_of (held_by self.old)) (answers_of (held_by self.new)) }
-        ensures sent { IfOk result (λ done. (place : ℕ) → links_of self.new place ≡ at_link peer passed (sent_out done.sends.items (links_of self.old)) place) }
-        ensures small { IfOk result (λ done. AreSmallFrames done.sends.items) }
-        ensures fits { IfOk result (λ done. AreSendable (names_of (held_by self.old)) done.sends.items) }
+        ensures sent { IfOk result (λ done. (place : ℕ) → links_of self.new place ≡ at_link peer passed (sent_out (listed_of done.sends) (links_of self.old)) place) }
+        ensures small { IfOk result (λ done. AreSmallFrames (listed_of done.sends)) }
+        ensures fits { IfOk result (λ done. AreSendable (names_of (held_by self.old)) (listed_of done.sends)) }
         ensures marked { IfErr result (λ fault. links_of self.new ≡ at_link peer (λ l. marked l fault) (links_of self.old)) }
         ensures stays { Stays (held_by self.old) (held_by self.new) result }
     {
         make_room(&mut self.wires, &mut self.has_room)?;
         match self
             .state
-            .take_own_reply(peer, reply.stamp, reply.number, reply.said)
+            .take_own_reply_as(peer, reply.stamp, reply.number, reply.said)
         {
             Ok(done) => {
-                send_all(
-                    &mut self.wires,
-                    &mut self.has_room,
-                    &mut self.frame,
-                    done.sends.as_slice(),
-                );
+                send_all(&mut self.wires, &mut self.has_room, &done.sends);
                 let wire = &mut self.wires[peer];
                 wire.pass();
                 Ok(done)

@@ -2,17 +2,13 @@
 
 ghost use Rattle.std.specs.Prelude.{◌≡◌, ◌≤◌, ◌+◌, ◌^◌, true, false, length};
 ghost use Rattle.std.specs.Prelude.{take, min, Some, Ok, Err, IfOk, IfErr, IfSome, OnOk, OnErr};
-ghost use Rattle.pg_message.specs.declared.packet.TheConstants.{MAX_STAMP};
-ghost use Rattle.pg_message.specs.Writing.{is_exchange, is_sayable};
-ghost use Rattle.pg_writer.specs.Frames.{frame_of};
-ghost use Rattle.pg_sends.specs.Frames.{IsSmallFrame};
 ghost use Rattle.pg_writer.specs.declared.size.TheConstants.{MAX_SMALL_LEN};
 ghost use Rattle.pg_node.specs.Bytes.{damages};
 
 use bytes::BytesMut;
 use pg_frame::Deframer;
 use pg_message::Packet;
-use pg_node_state::{NodeFault, write_small};
+use pg_node_state::NodeFault;
 use pg_reader::{OwnReply, read_own_reply, read_packet};
 use pg_ring::{Inlet, Link};
 use pg_step::Refusal;
@@ -34,8 +30,6 @@ pub(crate) struct Wire {
 impl Wire {
     ghost use Rattle.pg_message.specs.Members.{IsShort};
     ghost use Rattle.pg_node_state.specs.declared.state.fault.NodeFault.TheVariants.{Damaged, OutOfMemory};
-    ghost use Rattle.pg_writer.specs.Frames.{frame_of};
-    ghost use Rattle.pg_sends.specs.Frames.{IsSmallFrame};
     ghost use Rattle.pg_node.specs.Links.{idle_link, link_of, with_more, with_fed, without_front, HasFrameRoom};
     ghost use Rattle.pg_reader.specs.Own.{own_reply};
     ghost use Rattle.pg_node.specs.Bytes.{next_packet, ReadsNext, marked, passed, closed, is_drained, is_idle};
@@ -60,18 +54,6 @@ impl Wire {
         ensures stays { self.old.outbox.spare ≤ self.new.outbox.spare }
     {
         self.outbox.reserve(4 + MAX_SMALL_LEN)
-    }
-
-    /// Appends a small packet as one frame to the outbox, where there is room. It takes no memory.
-    pub(crate) fn send(&mut self, packet: &Packet)
-        requires named { is_sayable packet.now.message ≡ true }
-        requires stamp { packet.now.stamp ≤ MAX_STAMP }
-        requires small { is_exchange packet.now.message ≡ false }
-        requires room { HasFrameRoom self.old }
-        ensures sent { link_of self.new ≡ with_more (link_of self.old) (frame_of packet.now) }
-        ensures small { IsSmallFrame packet.now }
-    {
-        write_small(packet, &mut self.outbox);
     }
 
     /// Appends a small frame to the outbox, where there is room. It takes no memory.

@@ -1,13 +1,18 @@
 //! The links of a node to all its peers.
 
-ghost use Rattle.std.specs.Prelude.{◌≡◌, ℕ, true, length, OnOk};
-ghost use Rattle.pg_sends.specs.Frames.{frames_to, AreSmallFrames};
+ghost use Rattle.std.specs.Prelude.{◌≡◌, ◌≤◌, ◌<◌, ◌+◌, ◌&&◌, ℕ, [], true, cond, nat_eq, length, OnOk};
+ghost use Rattle.pg_message.specs.declared.packet.Packet.{Packet};
+ghost use Rattle.pg_sends.specs.declared.goes.Goes.TheVariants.{Marked};
+ghost use Rattle.pg_sends.specs.Framed.{listed_of};
+ghost use Rattle.pg_sends.specs.Frames.{frames_to, AreSmallFrames, IsFrame};
+ghost use Rattle.pg_sends.specs.Going.{going};
 ghost use Rattle.pg_sends.specs.Sendable.{FitLinks};
-ghost use Rattle.pg_node.specs.Links.{links_in, with_more, HaveFrameRoom, AreOneFrame};
+ghost use Rattle.pg_node.specs.Links.{links_in, room_in, with_more, HaveFrameRoom};
 
-use crate::node::frame::Frame;
 use crate::node::wire::Wire;
-use pg_message::Packet;
+use pg_multicall::Places;
+use pg_node_state::{Framed, Goes};
+use pg_writer::MAX_SMALL_LEN;
 use std::alloc::AllocError;
 
 /// Makes room for one small frame in every outbox, where it was not made, or taken since. `has_room`: whether it is there, which
@@ -32,48 +37,53 @@ pub(crate) fn make_room(wires: &mut Vec<Wire>, has_room: &mut bool) -> Result<()
     Ok(())
 }
 
-/// Appends packets as frames to the outboxes of the peers that they go to, where there is room for one in each. It takes no
-/// memory. `has_room`: whether that is so behind it, as far as is known. `frame`: where the frame is written that goes to several.
-pub(crate) fn send_all(
-    wires: &mut Vec<Wire>,
-    has_room: &mut bool,
-    frame: &mut Frame,
-    sends: &[(usize, Packet)],
-)
-    requires fit { FitLinks (length wires.old.items) sends.now }
+/// Appends a frame to the outboxes of the peers that it goes to, where there is room for one in each. It takes no memory.
+/// `has_room`: whether that is so behind it, as far as is known.
+pub(crate) fn send_all(wires: &mut Vec<Wire>, has_room: &mut bool, framed: &Framed)
+    requires fit { FitLinks (length wires.old.items) (listed_of framed.now) }
     requires room { HaveFrameRoom wires.old.items }
-    ensures sent { (place : ℕ) → links_in wires.new.items place ≡ with_more (links_in wires.old.items place) (frames_to sends.now place) }
-    ensures small { AreSmallFrames sends.now }
+    ensures sent { (place : ℕ) → links_in wires.new.items place ≡ with_more (links_in wires.old.items place) (frames_to (listed_of framed.now) place) }
+    ensures small { AreSmallFrames (listed_of framed.now) }
     ensures len { length wires.new.items ≡ length wires.old.items }
     ensures known { has_room.new ≡ true → HaveFrameRoom wires.new.items }
 {
-    match sends {
-        [] => {}
-        [sent] => {
+    match framed.goes() {
+        Goes::Nobody => {}
+        Goes::One(peer) => {
             *has_room = false;
-            let wire = &mut wires[sent.0];
-            wire.send(&sent.1);
+            append_if(wires, peer, true, framed.frame());
         }
-        [first, ..] => {
+        Goes::Marked(marked, peers) => {
             *has_room = false;
-            frame.set(&first.1);
-            append_all(wires, frame.as_slice(), sends);
+            append_marked(wires, marked, peers, framed.frame());
         }
     }
 }
 
-/// Appends one small frame to the outboxes of the peers that it goes to, where there is room for it in each. It takes no
-/// memory. `sends`: the packets of which it is the frame.
-fn append_all(wires: &mut Vec<Wire>, frame: &[u8], sends: &[(usize, Packet)])
-    requires fit { FitLinks (length wires.old.items) sends.now }
+/// Appends a frame to the outboxes of the marked ones of so many peers, where there is room for it in each. It takes no memory.
+fn append_marked(wires: &mut Vec<Wire>, marked: Places, peers: usize, frame: &[u8])
+    requires fit { (packet : Packet) × IsFrame frame.now packet × FitLinks (length wires.old.items) (going (Marked marked peers) packet) }
     requires room { HaveFrameRoom wires.old.items }
-    requires one { AreOneFrame frame.now sends.now }
-    ensures sent { (place : ℕ) → links_in wires.new.items place ≡ with_more (links_in wires.old.items place) (frames_to sends.now place) }
-    ensures small { AreSmallFrames sends.now }
+    ensures sent { (packet : Packet) → IsFrame frame.now packet → (place : ℕ)
+        → links_in wires.new.items place ≡ with_more (links_in wires.old.items place) (frames_to (going (Marked marked peers) packet) place) }
     ensures len { length wires.new.items ≡ length wires.old.items }
 {
-    for sent in sends {
-        let wire = &mut wires[sent.0];
+    for peer in 0..peers {
+        append_if(wires, peer, marked.has(peer), frame);
+    }
+}
+
+/// Appends a small frame to the outbox of a peer, where that is marked. It takes no memory.
+fn append_if(wires: &mut Vec<Wire>, peer: usize, marked: bool, frame: &[u8])
+    requires short { length frame.now ≤ 4 + MAX_SMALL_LEN }
+    requires place { marked ≡ true → peer < length wires.old.items }
+    requires room { marked ≡ true → 4 + MAX_SMALL_LEN ≤ room_in wires.old.items peer }
+    ensures sent { (place : ℕ) → links_in wires.new.items place ≡ with_more (links_in wires.old.items place) (cond (marked && nat_eq peer place) frame.now []) }
+    ensures others { (place : ℕ) → peer < place → room_in wires.new.items place ≡ room_in wires.old.items place }
+    ensures len { length wires.new.items ≡ length wires.old.items }
+{
+    if marked {
+        let wire = &mut wires[peer];
         wire.append(frame);
     }
 }

@@ -6,7 +6,7 @@ ghost use Rattle.pg_step.specs.State.{Response};
 use crate::state::NodeState;
 use pg_group::GroupTable;
 use pg_ports::{give, reserve_answer};
-use pg_sends::Done;
+use pg_sends::{Done, Outgoing};
 use pg_step::Reply;
 use std::alloc::AllocError;
 
@@ -21,14 +21,19 @@ impl<T: GroupTable + Drop> NodeState<T> {
     ghost use Rattle.pg_sends.specs.Sendable.{AreSendable};
 
     /// Counts the next command of a port, and answers it.
-    pub(crate) fn answer(&mut self, clock: u32, port: u16, reply: Reply) -> Result<Done, AllocError>
+    pub(crate) fn answer<S: Outgoing + Drop>(
+        &mut self,
+        clock: u32,
+        port: u16,
+        reply: Reply,
+    ) -> Result<Done<S>, AllocError>
         requires now { IsNow self.old.clock clock }
         requires place { port < ports_of self.old }
         ensures happens { (response : Response) → Answers (name_at (names_of self.old) 0) response reply
             → IfOk result (λ done. Happens (names_of self.old) (at_clock clock (op_issued port (λ op. answer op response) (kept_by self.old)))
             done (state_of self.new) (answers_of self.old) (answers_of self.new)) }
         ensures stays { Stays self.old self.new result }
-        ensures fits { IfOk result (λ done. AreSendable (names_of self.old) done.sends.items) }
+        ensures fits { IfOk result (λ done. AreSendable (names_of self.old) (S.listed done.sends)) }
     {
         match reserve_answer(&mut self.ports, port) {
             Ok(()) => {

@@ -19,7 +19,8 @@ use pg_group::GroupTable;
 use pg_marks::Asked;
 use pg_ports::{keep_reserved, reserve_answer};
 use pg_sends::{
-    Done, all_asked, ask_own, began_alone, first_asked, has_peer, own_under, waiting_under,
+    Done, Outgoing, all_asked, ask_own, began_alone, first_asked, has_peer, own_under,
+    waiting_under,
 };
 use pg_step::{OpId, Reply};
 use std::alloc::AllocError;
@@ -35,7 +36,11 @@ impl<T: GroupTable + Drop> NodeState<T> {
 
     /// Begins an attempt of a command that waits: the greatest live node is asked for the lock, alone, and what
     /// follows is done at once where it is the own one.
-    pub(crate) fn attempt(&mut self, clock: u32, op: OpId) -> Result<Done, AllocError>
+    pub(crate) fn attempt<S: Outgoing + Drop>(
+        &mut self,
+        clock: u32,
+        op: OpId,
+    ) -> Result<Done<S>, AllocError>
         requires later { self.old.clock ≤ clock }
         requires within { clock ≤ MAX_STAMP }
         requires made { (kept_by self.old).references + 2 ≤ 2 * clock }
@@ -45,7 +50,7 @@ impl<T: GroupTable + Drop> NodeState<T> {
             (at_clock clock (attempt (live_of self.old) op update (kept_by self.old)))
             done (state_of self.new) (answers_of self.old) (answers_of self.new)) }
         ensures stays { Stays self.old self.new result }
-        ensures fits { IfOk result (λ done. AreSendable (names_of self.old) done.sends.items) }
+        ensures fits { IfOk result (λ done. AreSendable (names_of self.old) (S.listed done.sends)) }
     {
         let first = self.opens.greatest();
         if first != 0 {
@@ -62,7 +67,12 @@ impl<T: GroupTable + Drop> NodeState<T> {
     }
 
     /// The greatest node is asked, which is a peer. `first`: its place, by the names.
-    fn ask_greatest(&mut self, clock: u32, op: OpId, first: usize) -> Result<Done, AllocError>
+    fn ask_greatest<S: Outgoing + Drop>(
+        &mut self,
+        clock: u32,
+        op: OpId,
+        first: usize,
+    ) -> Result<Done<S>, AllocError>
         requires later { self.old.clock ≤ clock }
         requires within { clock ≤ MAX_STAMP }
         requires made { (kept_by self.old).references + 2 ≤ 2 * clock }
@@ -76,7 +86,7 @@ impl<T: GroupTable + Drop> NodeState<T> {
             (at_clock clock (attempt (live_of self.old) op update (kept_by self.old)))
             done (state_of self.new) (answers_of self.old) (answers_of self.new)) }
         ensures stays { Stays self.old self.new result }
-        ensures fits { IfOk result (λ done. AreSendable (names_of self.old) done.sends.items) }
+        ensures fits { IfOk result (λ done. AreSendable (names_of self.old) (S.listed done.sends)) }
     {
         let done = first_asked(self.alloc, clock, &self.opens, op, first)?;
         let granted = self.would_grant_to(op);
@@ -86,7 +96,7 @@ impl<T: GroupTable + Drop> NodeState<T> {
     }
 
     /// The own node is the greatest, and denies the lock: the command waits.
-    fn deny_itself(&mut self, clock: u32, op: OpId) -> Done
+    fn deny_itself<S: Outgoing + Drop>(&mut self, clock: u32, op: OpId) -> Done<S>
         requires later { self.old.clock ≤ clock }
         requires within { clock ≤ MAX_STAMP }
         requires made { (kept_by self.old).references + 2 ≤ 2 * clock }
@@ -99,7 +109,7 @@ impl<T: GroupTable + Drop> NodeState<T> {
             result (state_of self.new) (answers_of self.old) (answers_of self.new) }
         ensures names { names_of self.new ≡ names_of self.old }
         ensures ports { ports_of self.new ≡ ports_of self.old }
-        ensures fits { AreSendable (names_of self.old) result.sends.items }
+        ensures fits { AreSendable (names_of self.old) (S.listed result.sends) }
     {
         let number = self.opens.references() + 1;
         ask_first(&mut self.opens, op, 0, false);
@@ -109,7 +119,11 @@ impl<T: GroupTable + Drop> NodeState<T> {
     }
 
     /// The own node is the greatest, and grants the lock: every live peer is asked.
-    fn ask_everyone(&mut self, clock: u32, op: OpId) -> Result<Done, AllocError>
+    fn ask_everyone<S: Outgoing + Drop>(
+        &mut self,
+        clock: u32,
+        op: OpId,
+    ) -> Result<Done<S>, AllocError>
         requires later { self.old.clock ≤ clock }
         requires within { clock ≤ MAX_STAMP }
         requires made { (kept_by self.old).references + 2 ≤ 2 * clock }
@@ -122,7 +136,7 @@ impl<T: GroupTable + Drop> NodeState<T> {
             (at_clock clock (attempt (live_of self.old) op update (kept_by self.old)))
             done (state_of self.new) (answers_of self.old) (answers_of self.new)) }
         ensures stays { Stays self.old self.new result }
-        ensures fits { IfOk result (λ done. AreSendable (names_of self.old) done.sends.items) }
+        ensures fits { IfOk result (λ done. AreSendable (names_of self.old) (S.listed done.sends)) }
     {
         let done = all_asked(self.alloc, clock, &self.opens, op)?;
         let number = self.opens.references() + 1;
@@ -144,7 +158,11 @@ impl<T: GroupTable + Drop> NodeState<T> {
     }
 
     /// The own node grants the lock, and no peer counts: the update is applied, and the command ends.
-    fn change_alone(&mut self, clock: u32, op: OpId) -> Result<Done, AllocError>
+    fn change_alone<S: Outgoing + Drop>(
+        &mut self,
+        clock: u32,
+        op: OpId,
+    ) -> Result<Done<S>, AllocError>
         requires later { self.old.clock ≤ clock }
         requires within { clock ≤ MAX_STAMP }
         requires made { (kept_by self.old).references + 2 ≤ 2 * clock }
@@ -157,7 +175,7 @@ impl<T: GroupTable + Drop> NodeState<T> {
             (at_clock clock (attempt (live_of self.old) op update (kept_by self.old)))
             done (state_of self.new) (answers_of self.old) (answers_of self.new)) }
         ensures stays { Stays self.old self.new result }
-        ensures fits { IfOk result (λ done. AreSendable (names_of self.old) done.sends.items) }
+        ensures fits { IfOk result (λ done. AreSendable (names_of self.old) (S.listed done.sends)) }
     {
         reserve_answer(&mut self.ports, op.port)?;
         let done = began_alone(self.alloc, &self.opens, op)?;

@@ -10,7 +10,7 @@ ghost use Rattle.pg_step.specs.Commands.{change_of, look};
 use crate::state::NodeState;
 use pg_group::GroupTable;
 use pg_ports::look;
-use pg_sends::Done;
+use pg_sends::{Done, Outgoing};
 use pg_step::Command;
 use std::alloc::AllocError;
 
@@ -24,12 +24,12 @@ impl<T: GroupTable + Drop> NodeState<T> {
     ghost use Rattle.pg_node_state.specs.States.{names_of, live_of, kept_by, state_of, answers_of, Happens};
 
     /// Changes a group, for the next command of a port: it is answered at once by the look, or begun.
-    pub(crate) fn change(
+    pub(crate) fn change<S: Outgoing + Drop>(
         &mut self,
         clock: u32,
         port: u16,
         command: &Command,
-    ) -> Result<Done, AllocError>
+    ) -> Result<Done<S>, AllocError>
         requires now { IsNow self.old.clock clock }
         requires place { port < ports_of self.old }
         requires change { is_some (change_of command.now) ≡ true }
@@ -38,7 +38,7 @@ impl<T: GroupTable + Drop> NodeState<T> {
             (at_clock clock (op_issued port (λ op. change (live_of self.old) op update) (kept_by self.old)))
             done (state_of self.new) (answers_of self.old) (answers_of self.new)) }
         ensures stays { Stays self.old self.new result }
-        ensures fits { IfOk result (λ done. AreSendable (names_of self.old) done.sends.items) }
+        ensures fits { IfOk result (λ done. AreSendable (names_of self.old) (S.listed done.sends)) }
     {
         match look(self.alloc, &self.table, command)? {
             Some(reply) => self.answer(clock, port, reply),

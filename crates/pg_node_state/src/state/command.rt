@@ -7,7 +7,7 @@ use crate::state::{NodeFault, NodeState};
 use pg_group::GroupTable;
 use pg_message::MAX_STAMP;
 use pg_ports::query_reply;
-use pg_sends::Done;
+use pg_sends::{Done, Outgoing};
 use pg_step::{Command, Refusal, Reply};
 use std::alloc::AllocError;
 
@@ -48,6 +48,22 @@ impl<T: GroupTable + Drop> NodeState<T> {
         ensures stays { Stays self.old self.new result }
         ensures fits { IfOk result (λ done. AreSendable (names_of self.old) done.sends.items) }
     {
+        self.command_as(port, command)
+    }
+
+    /// The same, in the form in which the caller sends: a list of packets, or a frame.
+    pub fn command_as<S: Outgoing + Drop>(
+        &mut self,
+        port: u16,
+        command: &Command,
+    ) -> Result<Done<S>, NodeFault>
+        requires place { port < ports_of self.old }
+        ensures event { Comes (names_of self.old)
+            (step_act (nodes_of self.old) (ports_of self.old) (Issue port command.now) (state_of self.old))
+            result (state_of self.new) (answers_of self.old) (answers_of self.new) }
+        ensures stays { Stays self.old self.new result }
+        ensures fits { IfOk result (λ done. AreSendable (names_of self.old) (S.listed done.sends)) }
+    {
         if self.clock >= MAX_STAMP {
             return Err(NodeFault::Refused(Refusal::ClockFull));
         }
@@ -55,14 +71,19 @@ impl<T: GroupTable + Drop> NodeState<T> {
     }
 
     /// Answers the next command of a port, where it is refused, and else carries it out.
-    fn issue(&mut self, clock: u32, port: u16, command: &Command) -> Result<Done, AllocError>
+    fn issue<S: Outgoing + Drop>(
+        &mut self,
+        clock: u32,
+        port: u16,
+        command: &Command,
+    ) -> Result<Done<S>, AllocError>
         requires now { IsNow self.old.clock clock }
         requires place { port < ports_of self.old }
         ensures happens { IfOk result (λ done. Happens (names_of self.old)
             (at_clock clock (commands.command (nodes_of self.old) (live_of self.old) port command.now (kept_by self.old)))
             done (state_of self.new) (answers_of self.old) (answers_of self.new)) }
         ensures stays { Stays self.old self.new result }
-        ensures fits { IfOk result (λ done. AreSendable (names_of self.old) done.sends.items) }
+        ensures fits { IfOk result (λ done. AreSendable (names_of self.old) (S.listed done.sends)) }
     {
         match self.command_fault(command) {
             Some(fault) => self.answer(clock, port, Reply::Refused(fault.number())),
@@ -71,7 +92,12 @@ impl<T: GroupTable + Drop> NodeState<T> {
     }
 
     /// Carries out the next command of a port, which is not refused.
-    fn carry_out(&mut self, clock: u32, port: u16, command: &Command) -> Result<Done, AllocError>
+    fn carry_out<S: Outgoing + Drop>(
+        &mut self,
+        clock: u32,
+        port: u16,
+        command: &Command,
+    ) -> Result<Done<S>, AllocError>
         requires now { IsNow self.old.clock clock }
         requires place { port < ports_of self.old }
         requires taken { fault_of (nodes_of self.old) (kept_by self.old) command.now ≡ None }
@@ -79,7 +105,7 @@ impl<T: GroupTable + Drop> NodeState<T> {
             (at_clock clock (op_issued port (λ op. carried_out (live_of self.old) op command.now) (kept_by self.old)))
             done (state_of self.new) (answers_of self.old) (answers_of self.new)) }
         ensures stays { Stays self.old self.new result }
-        ensures fits { IfOk result (λ done. AreSendable (names_of self.old) done.sends.items) }
+        ensures fits { IfOk result (λ done. AreSendable (names_of self.old) (S.listed done.sends)) }
     {
         match command {
             Command::Create(_) | Command::Delete(_) => self.change(clock, port, command),
@@ -91,7 +117,12 @@ impl<T: GroupTable + Drop> NodeState<T> {
     }
 
     /// Answers a query, the next command of a port, by the own table as it is.
-    fn read(&mut self, clock: u32, port: u16, query: &Command) -> Result<Done, AllocError>
+    fn read<S: Outgoing + Drop>(
+        &mut self,
+        clock: u32,
+        port: u16,
+        query: &Command,
+    ) -> Result<Done<S>, AllocError>
         requires now { IsNow self.old.clock clock }
         requires place { port < ports_of self.old }
         requires query { is_query query.now ≡ true }
@@ -99,7 +130,7 @@ impl<T: GroupTable + Drop> NodeState<T> {
             (at_clock clock (op_issued port (λ op. answer op (Read query.now (kept_by self.old).table)) (kept_by self.old)))
             done (state_of self.new) (answers_of self.old) (answers_of self.new)) }
         ensures stays { Stays self.old self.new result }
-        ensures fits { IfOk result (λ done. AreSendable (names_of self.old) done.sends.items) }
+        ensures fits { IfOk result (λ done. AreSendable (names_of self.old) (S.listed done.sends)) }
     {
         let reply = query_reply(self.alloc, &self.table, self.opens.name(0), query)?;
         self.answer(clock, port, reply)

@@ -6,7 +6,7 @@ ghost use Rattle.pg_message.specs.declared.message.Message.TheVariants as messag
 use crate::state::{NodeFault, NodeState};
 use pg_group::GroupTable;
 use pg_message::{MAX_STAMP, Said};
-use pg_sends::Done;
+use pg_sends::{Done, Outgoing};
 use pg_step::Refusal;
 
 impl<T: GroupTable + Drop> NodeState<T> {
@@ -43,6 +43,28 @@ impl<T: GroupTable + Drop> NodeState<T> {
             → result ≢ Err OutOfMemory }
         ensures stays { Stays self.old self.new result }
         ensures fits { IfOk result (λ done. AreSendable (names_of self.old) done.sends.items) }
+    {
+        self.take_own_reply_as(peer, stamp, number, said)
+    }
+
+    /// The same, in the form in which the caller sends: a list of packets, or a frame.
+    pub fn take_own_reply_as<S: Outgoing + Drop>(
+        &mut self,
+        peer: usize,
+        stamp: u32,
+        number: u32,
+        said: Said,
+    ) -> Result<Done<S>, NodeFault>
+        requires place { peer + 1 < length (names_of self.old) }
+        ensures event { Comes (names_of self.old)
+            (step_take (nodes_of self.old) (name_at (names_of self.old) (peer + 1))
+            (record { stamp = stamp; packet = messages.Reply (numbered (nodes_of self.old).own number) said }) (state_of self.old))
+            result (state_of self.new) (answers_of self.old) (answers_of self.new) }
+        ensures light { takes_none (live_of self.old) (name_at (names_of self.old) (peer + 1)) (kept_by self.old)
+            (messages.Reply (numbered (nodes_of self.old).own number) said) ≡ true
+            → result ≢ Err OutOfMemory }
+        ensures stays { Stays self.old self.new result }
+        ensures fits { IfOk result (λ done. AreSendable (names_of self.old) (S.listed done.sends)) }
     {
         if self.opens.is_lost(peer + 1) {
             return Err(NodeFault::Refused(Refusal::NodeLost));

@@ -10,7 +10,7 @@ use pg_ends::take_end;
 use pg_exchange::ExchangeFault;
 use pg_group::{GroupTable, Update};
 use pg_message::Said;
-use pg_sends::{Done, reply, verdict};
+use pg_sends::{Done, Outgoing, reply, verdict};
 use pg_step::Refusal;
 use pg_term::{Atom, Items, Pid, Reference, Term};
 use std::alloc::AllocError;
@@ -28,13 +28,13 @@ impl<T: GroupTable + Drop> NodeState<T> {
     ghost use Rattle.pg_sends.specs.Sendable.{AreSendable};
 
     /// Answers a request for a lock.
-    pub(crate) fn serve_lock(
+    pub(crate) fn serve_lock<S: Outgoing + Drop>(
         &mut self,
         clock: u32,
         peer: usize,
         reference: &Reference,
         name: &Term,
-    ) -> Result<Done, AllocError>
+    ) -> Result<Done<S>, AllocError>
         requires now { IsNow self.old.clock clock }
         requires place { peer + 1 < length (names_of self.old) }
         ensures state { OnOk result (state_of self.new
@@ -42,7 +42,7 @@ impl<T: GroupTable + Drop> NodeState<T> {
         ensures told { IfOk result (IsReported (names_of self.old)
             (at_clock clock (lock_request (live_of self.old) (name_at (names_of self.old) (peer + 1)) reference.now name.now (kept_by self.old)))) }
         ensures stays { Stays self.old self.new result }
-        ensures fits { IfOk result (λ done. AreSendable (names_of self.old) done.sends.items) }
+        ensures fits { IfOk result (λ done. AreSendable (names_of self.old) (S.listed done.sends)) }
         ensures answers { answers_of self.new ≡ answers_of self.old }
     {
         let formed = self.formation.formed();
@@ -61,13 +61,13 @@ impl<T: GroupTable + Drop> NodeState<T> {
     }
 
     /// Applies an update for a peer.
-    pub(crate) fn serve_update(
+    pub(crate) fn serve_update<S: Outgoing + Drop>(
         &mut self,
         clock: u32,
         peer: usize,
         reference: &Reference,
         update: &Update,
-    ) -> Result<Done, AllocError>
+    ) -> Result<Done<S>, AllocError>
         requires now { IsNow self.old.clock clock }
         requires place { peer + 1 < length (names_of self.old) }
         ensures state { OnOk result (state_of self.new
@@ -75,7 +75,7 @@ impl<T: GroupTable + Drop> NodeState<T> {
         ensures told { IfOk result (IsReported (names_of self.old)
             (at_clock clock (update_request (name_at (names_of self.old) (peer + 1)) reference.now update.now (kept_by self.old)))) }
         ensures stays { Stays self.old self.new result }
-        ensures fits { IfOk result (λ done. AreSendable (names_of self.old) done.sends.items) }
+        ensures fits { IfOk result (λ done. AreSendable (names_of self.old) (S.listed done.sends)) }
         ensures answers { answers_of self.new ≡ answers_of self.old }
     {
         let done = reply(self.alloc, clock, peer, reference, Said::Applied)?;
@@ -92,7 +92,12 @@ impl<T: GroupTable + Drop> NodeState<T> {
     }
 
     /// Frees a lock that a peer gives up.
-    pub(crate) fn free_lock(&mut self, clock: u32, reference: &Reference, name: &Term) -> Done
+    pub(crate) fn free_lock<S: Outgoing + Drop>(
+        &mut self,
+        clock: u32,
+        reference: &Reference,
+        name: &Term,
+    ) -> Done<S>
         requires now { IsNow self.old.clock clock }
         ensures state { state_of self.new
             ≡ (at_clock clock (lock_freed name.now reference.now (kept_by self.old))).state }
@@ -100,7 +105,7 @@ impl<T: GroupTable + Drop> NodeState<T> {
             (at_clock clock (lock_freed name.now reference.now (kept_by self.old))) result }
         ensures names { names_of self.new ≡ names_of self.old }
         ensures ports { ports_of self.new ≡ ports_of self.old }
-        ensures fits { AreSendable (names_of self.old) result.sends.items }
+        ensures fits { AreSendable (names_of self.old) (S.listed result.sends) }
         ensures answers { answers_of self.new ≡ answers_of self.old }
     {
         self.locks.give_up(name, reference);
@@ -112,13 +117,13 @@ impl<T: GroupTable + Drop> NodeState<T> {
     ///
     /// Errors: `NotAMessage` where the groups are of another node, or the peer has announced its groups; else
     /// `OutOfMemory`.
-    pub(crate) fn take_groups(
+    pub(crate) fn take_groups<S: Outgoing + Drop>(
         &mut self,
         clock: u32,
         peer: usize,
         node: &Atom,
         groups: &[(Term, Items<Pid>)],
-    ) -> Result<Done, NodeFault>
+    ) -> Result<Done<S>, NodeFault>
         requires now { IsNow self.old.clock clock }
         requires place { peer + 1 < length (names_of self.old) }
         requires few { HasFewMembers (2 ^ 32) groups.now }
@@ -130,7 +135,7 @@ impl<T: GroupTable + Drop> NodeState<T> {
             ↔ (is_bad_exchange (name_at (names_of self.old) (peer + 1)) node.now (kept_by self.old) ≡ true) }
         ensures fault { IfErr result (λ fault. (fault ≡ Refused NotAMessage) ⊎ (fault ≡ OutOfMemory)) }
         ensures stays { Stays self.old self.new result }
-        ensures fits { IfOk result (λ done. AreSendable (names_of self.old) done.sends.items) }
+        ensures fits { IfOk result (λ done. AreSendable (names_of self.old) (S.listed done.sends)) }
         ensures answers { answers_of self.new ≡ answers_of self.old }
     {
         if node != self.opens.name(peer + 1) {
@@ -154,13 +159,13 @@ impl<T: GroupTable + Drop> NodeState<T> {
     ///
     /// Errors: `NotAMessage` where the groups are of another node, or the peer has announced its groups; else
     /// `OutOfMemory`.
-    pub(crate) fn take_owned_groups(
+    pub(crate) fn take_owned_groups<S: Outgoing + Drop>(
         &mut self,
         clock: u32,
         peer: usize,
         node: &Atom,
         groups: Vec<(Term, Items<Pid>)>,
-    ) -> Result<Done, NodeFault>
+    ) -> Result<Done<S>, NodeFault>
         requires now { IsNow self.old.clock clock }
         requires place { peer + 1 < length (names_of self.old) }
         requires few { HasFewMembers (2 ^ 32) groups.items }
@@ -172,7 +177,7 @@ impl<T: GroupTable + Drop> NodeState<T> {
             ↔ (is_bad_exchange (name_at (names_of self.old) (peer + 1)) node.now (kept_by self.old) ≡ true) }
         ensures fault { IfErr result (λ fault. (fault ≡ Refused NotAMessage) ⊎ (fault ≡ OutOfMemory)) }
         ensures stays { Stays self.old self.new result }
-        ensures fits { IfOk result (λ done. AreSendable (names_of self.old) done.sends.items) }
+        ensures fits { IfOk result (λ done. AreSendable (names_of self.old) (S.listed done.sends)) }
         ensures answers { answers_of self.new ≡ answers_of self.old }
     {
         if node != self.opens.name(peer + 1) {
@@ -194,12 +199,16 @@ impl<T: GroupTable + Drop> NodeState<T> {
     }
 
     /// Takes the end of a process.
-    pub(crate) fn take_end(&mut self, clock: u32, pid: &Pid) -> Result<Done, AllocError>
+    pub(crate) fn take_end<S: Outgoing + Drop>(
+        &mut self,
+        clock: u32,
+        pid: &Pid,
+    ) -> Result<Done<S>, AllocError>
         requires now { IsNow self.old.clock clock }
         ensures state { OnOk result (state_of self.new ≡ (at_clock clock (process_end pid.now (kept_by self.old))).state) }
         ensures told { IfOk result (IsReported (names_of self.old) (at_clock clock (process_end pid.now (kept_by self.old)))) }
         ensures stays { Stays self.old self.new result }
-        ensures fits { IfOk result (λ done. AreSendable (names_of self.old) done.sends.items) }
+        ensures fits { IfOk result (λ done. AreSendable (names_of self.old) (S.listed done.sends)) }
         ensures answers { answers_of self.new ≡ answers_of self.old }
     {
         take_end(pid, &mut self.table, &mut self.ended)?;
@@ -208,7 +217,11 @@ impl<T: GroupTable + Drop> NodeState<T> {
     }
 
     /// Sees the loss of a peer.
-    pub(crate) fn forget_peer(&mut self, clock: u32, peer: usize) -> Result<Done, AllocError>
+    pub(crate) fn forget_peer<S: Outgoing + Drop>(
+        &mut self,
+        clock: u32,
+        peer: usize,
+    ) -> Result<Done<S>, AllocError>
         requires now { IsNow self.old.clock clock }
         requires place { peer + 1 < length (names_of self.old) }
         ensures state { OnOk result (state_of self.new
@@ -216,7 +229,7 @@ impl<T: GroupTable + Drop> NodeState<T> {
         ensures told { IfOk result (IsReported (names_of self.old)
             (at_clock clock (see_loss (name_at (names_of self.old) (peer + 1)) (kept_by self.old)))) }
         ensures stays { Stays self.old self.new result }
-        ensures fits { IfOk result (λ done. AreSendable (names_of self.old) done.sends.items) }
+        ensures fits { IfOk result (λ done. AreSendable (names_of self.old) (S.listed done.sends)) }
         ensures answers { answers_of self.new ≡ answers_of self.old }
     {
         let name = self.opens.name(peer + 1);

@@ -14,7 +14,7 @@ use crate::state::NodeState;
 use pg_ends::take_end;
 use pg_group::{Ended, GroupTable};
 use pg_ports::{Port, give, reserve_answer};
-use pg_sends::{Done, Order, to_live};
+use pg_sends::{Done, Order, Outgoing, to_live};
 use pg_step::Reply;
 use pg_term::Pid;
 use std::alloc::AllocError;
@@ -29,14 +29,18 @@ impl<T: GroupTable + Drop> NodeState<T> {
     ghost use Rattle.pg_sends.specs.Sendable.{AreSendable};
 
     /// Makes a process, for the next command of a port.
-    pub(crate) fn make_process(&mut self, clock: u32, port: u16) -> Result<Done, AllocError>
+    pub(crate) fn make_process<S: Outgoing + Drop>(
+        &mut self,
+        clock: u32,
+        port: u16,
+    ) -> Result<Done<S>, AllocError>
         requires now { IsNow self.old.clock clock }
         requires place { port < ports_of self.old }
         requires limit { (kept_by self.old).processes < MAX_PROCESSES }
         ensures happens { IfOk result (λ done. Happens (names_of self.old) (at_clock clock (op_issued port (make (live_of self.old)) (kept_by self.old)))
             done (state_of self.new) (answers_of self.old) (answers_of self.new)) }
         ensures stays { Stays self.old self.new result }
-        ensures fits { IfOk result (λ done. AreSendable (names_of self.old) done.sends.items) }
+        ensures fits { IfOk result (λ done. AreSendable (names_of self.old) (S.listed done.sends)) }
     {
         reserve_answer(&mut self.ports, port)?;
         // The limit is not reached, so that only memory can be missing.
@@ -49,18 +53,18 @@ impl<T: GroupTable + Drop> NodeState<T> {
     }
     /// Ends a process of the node, for the next command of a port: it is in no group, and each live peer is sent its
     /// end.
-    pub(crate) fn end_process(
+    pub(crate) fn end_process<S: Outgoing + Drop>(
         &mut self,
         clock: u32,
         port: u16,
         pid: &Pid,
-    ) -> Result<Done, AllocError>
+    ) -> Result<Done<S>, AllocError>
         requires now { IsNow self.old.clock clock }
         requires place { port < ports_of self.old }
         ensures happens { IfOk result (λ done. Happens (names_of self.old) (at_clock clock (op_issued port (λ op. end_process (live_of self.old) op pid.now) (kept_by self.old)))
             done (state_of self.new) (answers_of self.old) (answers_of self.new)) }
         ensures stays { Stays self.old self.new result }
-        ensures fits { IfOk result (λ done. AreSendable (names_of self.old) done.sends.items) }
+        ensures fits { IfOk result (λ done. AreSendable (names_of self.old) (S.listed done.sends)) }
     {
         let sends = to_live(self.alloc, clock, Order::End(pid), &self.opens)?;
         end_at(&mut self.ports, &mut self.table, &mut self.ended, port, pid)?;

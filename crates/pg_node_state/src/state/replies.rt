@@ -9,7 +9,7 @@ use pg_message::Said;
 use pg_multicall::Taken;
 use pg_opens::Gathering;
 use pg_refs::number_of;
-use pg_sends::Done;
+use pg_sends::{Done, Outgoing};
 use pg_step::{Odd, OpId, Refusal};
 use pg_term::Reference;
 use std::alloc::AllocError;
@@ -34,13 +34,13 @@ impl<T: GroupTable + Drop> NodeState<T> {
     /// Takes the reply of a peer, which is not lost.
     ///
     /// Errors: `Refused` by `NotAMessage` where the reply is not of the kind that is gathered; else `OutOfMemory`.
-    pub(crate) fn take_reply(
+    pub(crate) fn take_reply<S: Outgoing + Drop>(
         &mut self,
         clock: u32,
         peer: usize,
         reference: &Reference,
         said: Said,
-    ) -> Result<Done, NodeFault>
+    ) -> Result<Done<S>, NodeFault>
         requires now { IsNow self.old.clock clock }
         requires place { peer + 1 < length (names_of self.old) }
         ensures light { is_counted (what_of true (gathered (use_of (live_of self.old) reference.now (kept_by self.old)) (name_at (names_of self.old) (peer + 1)))) ≡ false
@@ -48,7 +48,7 @@ impl<T: GroupTable + Drop> NodeState<T> {
         ensures comes { ComesAt clock (names_of self.old) (reply_taken (live_of self.old) (name_at (names_of self.old) (peer + 1)) reference.now said (kept_by self.old))
             result (state_of self.new) (answers_of self.old) (answers_of self.new) }
         ensures stays { Stays self.old self.new result }
-        ensures fits { IfOk result (λ done. AreSendable (names_of self.old) done.sends.items) }
+        ensures fits { IfOk result (λ done. AreSendable (names_of self.old) (S.listed done.sends)) }
     {
         match number_of(self.opens.name(0), reference) {
             Some(number) => self.take_numbered(clock, peer, number, said),
@@ -59,13 +59,13 @@ impl<T: GroupTable + Drop> NodeState<T> {
     /// Takes the reply of a peer, which is not lost, to the reference of this number.
     ///
     /// Errors: those of `take_reply`.
-    pub(crate) fn take_numbered(
+    pub(crate) fn take_numbered<S: Outgoing + Drop>(
         &mut self,
         clock: u32,
         peer: usize,
         number: u32,
         said: Said,
-    ) -> Result<Done, NodeFault>
+    ) -> Result<Done<S>, NodeFault>
         requires now { IsNow self.old.clock clock }
         requires place { peer + 1 < length (names_of self.old) }
         ensures light { is_counted (what_of true (gathered (use_of (live_of self.old) (numbered (live_of self.old).own number) (kept_by self.old)) (name_at (names_of self.old) (peer + 1)))) ≡ false
@@ -73,7 +73,7 @@ impl<T: GroupTable + Drop> NodeState<T> {
         ensures comes { ComesAt clock (names_of self.old) (reply_taken (live_of self.old) (name_at (names_of self.old) (peer + 1)) (numbered (live_of self.old).own number) said (kept_by self.old))
             result (state_of self.new) (answers_of self.old) (answers_of self.new) }
         ensures stays { Stays self.old self.new result }
-        ensures fits { IfOk result (λ done. AreSendable (names_of self.old) done.sends.items) }
+        ensures fits { IfOk result (λ done. AreSendable (names_of self.old) (S.listed done.sends)) }
     {
         self.look_for(number);
         self.take_looked_for(clock, peer, number, said)
@@ -91,13 +91,13 @@ impl<T: GroupTable + Drop> NodeState<T> {
     }
 
     /// Takes the reply once its command was looked for.
-    fn take_looked_for(
+    fn take_looked_for<S: Outgoing + Drop>(
         &mut self,
         clock: u32,
         peer: usize,
         number: u32,
         said: Said,
-    ) -> Result<Done, NodeFault>
+    ) -> Result<Done<S>, NodeFault>
         requires now { IsNow self.old.clock clock }
         requires place { peer + 1 < length (names_of self.old) }
         ensures light { is_counted (what_of true (gathered (use_of (live_of self.old) (numbered (live_of self.old).own number) (kept_by self.old)) (name_at (names_of self.old) (peer + 1)))) ≡ false
@@ -105,7 +105,7 @@ impl<T: GroupTable + Drop> NodeState<T> {
         ensures comes { ComesAt clock (names_of self.old) (reply_taken (live_of self.old) (name_at (names_of self.old) (peer + 1)) (numbered (live_of self.old).own number) said (kept_by self.old))
             result (state_of self.new) (answers_of self.old) (answers_of self.new) }
         ensures stays { Stays self.old self.new result }
-        ensures fits { IfOk result (λ done. AreSendable (names_of self.old) done.sends.items) }
+        ensures fits { IfOk result (λ done. AreSendable (names_of self.old) (S.listed done.sends)) }
     {
         let kind = is_kind(self.opens.gathering(number), said);
         match self.opens.heard(number, peer + 1) {
@@ -120,13 +120,13 @@ impl<T: GroupTable + Drop> NodeState<T> {
     }
 
     /// Counts the reply of a peer, and goes on.
-    fn count(
+    fn count<S: Outgoing + Drop>(
         &mut self,
         clock: u32,
         number: u32,
         peer: usize,
         said: Said,
-    ) -> Result<Done, AllocError>
+    ) -> Result<Done<S>, AllocError>
         requires now { IsNow self.old.clock clock }
         requires place { peer + 1 < length (names_of self.old) }
         requires new { what_of true (gathered ((kept_by self.old).uses number) (name_at (names_of self.old) (peer + 1))) ≡ Counted }
@@ -134,7 +134,7 @@ impl<T: GroupTable + Drop> NodeState<T> {
             (counted ((kept_by self.old).uses number) (live_of self.old) (name_at (names_of self.old) (peer + 1)) number said (kept_by self.old)))
             done (state_of self.new) (answers_of self.old) (answers_of self.new)) }
         ensures stays { Stays self.old self.new result }
-        ensures fits { IfOk result (λ done. AreSendable (names_of self.old) done.sends.items) }
+        ensures fits { IfOk result (λ done. AreSendable (names_of self.old) (S.listed done.sends)) }
     {
         match self.opens.gathering(number) {
             Gathering::Lock(op) => self.count_answer(clock, number, op, peer, said),
@@ -144,14 +144,14 @@ impl<T: GroupTable + Drop> NodeState<T> {
     }
 
     /// Counts the answer of a peer to a request for the lock, and goes on.
-    fn count_answer(
+    fn count_answer<S: Outgoing + Drop>(
         &mut self,
         clock: u32,
         number: u32,
         op: OpId,
         peer: usize,
         said: Said,
-    ) -> Result<Done, AllocError>
+    ) -> Result<Done<S>, AllocError>
         requires now { IsNow self.old.clock clock }
         requires place { peer + 1 < length (names_of self.old) }
         requires locking { gathering_of ((kept_by self.old).uses number) ≡ gatherings.Lock op }
@@ -160,7 +160,7 @@ impl<T: GroupTable + Drop> NodeState<T> {
             (counted ((kept_by self.old).uses number) (live_of self.old) (name_at (names_of self.old) (peer + 1)) number said (kept_by self.old)))
             done (state_of self.new) (answers_of self.old) (answers_of self.new)) }
         ensures stays { Stays self.old self.new result }
-        ensures fits { IfOk result (λ done. AreSendable (names_of self.old) done.sends.items) }
+        ensures fits { IfOk result (λ done. AreSendable (names_of self.old) (S.listed done.sends)) }
     {
         self.opens.count_answer(number, peer + 1, is_granted(said));
         match self.go_on(clock, number, op) {
@@ -173,14 +173,14 @@ impl<T: GroupTable + Drop> NodeState<T> {
     }
 
     /// Counts the ok of a peer, and ends the command where all have come.
-    fn count_ok(
+    fn count_ok<S: Outgoing + Drop>(
         &mut self,
         clock: u32,
         number: u32,
         op: OpId,
         lock: u32,
         peer: usize,
-    ) -> Result<Done, AllocError>
+    ) -> Result<Done<S>, AllocError>
         requires now { IsNow self.old.clock clock }
         requires place { peer + 1 < length (names_of self.old) }
         requires updating { gathering_of ((kept_by self.old).uses number) ≡ gatherings.Update op lock }
@@ -189,7 +189,7 @@ impl<T: GroupTable + Drop> NodeState<T> {
             (counted ((kept_by self.old).uses number) (live_of self.old) (name_at (names_of self.old) (peer + 1)) number said (kept_by self.old)))
             done (state_of self.new) (answers_of self.old) (answers_of self.new)) }
         ensures stays { Stays self.old self.new result }
-        ensures fits { IfOk result (λ done. AreSendable (names_of self.old) done.sends.items) }
+        ensures fits { IfOk result (λ done. AreSendable (names_of self.old) (S.listed done.sends)) }
     {
         self.opens.count_ok(number, peer + 1);
         if !self.opens.is_complete(number) {
@@ -205,17 +205,18 @@ impl<T: GroupTable + Drop> NodeState<T> {
     }
 
     /// Notes a reply that completes nothing.
-    fn note_odd(&mut self, clock: u32, odd: Odd) -> Done
+    fn note_odd<S: Outgoing + Drop>(&mut self, clock: u32, odd: Odd) -> Done<S>
         requires now { IsNow self.old.clock clock }
         ensures happens { Happens (names_of self.old) (at_clock clock (strange odd (kept_by self.old))) result (state_of self.new) (answers_of self.old) (answers_of self.new) }
         ensures names { names_of self.new ≡ names_of self.old }
         ensures ports { ports_of self.new ≡ ports_of self.old }
-        ensures fits { AreSendable (names_of self.old) result.sends.items }
+        ensures fits { AreSendable (names_of self.old) (S.listed result.sends) }
     {
         self.clock = clock;
         Done {
+            sends: S::nothing(self.alloc),
+            began: None,
             odd: Some(odd),
-            ..Done::nothing(self.alloc)
         }
     }
 }

@@ -7,7 +7,7 @@ use crate::state::{NodeFault, NodeState};
 use pg_group::GroupTable;
 use pg_message::MAX_STAMP;
 use pg_opens::{Gathering, Stage};
-use pg_sends::Done;
+use pg_sends::{Done, Outgoing};
 use pg_step::{OpId, Refusal};
 use std::alloc::AllocError;
 
@@ -37,6 +37,18 @@ impl<T: GroupTable + Drop> NodeState<T> {
         ensures stays { Stays self.old self.new result }
         ensures fits { IfOk result (λ done. AreSendable (names_of self.old) done.sends.items) }
     {
+        self.retry_as(op)
+    }
+
+    /// The same, in the form in which the caller sends: a list of packets, or a frame.
+    pub fn retry_as<S: Outgoing + Drop>(&mut self, op: OpId) -> Result<Done<S>, NodeFault>
+        requires place { op.port < ports_of self.old }
+        ensures event { Comes (names_of self.old)
+            (step_act (nodes_of self.old) (ports_of self.old) (Retry op) (state_of self.old))
+            result (state_of self.new) (answers_of self.old) (answers_of self.new) }
+        ensures stays { Stays self.old self.new result }
+        ensures fits { IfOk result (λ done. AreSendable (names_of self.old) (S.listed done.sends)) }
+    {
         if !self.opens.waits(op) {
             return Err(NodeFault::Refused(Refusal::NotWaiting));
         }
@@ -63,13 +75,13 @@ impl<T: GroupTable + Drop> NodeState<T> {
     }
 
     /// What a retry of a command leads to.
-    fn try_again(&mut self, clock: u32, op: OpId) -> Result<Done, AllocError>
+    fn try_again<S: Outgoing + Drop>(&mut self, clock: u32, op: OpId) -> Result<Done<S>, AllocError>
         requires now { IsNow self.old.clock clock }
         ensures happens { IfOk result (λ done. Happens (names_of self.old) (at_clock clock
             (tried_again ((kept_by self.old).stages op) (live_of self.old) op (kept_by self.old)))
             done (state_of self.new) (answers_of self.old) (answers_of self.new)) }
         ensures stays { Stays self.old self.new result }
-        ensures fits { IfOk result (λ done. AreSendable (names_of self.old) done.sends.items) }
+        ensures fits { IfOk result (λ done. AreSendable (names_of self.old) (S.listed done.sends)) }
     {
         match self.opens.stage(op) {
             Stage::Closed => Ok(self.wait(clock)),
@@ -80,13 +92,17 @@ impl<T: GroupTable + Drop> NodeState<T> {
     }
 
     /// What follows for the request for the lock under the reference of this number.
-    fn go_on_asking(&mut self, clock: u32, number: u32) -> Result<Done, AllocError>
+    fn go_on_asking<S: Outgoing + Drop>(
+        &mut self,
+        clock: u32,
+        number: u32,
+    ) -> Result<Done<S>, AllocError>
         requires now { IsNow self.old.clock clock }
         ensures happens { IfOk result (λ done. Happens (names_of self.old) (at_clock clock
             (go_on (live_of self.old) number ((kept_by self.old).uses number) (kept_by self.old)))
             done (state_of self.new) (answers_of self.old) (answers_of self.new)) }
         ensures stays { Stays self.old self.new result }
-        ensures fits { IfOk result (λ done. AreSendable (names_of self.old) done.sends.items) }
+        ensures fits { IfOk result (λ done. AreSendable (names_of self.old) (S.listed done.sends)) }
     {
         match self.opens.gathering(number) {
             Gathering::Lock(op) => self.go_on(clock, number, op),
@@ -96,13 +112,17 @@ impl<T: GroupTable + Drop> NodeState<T> {
     }
 
     /// What follows for the update under the reference of this number.
-    fn go_on_changing(&mut self, clock: u32, number: u32) -> Result<Done, AllocError>
+    fn go_on_changing<S: Outgoing + Drop>(
+        &mut self,
+        clock: u32,
+        number: u32,
+    ) -> Result<Done<S>, AllocError>
         requires now { IsNow self.old.clock clock }
         ensures happens { IfOk result (λ done. Happens (names_of self.old) (at_clock clock
             (replies_in (live_of self.old) number ((kept_by self.old).uses number) (kept_by self.old)))
             done (state_of self.new) (answers_of self.old) (answers_of self.new)) }
         ensures stays { Stays self.old self.new result }
-        ensures fits { IfOk result (λ done. AreSendable (names_of self.old) done.sends.items) }
+        ensures fits { IfOk result (λ done. AreSendable (names_of self.old) (S.listed done.sends)) }
     {
         match self.opens.gathering(number) {
             Gathering::Update(op, lock) => {

@@ -7,7 +7,7 @@ ghost use Rattle.pg_message.specs.declared.packet.TheConstants.{MAX_STAMP};
 use crate::state::{NodeFault, NodeState};
 use pg_group::GroupTable;
 use pg_message::{MAX_STAMP, Message, Packet, Request};
-use pg_sends::Done;
+use pg_sends::{Done, Outgoing};
 use pg_step::Refusal;
 use pg_term::{Atom, Items, Pid, Term};
 
@@ -40,6 +40,25 @@ impl<T: GroupTable + Drop> NodeState<T> {
             → result ≢ Err OutOfMemory }
         ensures stays { Stays self.old self.new result }
         ensures fits { IfOk result (λ done. AreSendable (names_of self.old) done.sends.items) }
+    {
+        self.take_as(peer, packet)
+    }
+
+    /// The same, in the form in which the caller sends: a list of packets, or a frame.
+    pub fn take_as<S: Outgoing + Drop>(
+        &mut self,
+        peer: usize,
+        packet: &Packet,
+    ) -> Result<Done<S>, NodeFault>
+        requires place { peer + 1 < length (names_of self.old) }
+        requires few { IsShort (2 ^ 32) packet.now.message }
+        ensures event { Comes (names_of self.old)
+            (step_take (nodes_of self.old) (name_at (names_of self.old) (peer + 1)) (stamped_of packet.now) (state_of self.old))
+            result (state_of self.new) (answers_of self.old) (answers_of self.new) }
+        ensures light { takes_none (live_of self.old) (name_at (names_of self.old) (peer + 1)) (kept_by self.old) packet.now.message ≡ true
+            → result ≢ Err OutOfMemory }
+        ensures stays { Stays self.old self.new result }
+        ensures fits { IfOk result (λ done. AreSendable (names_of self.old) (S.listed done.sends)) }
     {
         if self.opens.is_lost(peer + 1) {
             return Err(NodeFault::Refused(Refusal::NodeLost));
@@ -80,6 +99,25 @@ impl<T: GroupTable + Drop> NodeState<T> {
         ensures stays { Stays self.old self.new result }
         ensures fits { IfOk result (λ done. AreSendable (names_of self.old) done.sends.items) }
     {
+        self.take_owned_as(peer, packet)
+    }
+
+    /// The same, in the form in which the caller sends: a list of packets, or a frame.
+    pub fn take_owned_as<S: Outgoing + Drop>(
+        &mut self,
+        peer: usize,
+        packet: Packet,
+    ) -> Result<Done<S>, NodeFault>
+        requires place { peer + 1 < length (names_of self.old) }
+        requires few { IsShort (2 ^ 32) packet.message }
+        ensures event { Comes (names_of self.old)
+            (step_take (nodes_of self.old) (name_at (names_of self.old) (peer + 1)) (stamped_of packet) (state_of self.old))
+            result (state_of self.new) (answers_of self.old) (answers_of self.new) }
+        ensures light { takes_none (live_of self.old) (name_at (names_of self.old) (peer + 1)) (kept_by self.old) packet.message ≡ true
+            → result ≢ Err OutOfMemory }
+        ensures stays { Stays self.old self.new result }
+        ensures fits { IfOk result (λ done. AreSendable (names_of self.old) (S.listed done.sends)) }
+    {
         let Packet { stamp, message } = packet;
         match message {
             Message::Exchange(node, groups) => {
@@ -89,7 +127,7 @@ impl<T: GroupTable + Drop> NodeState<T> {
             }
             message => {
                 let packet = Packet { stamp, message };
-                let taken = self.take(peer, &packet);
+                let taken = self.take_as(peer, &packet);
                 drop(packet);
                 taken
             }
@@ -97,13 +135,13 @@ impl<T: GroupTable + Drop> NodeState<T> {
     }
 
     /// The same of the groups that a packet announces.
-    fn take_exchange(
+    fn take_exchange<S: Outgoing + Drop>(
         &mut self,
         peer: usize,
         stamp: u32,
         node: &Atom,
         groups: Vec<(Term, Items<Pid>)>,
-    ) -> Result<Done, NodeFault>
+    ) -> Result<Done<S>, NodeFault>
         requires place { peer + 1 < length (names_of self.old) }
         requires few { HasFewMembers (2 ^ 32) groups.items }
         ensures event { Comes (names_of self.old)
@@ -111,7 +149,7 @@ impl<T: GroupTable + Drop> NodeState<T> {
             result (state_of self.new) (answers_of self.old) (answers_of self.new) }
         ensures stays { Stays self.old self.new result }
         ensures answers { answers_of self.new ≡ answers_of self.old }
-        ensures fits { IfOk result (λ done. AreSendable (names_of self.old) done.sends.items) }
+        ensures fits { IfOk result (λ done. AreSendable (names_of self.old) (S.listed done.sends)) }
     {
         if self.opens.is_lost(peer + 1) {
             drop(groups);
@@ -140,6 +178,22 @@ impl<T: GroupTable + Drop> NodeState<T> {
             result (state_of self.new) (answers_of self.old) (answers_of self.new) }
         ensures stays { Stays self.old self.new result }
         ensures fits { IfOk result (λ done. AreSendable (names_of self.old) done.sends.items) }
+    {
+        self.see_loss_as(peer, last)
+    }
+
+    /// The same, in the form in which the caller sends: a list of packets, or a frame.
+    pub fn see_loss_as<S: Outgoing + Drop>(
+        &mut self,
+        peer: usize,
+        last: u32,
+    ) -> Result<Done<S>, NodeFault>
+        requires place { peer + 1 < length (names_of self.old) }
+        ensures event { Comes (names_of self.old)
+            (step_see_loss (name_at (names_of self.old) (peer + 1)) last (state_of self.old))
+            result (state_of self.new) (answers_of self.old) (answers_of self.new) }
+        ensures stays { Stays self.old self.new result }
+        ensures fits { IfOk result (λ done. AreSendable (names_of self.old) (S.listed done.sends)) }
     {
         if self.opens.is_lost(peer + 1) {
             return Err(NodeFault::Refused(Refusal::NodeLost));

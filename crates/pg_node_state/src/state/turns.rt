@@ -18,8 +18,8 @@ use pg_marks::Asked;
 use pg_opens::{Outlook, steps_go_by_outlook};
 use pg_ports::{keep_reserved, reserve_answer};
 use pg_sends::{
-    Done, apply_own, ask_own, asked, begun, ended, free_own, freed, give_up_own, has_peer,
-    own_under, update_under,
+    Done, Outgoing, apply_own, ask_own, asked, begun, ended, free_own, freed, give_up_own,
+    has_peer, own_under, update_under,
 };
 use pg_step::{OpId, Reply};
 use pg_term::equality;
@@ -38,7 +38,11 @@ impl<T: GroupTable + Drop> NodeState<T> {
     ghost use Rattle.pg_sends.specs.Sendable.{AreSendable};
 
     /// Gives an attempt up: frees the lock at each node that granted it. `number`: the one of its reference.
-    pub(crate) fn stop_asking(&mut self, clock: u32, number: u32) -> Result<Done, AllocError>
+    pub(crate) fn stop_asking<S: Outgoing + Drop>(
+        &mut self,
+        clock: u32,
+        number: u32,
+    ) -> Result<Done<S>, AllocError>
         requires now { IsNow self.old.clock clock }
         requires locking { is_locking ((kept_by self.old).uses number) ≡ true }
         ensures happens { (op : OpId) (update : Update) (first : Node) (st : Node → Status) → (kept_by self.old).uses number ≡ Locking op update first st
@@ -46,7 +50,7 @@ impl<T: GroupTable + Drop> NodeState<T> {
             (give_up (live_of self.old) number op update st (kept_by self.old)))
             done (state_of self.new) (answers_of self.old) (answers_of self.new)) }
         ensures stays { Stays self.old self.new result }
-        ensures fits { IfOk result (λ done. AreSendable (names_of self.old) done.sends.items) }
+        ensures fits { IfOk result (λ done. AreSendable (names_of self.old) (S.listed done.sends)) }
     {
         let done = freed(self.alloc, clock, &self.opens, number)?;
         let granted = self.opens.has_granted(number, 0);
@@ -59,7 +63,11 @@ impl<T: GroupTable + Drop> NodeState<T> {
     }
 
     /// Asks for the lock those that were not asked, the own node too. `number`: the one of its reference.
-    pub(crate) fn ask_rest(&mut self, clock: u32, number: u32) -> Result<Done, AllocError>
+    pub(crate) fn ask_rest<S: Outgoing + Drop>(
+        &mut self,
+        clock: u32,
+        number: u32,
+    ) -> Result<Done<S>, AllocError>
         requires now { IsNow self.old.clock clock }
         requires locking { is_locking ((kept_by self.old).uses number) ≡ true }
         ensures happens { (op : OpId) (update : Update) (first : Node) (st : Node → Status) → (kept_by self.old).uses number ≡ Locking op update first st
@@ -67,7 +75,7 @@ impl<T: GroupTable + Drop> NodeState<T> {
             (ask (live_of self.old) (λ q. true) number op update first st (kept_by self.old)))
             done (state_of self.new) (answers_of self.old) (answers_of self.new)) }
         ensures stays { Stays self.old self.new result }
-        ensures fits { IfOk result (λ done. AreSendable (names_of self.old) done.sends.items) }
+        ensures fits { IfOk result (λ done. AreSendable (names_of self.old) (S.listed done.sends)) }
     {
         let done = asked(self.alloc, clock, &self.opens, number)?;
         let granted = self.would_grant(number);
@@ -89,7 +97,12 @@ impl<T: GroupTable + Drop> NodeState<T> {
 
     /// Begins the update of a command that all have granted, once the rest was asked: it has a new reference, changes the own
     /// table, and goes to every live peer. `number`: the one of the reference of its lock.
-    pub(crate) fn begin(&mut self, clock: u32, number: u32, op: OpId) -> Result<Done, AllocError>
+    pub(crate) fn begin<S: Outgoing + Drop>(
+        &mut self,
+        clock: u32,
+        number: u32,
+        op: OpId,
+    ) -> Result<Done<S>, AllocError>
         requires now { IsNow self.old.clock clock }
         requires locking { gathering_of ((kept_by self.old).uses number) ≡ gatherings.Lock op }
         ensures happens { (update : Update) (first : Node) (st : Node → Status) → (kept_by self.old).uses number ≡ Locking op update first st
@@ -97,7 +110,7 @@ impl<T: GroupTable + Drop> NodeState<T> {
             (begin (live_of self.old) number op update (ask (live_of self.old) (λ q. true) number op update first st (kept_by self.old)).state))
             done (state_of self.new) (answers_of self.old) (answers_of self.new)) }
         ensures stays { Stays self.old self.new result }
-        ensures fits { IfOk result (λ done. AreSendable (names_of self.old) done.sends.items) }
+        ensures fits { IfOk result (λ done. AreSendable (names_of self.old) (S.listed done.sends)) }
     {
         let done = begun(self.alloc, clock, &self.opens, number, op)?;
         let granted = self.would_grant(number);
@@ -127,13 +140,13 @@ impl<T: GroupTable + Drop> NodeState<T> {
 
     /// Ends a command whose update every node has applied: frees the lock everywhere, and answers ok. `number`: the one of
     /// the reference of its update; `lock`: the one of its lock.
-    pub(crate) fn finish(
+    pub(crate) fn finish<S: Outgoing + Drop>(
         &mut self,
         clock: u32,
         number: u32,
         op: OpId,
         lock: u32,
-    ) -> Result<Done, AllocError>
+    ) -> Result<Done<S>, AllocError>
         requires now { IsNow self.old.clock clock }
         requires updating { gathering_of ((kept_by self.old).uses number) ≡ gatherings.Update op lock }
         ensures happens { (update : Update) (replied : Node → Bool) → (kept_by self.old).uses number ≡ Updating op update lock replied
@@ -141,7 +154,7 @@ impl<T: GroupTable + Drop> NodeState<T> {
             (finish (live_of self.old) number op update lock (kept_by self.old)))
             done (state_of self.new) (answers_of self.old) (answers_of self.new)) }
         ensures stays { Stays self.old self.new result }
-        ensures fits { IfOk result (λ done. AreSendable (names_of self.old) done.sends.items) }
+        ensures fits { IfOk result (λ done. AreSendable (names_of self.old) (S.listed done.sends)) }
     {
         reserve_answer(&mut self.ports, op.port)?;
         let done = ended(self.alloc, clock, &self.opens, number, lock)?;
@@ -155,7 +168,12 @@ impl<T: GroupTable + Drop> NodeState<T> {
     }
 
     /// Begins the update of a command that all have granted, at a node of which no peer counts: the command ends at once.
-    fn begin_alone(&mut self, clock: u32, number: u32, op: OpId) -> Result<Done, AllocError>
+    fn begin_alone<S: Outgoing + Drop>(
+        &mut self,
+        clock: u32,
+        number: u32,
+        op: OpId,
+    ) -> Result<Done<S>, AllocError>
         requires now { IsNow self.old.clock clock }
         requires locking { gathering_of ((kept_by self.old).uses number) ≡ gatherings.Lock op }
         requires alone { (q : Node) → is_peer (live_of self.old) q ≡ false }
@@ -164,7 +182,7 @@ impl<T: GroupTable + Drop> NodeState<T> {
             (turn_by outlooks.Begin (live_of self.old) number op update first st (kept_by self.old)))
             done (state_of self.new) (answers_of self.old) (answers_of self.new)) }
         ensures stays { Stays self.old self.new result }
-        ensures fits { IfOk result (λ done. AreSendable (names_of self.old) done.sends.items) }
+        ensures fits { IfOk result (λ done. AreSendable (names_of self.old) (S.listed done.sends)) }
     {
         reserve_answer(&mut self.ports, op.port)?;
         let done = begun(self.alloc, clock, &self.opens, number, op)?;
@@ -191,14 +209,19 @@ impl<T: GroupTable + Drop> NodeState<T> {
     }
 
     /// What follows once the answers to a request for the lock are in. `number`: the one of its reference.
-    pub(crate) fn go_on(&mut self, clock: u32, number: u32, op: OpId) -> Result<Done, AllocError>
+    pub(crate) fn go_on<S: Outgoing + Drop>(
+        &mut self,
+        clock: u32,
+        number: u32,
+        op: OpId,
+    ) -> Result<Done<S>, AllocError>
         requires now { IsNow self.old.clock clock }
         requires locking { gathering_of ((kept_by self.old).uses number) ≡ gatherings.Lock op }
         ensures happens { IfOk result (λ done. Happens (names_of self.old) (at_clock clock
             (go_on (live_of self.old) number ((kept_by self.old).uses number) (kept_by self.old)))
             done (state_of self.new) (answers_of self.old) (answers_of self.new)) }
         ensures stays { Stays self.old self.new result }
-        ensures fits { IfOk result (λ done. AreSendable (names_of self.old) done.sends.items) }
+        ensures fits { IfOk result (λ done. AreSendable (names_of self.old) (S.listed done.sends)) }
     {
         steps_go_by_outlook();
         let granted = self.would_grant(number);
@@ -217,12 +240,12 @@ impl<T: GroupTable + Drop> NodeState<T> {
     }
 
     /// Nothing follows yet.
-    pub(crate) fn wait(&mut self, clock: u32) -> Done
+    pub(crate) fn wait<S: Outgoing + Drop>(&mut self, clock: u32) -> Done<S>
         requires now { IsNow self.old.clock clock }
         ensures happens { Happens (names_of self.old) (at_clock clock (becomes (kept_by self.old))) result (state_of self.new) (answers_of self.old) (answers_of self.new) }
         ensures names { names_of self.new ≡ names_of self.old }
         ensures ports { ports_of self.new ≡ ports_of self.old }
-        ensures fits { AreSendable (names_of self.old) result.sends.items }
+        ensures fits { AreSendable (names_of self.old) (S.listed result.sends) }
     {
         self.clock = clock;
         Done::nothing(self.alloc)

@@ -10,7 +10,7 @@ use crate::state::NodeState;
 use crate::state::fresh::prepared;
 use pg_group::GroupTable;
 use pg_ports::{count, next_op, uncount};
-use pg_sends::Done;
+use pg_sends::{Done, Outgoing};
 use pg_step::{Command, CommandFault, Reply};
 use std::alloc::AllocError;
 
@@ -30,12 +30,12 @@ impl<T: GroupTable + Drop> NodeState<T> {
 
     /// Carries out a change that has to take the lock, the next command of a port: it is refused as busy where as many
     /// commands are open as can be, else it is opened, and its first attempt begins.
-    pub(crate) fn undertake(
+    pub(crate) fn undertake<S: Outgoing + Drop>(
         &mut self,
         clock: u32,
         port: u16,
         command: &Command,
-    ) -> Result<Done, AllocError>
+    ) -> Result<Done<S>, AllocError>
         requires now { IsNow self.old.clock clock }
         requires place { port < ports_of self.old }
         requires change { is_some (change_of command.now) ≡ true }
@@ -44,7 +44,7 @@ impl<T: GroupTable + Drop> NodeState<T> {
             (at_clock clock (op_issued port (λ op. undertake (live_of self.old) op update) (kept_by self.old)))
             done (state_of self.new) (answers_of self.old) (answers_of self.new)) }
         ensures stays { Stays self.old self.new result }
-        ensures fits { IfOk result (λ done. AreSendable (names_of self.old) done.sends.items) }
+        ensures fits { IfOk result (λ done. AreSendable (names_of self.old) (S.listed done.sends)) }
     {
         if self.opens.open_count() >= OPEN_LIMIT {
             return self.answer(clock, port, Reply::Refused(CommandFault::Busy.number()));
@@ -53,7 +53,12 @@ impl<T: GroupTable + Drop> NodeState<T> {
     }
 
     /// Opens the next command of a port, and begins its first attempt.
-    fn open(&mut self, clock: u32, port: u16, command: &Command) -> Result<Done, AllocError>
+    fn open<S: Outgoing + Drop>(
+        &mut self,
+        clock: u32,
+        port: u16,
+        command: &Command,
+    ) -> Result<Done<S>, AllocError>
         requires now { IsNow self.old.clock clock }
         requires place { port < ports_of self.old }
         requires change { is_some (change_of command.now) ≡ true }
@@ -62,7 +67,7 @@ impl<T: GroupTable + Drop> NodeState<T> {
             (at_clock clock (op_issued port (λ op s. and_then (open_command op update s) (attempt (live_of self.old) op update)) (kept_by self.old)))
             done (state_of self.new) (answers_of self.old) (answers_of self.new)) }
         ensures stays { Stays self.old self.new result }
-        ensures fits { IfOk result (λ done. AreSendable (names_of self.old) done.sends.items) }
+        ensures fits { IfOk result (λ done. AreSendable (names_of self.old) (S.listed done.sends)) }
     {
         let before = self.clock;
         let update = prepared(self.alloc, &mut self.opens, command)?;

@@ -11,7 +11,8 @@ use Rattle.pg_step.specs.Nodes.{Node}
 use Rattle.pg_step.specs.State.{State}
 use Rattle.pg_step.specs.Step.{CLOCK_LIMIT, TimedTurn, at_clock, timed}
 use Rattle.pg_step.specs.Turns.{NodeTurn}
-use Rattle.pg_sends.specs.declared.done.Done.{Done}
+use Rattle.pg_sends.specs.contracts.framing.FramedOutgoing.TheImpl as frames
+use Rattle.pg_sends.specs.Dones.{FramedDone}
 use Rattle.pg_node_state.specs.declared.state.fault.NodeFault.{NodeFault}
 use Rattle.pg_node_state.specs.declared.state.fault.NodeFault.TheVariants.{Refused}
 use Rattle.pg_node.specs.Bytes.{is_drained}
@@ -32,18 +33,18 @@ turn_refused clock false turn is = go (nat_le clock CLOCK_LIMIT) is
     go false e = cc
 
 module _ (names : List Node) (peer : Node) (last : ℕ) (link : Link) (s t : Timed State) (before after : ℕ → List Answer) (fault : NodeFault) (is : fault ≡ Refused NotDrained) where
-  step_refused : (r : Result TimedTurn Refusal) → step_see_loss peer last s ≡ r → Comes names r (Err fault) t before after → ⊥
-  step_refused (Ok turn) at comes = subst (λ f. Comes names (Ok turn) (Err f) t before after) is comes
+  step_refused : (r : Result TimedTurn Refusal) → step_see_loss peer last s ≡ r → Comes {h = frames.ghosts} names r (Err fault) t before after → ⊥
+  step_refused (Ok turn) at comes = subst (λ f. Comes {h = frames.ghosts} names (Ok turn) (Err f) t before after) is comes
   step_refused (Err refusal) at comes =
       let one : refusal ≡ NotDrained = cc in
       turn_refused (max s.clock last + 1) (s.state.lost peer) (see_loss peer s.state) (at ∙ ap Err one)
 
   -- so where a node tells it, a whole frame has come
-  pub undrained_told : Comes names (step_lose peer last link s) (Err fault) t before after → is_drained link ≡ false
+  pub undrained_told : Comes {h = frames.ghosts} names (step_lose peer last link s) (Err fault) t before after → is_drained link ≡ false
   undrained_told comes = go (s.state.lost peer) (is_drained link) refl comes
     where
-      go : (lost drained : Bool) → is_drained link ≡ drained → Comes names (cond lost (Err NodeLost) (cond drained (step_see_loss peer last s) (Err NotDrained))) (Err fault) t before after → is_drained link ≡ false
-      go true drained at c = let other : ◌≡◌ {A = Result Done NodeFault} (Err fault) (Err (Refused NodeLost)) = c in absurd (cc)
+      go : (lost drained : Bool) → is_drained link ≡ drained → Comes {h = frames.ghosts} names (cond lost (Err NodeLost) (cond drained (step_see_loss peer last s) (Err NotDrained))) (Err fault) t before after → is_drained link ≡ false
+      go true drained at c = let other : ◌≡◌ {A = Result FramedDone NodeFault} (Err fault) (Err (Refused NodeLost)) = c in absurd (cc)
       go false false at c = at
       go false true at c = absurd (step_refused (step_see_loss peer last s) refl c)
 

@@ -21,7 +21,8 @@ use Rattle.pg_step.specs.Config.{Config, name_at, names_of}
 use Rattle.pg_step.specs.LossLaws.{LosingFrameWorld, see_refusal}
 use Rattle.pg_step.specs.State.{State}
 use Rattle.pg_step.specs.Step.{TimedTurn, at_clock}
-use Rattle.pg_sends.specs.declared.done.Done.{Done}
+use Rattle.pg_sends.specs.contracts.framing.FramedOutgoing.TheImpl as frames
+use Rattle.pg_sends.specs.Dones.{FramedDone}
 use Rattle.pg_node_state.specs.declared.state.fault.NodeFault.{NodeFault}
 use Rattle.pg_node_state.specs.declared.state.fault.NodeFault.TheVariants.{Refused}
 use Rattle.pg_node.specs.Bytes.{is_drained, has_frame}
@@ -127,32 +128,32 @@ module _ (config : Config) (crossing crossing2 : Crossing) (account account2 : A
 
     -- it is refused
     pub sight_held : (fault : NodeFault) (s : Timed State) (after : ℕ → List Answer) → crossing2 ≡ crossing → account2 ≡ account
-        → Comes node.names (step_lose peer last link node.state) (Err fault) s node.answers after
+        → Comes {h = frames.ghosts} node.names (step_lose peer last link node.state) (Err fault) s node.answers after
         → SightComesTo config u (told_sight config u i p) (Err fault) (ShowsLosingBytes config crossing2 account2 lost2)
-    sight_held fault s after unchanged kept comes = go (is_drained link) refl fault (λ b is. subst (λ r. Comes node.names r (Err fault) s node.answers after) (step_is b is) comes)
+    sight_held fault s after unchanged kept comes = go (is_drained link) refl fault (λ b is. subst (λ r. Comes {h = frames.ghosts} node.names r (Err fault) s node.answers after) (step_is b is) comes)
       where
         still : ShowsLosingBytes config crossing2 account2 lost2 u
         still = subst (λ (l : List ℕ). ShowsLosingBytes config crossing2 account2 l u) (sym same)
             (subst (λ (a : Account). ShowsLosingBytes config crossing2 a lost u) (sym kept) (subst (λ (c : Crossing). ShowsLosingBytes config c account lost u) (sym unchanged) shows))
 
-        undrained : (f : NodeFault) → Comes node.names (Err NotDrained) (Err f) s node.answers after → SightComesTo config u (told_sight config u i p) (Err f) (ShowsLosingBytes config crossing2 account2 lost2)
+        undrained : (f : NodeFault) → Comes {h = frames.ghosts} node.names (Err NotDrained) (Err f) s node.answers after → SightComesTo config u (told_sight config u i p) (Err f) (ShowsLosingBytes config crossing2 account2 lost2)
         undrained f c = let one : f ≡ Refused NotDrained = cc in subst (λ x. SightComesTo config u (told_sight config u i p) (Err x) (ShowsLosingBytes config crossing2 account2 lost2)) (sym one) still
 
-        drained_so : is_drained link ≡ true → (f : NodeFault) → Comes node.names (step_see_loss peer last node.state) (Err f) s node.answers after
+        drained_so : is_drained link ≡ true → (f : NodeFault) → Comes {h = frames.ghosts} node.names (step_see_loss peer last node.state) (Err f) s node.answers after
             → SightComesTo config u (told_sight config u i p) (Err f) (ShowsLosingBytes config crossing2 account2 lost2)
         drained_so drained f c = sight_from config u (told_sight config u i p) (ShowsLosingBytes config crossing2 account2 lost2) (Err f)
             (subst (λ (x : LosingFrameWorld). LosingComesTo config x (told_sight config x i p) (Err f) (ShowsLosingBytes config crossing2 account2 lost2)) (sym shows.is)
-            (sight_refused config crossing.nodes w i p lost its shows.seen pair lives gone (none_coming drained) node at last clock (ShowsLosingBytes config crossing2 account2 lost2) f s node.answers after
+            (sight_refused config crossing.nodes w i p lost its shows.seen pair lives gone (none_coming drained) node at last clock (ShowsLosingBytes config crossing2 account2 lost2) frames.ghosts f s node.answers after
             (subst (ShowsLosingBytes config crossing2 account2 lost2) shows.is still) c))
 
         go : (b : Bool) → is_drained link ≡ b → (f : NodeFault)
-            → ((c : Bool) → is_drained link ≡ c → Comes node.names (cond c (step_see_loss peer last node.state) (Err NotDrained)) (Err f) s node.answers after)
+            → ((c : Bool) → is_drained link ≡ c → Comes {h = frames.ghosts} node.names (cond c (step_see_loss peer last node.state) (Err NotDrained)) (Err f) s node.answers after)
             → SightComesTo config u (told_sight config u i p) (Err f) (ShowsLosingBytes config crossing2 account2 lost2)
         go true is f h = drained_so is f (h true is)
         go false is f h = undrained f (h false is)
 
     -- it is seen
-    pub sight_made : (after : Seen) (done : Done) → crossing2.nodes ≡ slice_set crossing.nodes i after → after.names ≡ node.names → after.ports ≡ node.ports → account2 ≡ account
+    pub sight_made : (after : Seen) (done : FramedDone) → crossing2.nodes ≡ slice_set crossing.nodes i after → after.names ≡ node.names → after.ports ≡ node.ports → account2 ≡ account
         → ((x y : ℕ) → is_pair (length config) x y ≡ true → is_lost lost y ≡ false → bytes_at crossing2 x y ≡ bytes_at crossing x y)
         → ((x y : ℕ) → (link_at crossing2 x y).damaged ≡ (link_at crossing x y).damaged)
         → Comes node.names (step_lose peer last link node.state) (Ok done) after.state node.answers after.answers
@@ -189,7 +190,7 @@ module _ (config : Config) (crossing crossing2 : Crossing) (account account2 : A
         }
 
         go : (b : Bool) → is_drained link ≡ b
-            → ((c : Bool) → is_drained link ≡ c → Comes node.names (cond c (step_see_loss peer last node.state) (Err NotDrained)) (Ok done) after.state node.answers after.answers)
+            → ((c : Bool) → is_drained link ≡ c → Comes {h = frames.ghosts} node.names (cond c (step_see_loss peer last node.state) (Err NotDrained)) (Ok done) after.state node.answers after.answers)
             → SightComesTo config u (told_sight config u i p) (Ok (Happened no_effect)) (ShowsLosingBytes config crossing2 account2 lost2)
         go true is h = subst (λ (x : LosingFrameWorld). LosingComesTo config x (told_sight config x i p) (Ok (Happened no_effect)) (ShowsLosingBytes config crossing2 account2 lost2)) (sym shows.is)
             (sight_seen config crossing.nodes w i p lost its shows.seen pair lives gone (none_coming is) node at last clock (ShowsLosingBytes config crossing2 account2 lost2) done after.state node.answers after.answers made (h true is))

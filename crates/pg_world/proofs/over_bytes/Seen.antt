@@ -9,7 +9,7 @@ use Rattle.pg_opens.specs.Places.{name_at}
 use Rattle.pg_step.specs.Config.{Config}
 use Rattle.pg_step.specs.State.{State}
 use Rattle.pg_node.specs.declared.node.Node.{Node}
-use Rattle.pg_sends.specs.declared.done.Done.{Done}
+use Rattle.pg_sends.specs.Dones.{FramedDone}
 use Rattle.pg_node_state.specs.declared.state.fault.NodeFault.{NodeFault}
 use Rattle.pg_node.specs.Bytes.{closed}
 use Rattle.pg_node.specs.Links.{Link, at_link}
@@ -30,7 +30,7 @@ pub peer_clock : (config : Config) {T : Type 0} {g : Ghosts T} (nodes : List (No
 peer_clock config nodes rings p node w shows l at = ap (λ (s : Timed State). s.clock) (shows.each p (node_of node) (seen_there nodes rings p node l at)).state
 
 -- what the node is told, by the place of the peer and by its link
-pub step_there : {T : Type 0} {g : Ghosts T} (k place : ℕ) → k ≡ place → (node after : Node T g) (last : ℕ) (result : Result Done NodeFault) {links : ℕ → Link} → links ≡ links_of node
+pub step_there : {T : Type 0} {g : Ghosts T} (k place : ℕ) → k ≡ place → (node after : Node T g) (last : ℕ) (result : Result FramedDone NodeFault) {links : ℕ → Link} → links ≡ links_of node
     → Comes (names_of (held_by node)) (step_lose (name_at (names_of (held_by node)) (k + 1)) last (links_of node k) (state_of (held_by node))) result (state_of (held_by after)) (answers_of (held_by node)) (answers_of (held_by after))
     → Comes (names_of (held_by node)) (step_lose (name_at (names_of (held_by node)) (place + 1)) last (links place) (state_of (held_by node))) result (state_of (held_by after)) (answers_of (held_by node)) (answers_of (held_by after))
 step_there k place same node after last result is comes =

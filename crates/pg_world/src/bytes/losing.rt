@@ -9,7 +9,7 @@ use pg_frame::{front_is_first_of_cut, loss_cuts_packets};
 use pg_frame_world::{Effect, FrameStep, Stepped, peer_place};
 use pg_group::GroupTable;
 use pg_message::Packet;
-use pg_node::{Done, NodeFault};
+use pg_node::{Done, Framed, NodeFault};
 use pg_step::Refusal;
 use pg_term::Term;
 use std::alloc::AllocError;
@@ -186,6 +186,6 @@ impl<T: GroupTable + Drop> ByteNodes<T> {
 }
 
 /// Lets go of what was done, where nothing is sent. One function for it, as a drop in an arm is proved variant by variant.
-fn let_go(done: Done) {
+fn let_go(done: Done<Framed>) {
     drop(done);
 }

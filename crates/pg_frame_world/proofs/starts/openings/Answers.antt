@@ -1,5 +1,5 @@
 use Rattle.std.proofs.Common.{◌-◌, ◌+◌, List, map, take, length, subst, sym, arith}
-use Rattle.pg_frame_world.specs.declared.outgoing.Outgoing.{Outgoing}
+use Rattle.pg_frame_world.specs.declared.ways.Ways.{Ways}
 use Rattle.pg_starts.specs.Seen.{seen_of}
 use Rattle.pg_frame_world.specs.Views.{ways_of}
 use Rattle.pg_frame_world.specs.Starts.{AllOpen}
@@ -12,7 +12,7 @@ pub loop-place-preserved : goal.loop-place-preserved
 loop-place-preserved g c =
     let nodes = c.args.nodes.now in
     let place = c.loop-place.place in
-    subst (λ (outs : List Outgoing). AllOpen (length nodes - 1) (map seen_of (take (place + 1) nodes)) (map ways_of outs)) (sym c.in_ok-push-in-Ok.ensures.items)
+    subst (λ (outs : List Ways). AllOpen (length nodes - 1) (map seen_of (take (place + 1) nodes)) (map ways_of outs)) (sym c.in_ok-push-in-Ok.ensures.items)
     (opening_more (length nodes - 1) nodes c.loop-place.outgoing.items place c.index-nodes-place.result c.in-Ok.ways (omega (arith, c.loop-place-test.true, c.loop-place.auto.place-end)) c.index-nodes-place.is c.loop-place.invariant c.in-Ok.ensures.open)
 
 pub returns-in-Err-clause-fault : goal.returns-in-Err-clause-fault

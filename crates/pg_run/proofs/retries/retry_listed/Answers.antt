@@ -1,4 +1,4 @@
-use Rattle.std.proofs.Common.{◌∙◌, refl}
+use Rattle.std.proofs.Common.{refl}
 use Rattle.pg_run.specs.Follows.{log_of, node_of}
 use Rattle.pg_run.specs.Logs.{IsDueRetry}
 use Rattle.pg_run.specs.Tries.{is_ready_at}

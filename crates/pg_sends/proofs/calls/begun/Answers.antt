@@ -11,7 +11,7 @@ use Rattle.pg_sends.proofs.Updates.{update_is}
 use Rattle.pg_sends.proofs.calls.begun.Goals as goal
 
 pub returns-in-Ok-clause-sends : goal.returns-in-Ok-clause-sends
-returns-in-Ok-clause-sends c =
+returns-in-Ok-clause-sends g c =
     let opens = c.args.opens.now in
     λ op update first st is.
     let changed : c.update_under-update.result.now ≡ update = update_is c.update_under-update.result.now update (sym c.update_under-update.ensures ∙ ap update_of is) in

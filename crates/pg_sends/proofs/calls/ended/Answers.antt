@@ -10,7 +10,7 @@ use Rattle.pg_sends.proofs.Updates.{update_is}
 use Rattle.pg_sends.proofs.calls.ended.Goals as goal
 
 pub returns-clause-sends : goal.returns-clause-sends
-returns-clause-sends c =
+returns-clause-sends g c =
     let opens = c.args.opens.now in
     λ op update holder replied is.
     let changed : c.update_under-update.result.now ≡ update = update_is c.update_under-update.result.now update (sym c.update_under-update.ensures ∙ ap update_of is) in

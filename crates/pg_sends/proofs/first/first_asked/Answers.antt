@@ -12,7 +12,7 @@ use Rattle.pg_sends.proofs.Updates.{same_update}
 use Rattle.pg_sends.proofs.first.first_asked.Goals as goal
 
 pub returns-clause-sends : goal.returns-clause-sends
-returns-clause-sends c =
+returns-clause-sends g c =
     let opens = c.args.opens.now in
     λ update is.
     let name = c.name-name.ensures ∙ ap name_of (same_update c.waiting_under.result.now update (sym c.waiting_under.ensures ∙ is)) in

@@ -1,6 +1,5 @@
 use Rattle.std.proofs.Common.{◌≡◌}
-use Rattle.pg_sends.proofs.Sent.{sent_below}
-use Rattle.pg_sends.specs.Marked.{marks_of}
+use Rattle.pg_sends.specs.Marked.{marks_of, sent_below}
 use Rattle.pg_sends.proofs.sends.copies_to_marked.Given as goal
 
 abbrev pub invariant-loop-peer : goal.invariant-loop-peer

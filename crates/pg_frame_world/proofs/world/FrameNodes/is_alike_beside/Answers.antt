@@ -2,7 +2,7 @@ use Rattle.std.proofs.Common.{◌≡◌, ◌∙◌, ℕ, List, length, map, sym,
 use Rattle.std.proofs.lemmas.List.{length-map}
 use Rattle.pg_term.specs.declared.term.Term.{Term}
 use Rattle.pg_opens.proofs.Named.{clash}
-use Rattle.pg_frame_world.specs.declared.outgoing.Outgoing.{Outgoing}
+use Rattle.pg_frame_world.specs.declared.ways.Ways.{Ways}
 use Rattle.pg_frame_world.specs.Alike.{without_stamps}
 use Rattle.pg_account.specs.Agreeing.{HaveSameUpdates}
 use Rattle.pg_account.specs.Histories.{account_of}
@@ -11,7 +11,7 @@ use Rattle.pg_frame_world.specs.Views.{ways_of}
 use Rattle.pg_frame_world.proofs.world.FrameNodes.is_alike_beside.Goals as goal
 use Rattle.pg_frame_world.proofs.world.FrameNodes.is_alike_beside.Goals.{then-same, else-same}
 
-all_said : (outgoing others : List Outgoing) → outgoing ≡ others → map without_stamps (map ways_of outgoing) ≡ map without_stamps (map ways_of others)
+all_said : (outgoing others : List Ways) → outgoing ≡ others → map without_stamps (map ways_of outgoing) ≡ map without_stamps (map ways_of others)
 all_said outgoing others same = λ i. map without_stamps (map ways_of (same i))
 
 pub returns-then-same_ways : goal.returns-then-same_ways

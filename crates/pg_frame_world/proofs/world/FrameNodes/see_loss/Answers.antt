@@ -4,6 +4,7 @@ use Rattle.std.proofs.lemmas.List.{map-set}
 use Rattle.pg_machine.specs.Clocked.{Timed}
 use Rattle.pg_opens.specs.Places.{name_at}
 use Rattle.pg_step.specs.State.{State}
+use Rattle.pg_sends.specs.contracts.sends.VecTuple2UsizePacketOutgoing.TheImpl as packets
 use Rattle.pg_node_state.specs.States.{names_of, state_of, answers_of, step_see_loss, Comes}
 use Rattle.pg_frame_world.specs.Losing.{lost_of}
 use Rattle.pg_starts.specs.Seen.{seen_of}
@@ -86,7 +87,7 @@ returns-in-Err-clause-losing g c = λ config u shows.
     let same : traffic_in (slice_set nodes node after) outs ≡ traffic_in nodes outs = λ j. record { nodes = map_same seen_of nodes node state after within c.index_mut-state.ensures.value seen j; ways = map ways_of outs } in
     packets_sight_refused config view _ u node peer lost lost shows c.requires.pair c.requires.lives gone drained (seen_of state) here c.clock-last.result clock refl
     c.in-Err.fault (state_of after) (answers_of state) (answers_of after) (view_is _ _ same refl)
-    (subst (λ k. Comes (names_of state) (step_see_loss (name_at (names_of state) (k + 1)) c.clock-last.result (state_of state)) (Err c.in-Err.fault) (state_of after) (answers_of state) (answers_of after)) c.peer_place.ensures c.in-Err.ensures.event)
+    (subst (λ k. Comes {h = packets.ghosts} (names_of state) (step_see_loss (name_at (names_of state) (k + 1)) c.clock-last.result (state_of state)) (Err c.in-Err.fault) (state_of after) (answers_of state) (answers_of after)) c.peer_place.ensures c.in-Err.ensures.event)
 
 pub returns-in-Err-clause-err : goal.returns-in-Err-clause-err
 returns-in-Err-clause-err g c =

@@ -4,6 +4,7 @@ use Rattle.std.proofs.lemmas.List.{get_or-set_other}
 use Rattle.pg_opens.specs.Places.{name_at}
 use Rattle.pg_step.specs.Step.{step_take}
 use Rattle.pg_node_state.specs.States.{names_of, nodes_of, state_of, answers_of, Comes}
+use Rattle.pg_sends.specs.contracts.sends.VecTuple2UsizePacketOutgoing.TheImpl as packets
 use Rattle.pg_sends.specs.Sent.{stamped_of}
 use Rattle.pg_starts.specs.Seen.{seen_of}
 use Rattle.pg_frame_world.specs.Views.{ways_of, packets_to, next_packet_of, traffic_in, peer_place, HaveWayRoom, IsWhole}
@@ -317,7 +318,7 @@ returns-in-Err-take-clause-event g c =
     take_refused config (traffic_in nodes outs) w node peer shows.traffic c.requires.pair (seen_of state) (seen_here nodes outs node whole within state here) (stamped_of c.in-Some.packet.now)
     (c.in-Some.ensures.first ∙ (ap (λ k. next_packet_of (get_or (ways_of sender) k [])) c.peer_place.ensures ∙ ap next_packet_of way))
     c.in-Err-take.fault (state_of c.take.new.self) (answers_of state) (answers_of c.take.new.self) _
-    (subst (λ k. Comes (names_of state) (step_take (nodes_of state) (name_at (names_of state) (k + 1)) (stamped_of c.in-Some.packet.now) (state_of state)) (Err c.in-Err-take.fault) (state_of c.take.new.self) (answers_of state) (answers_of c.take.new.self))
+    (subst (λ k. Comes {h = packets.ghosts} (names_of state) (step_take (nodes_of state) (name_at (names_of state) (k + 1)) (stamped_of c.in-Some.packet.now) (state_of state)) (Err c.in-Err-take.fault) (state_of c.take.new.self) (answers_of state) (answers_of c.take.new.self))
     c.peer_place-in-Some.ensures c.in-Err-take.ensures.event)
 
 pub returns-in-Err-take-clause-err : goal.returns-in-Err-take-clause-err

@@ -1,16 +1,16 @@
 use Rattle.std.proofs.Common.{◌<◌, ◌∙◌, List, length, map, refl, sym, arith}
 use Rattle.pg_message.specs.declared.message.Message.{Message}
 use Rattle.pg_opens.proofs.Named.{clash}
-use Rattle.pg_frame_world.specs.declared.outgoing.Outgoing.{Outgoing}
+use Rattle.pg_frame_world.specs.declared.ways.Ways.{Ways}
 use Rattle.pg_frame_world.specs.Alike.{without_stamps}
 use Rattle.pg_frame_world.specs.Views.{ways_of}
 use Rattle.pg_account.proofs.Compared.{same_more, same_at, same_all, same_length, twice_length, twice_at}
 use Rattle.pg_frame_world.proofs.world.alike.same_ways.Goals as goal
 
-abbrev said : Outgoing → List (List Message)
+abbrev said : Ways → List (List Message)
 said outgoing = without_stamps (ways_of outgoing)
 
-abbrev all_said : List Outgoing → List (List (List Message))
+abbrev all_said : List Ways → List (List (List Message))
 all_said outgoing = map without_stamps (map ways_of outgoing)
 
 pub returns-then-outgoing-others : goal.returns-then-outgoing-others

@@ -6,6 +6,7 @@ use Rattle.pg_opens.specs.Places.{name_at}
 use Rattle.pg_step.specs.declared.refusal.Refusal.{Refusal}
 use Rattle.pg_step.specs.declared.refusal.Refusal.TheVariants.{NodeLost, NotDrained}
 use Rattle.pg_step.specs.Step.{TimedTurn}
+use Rattle.pg_sends.specs.contracts.framing.FramedOutgoing.TheImpl as frames
 use Rattle.pg_node_state.specs.declared.state.fault.NodeFault.TheVariants.{Refused}
 use Rattle.pg_node.specs.Bytes.{closed, is_drained}
 use Rattle.pg_node.specs.Links.{link_of, idle_link}
@@ -20,7 +21,7 @@ returns-then-not-is_drained-clause-event g c =
     let within : c.args.peer < length wires = omega (arith, c.args.self.now.linked, c.requires.place) in
     let drained = ap is_drained (part_here link_of idle_link wires c.args.peer c.index.result.now within c.index.ensures) ∙ (sym c.is_drained.ensures ∙ c.if-not-is_drained.true) in
     let told = step_see_loss (name_at (names_of node) (c.args.peer + 1)) c.args.last (state_of node) in
-    subst (λ (r : Result TimedTurn Refusal). Comes (names_of node) r (Err (Refused NotDrained)) (state_of node) (answers_of node) (answers_of node)) (λ i. sym (λ j. cond ((sym c.is_lost.ensures ∙ c.if-is_lost.false) j) (Err NodeLost) (cond (drained j) told (Err NotDrained))) i) refl
+    subst (λ (r : Result TimedTurn Refusal). Comes {h = frames.ghosts} (names_of node) r (Err (Refused NotDrained)) (state_of node) (answers_of node) (answers_of node)) (λ i. sym (λ j. cond ((sym c.is_lost.ensures ∙ c.if-is_lost.false) j) (Err NodeLost) (cond (drained j) told (Err NotDrained))) i) refl
 
 pub returns-in-Ok-clause-event : goal.returns-in-Ok-clause-event
 returns-in-Ok-clause-event g c =
@@ -29,7 +30,7 @@ returns-in-Ok-clause-event g c =
     let within : c.args.peer < length wires = omega (arith, c.args.self.now.linked, c.requires.place) in
     let drained = ap is_drained (part_here link_of idle_link wires c.args.peer c.index.result.now within c.index.ensures) ∙ (sym c.is_drained.ensures ∙ c.if-not-is_drained.false) in
     let told = step_see_loss (name_at (names_of node) (c.args.peer + 1)) c.args.last (state_of node) in
-    subst (λ (r : Result TimedTurn Refusal). Comes (names_of node) r (Ok c.in-Ok.done) (state_of c.see_loss.new.self) (answers_of node) (answers_of c.see_loss.new.self)) (sym (λ j. cond ((sym c.is_lost.ensures ∙ c.if-is_lost.false) j) (Err NodeLost) (cond (drained j) told (Err NotDrained)))) c.in-Ok.ensures.event
+    subst (λ (r : Result TimedTurn Refusal). Comes {h = frames.ghosts} (names_of node) r (Ok c.in-Ok.done) (state_of c.see_loss_as.new.self) (answers_of node) (answers_of c.see_loss_as.new.self)) (sym (λ j. cond ((sym c.is_lost.ensures ∙ c.if-is_lost.false) j) (Err NodeLost) (cond (drained j) told (Err NotDrained)))) c.in-Ok.ensures.event
 
 pub returns-in-Err-clause-event : goal.returns-in-Err-clause-event
 returns-in-Err-clause-event g c =
@@ -38,7 +39,7 @@ returns-in-Err-clause-event g c =
     let within : c.args.peer < length wires = omega (arith, c.args.self.now.linked, c.requires.place) in
     let drained = ap is_drained (part_here link_of idle_link wires c.args.peer c.index.result.now within c.index.ensures) ∙ (sym c.is_drained.ensures ∙ c.if-not-is_drained.false) in
     let told = step_see_loss (name_at (names_of node) (c.args.peer + 1)) c.args.last (state_of node) in
-    subst (λ (r : Result TimedTurn Refusal). Comes (names_of node) r (Err c.in-Err.fault) (state_of c.see_loss.new.self) (answers_of node) (answers_of c.see_loss.new.self)) (sym (λ j. cond ((sym c.is_lost.ensures ∙ c.if-is_lost.false) j) (Err NodeLost) (cond (drained j) told (Err NotDrained)))) c.in-Err.ensures.event
+    subst (λ (r : Result TimedTurn Refusal). Comes {h = frames.ghosts} (names_of node) r (Err c.in-Err.fault) (state_of c.see_loss_as.new.self) (answers_of node) (answers_of c.see_loss_as.new.self)) (sym (λ j. cond ((sym c.is_lost.ensures ∙ c.if-is_lost.false) j) (Err NodeLost) (cond (drained j) told (Err NotDrained)))) c.in-Err.ensures.event
 
 pub returns-in-Ok-clause-closed : goal.returns-in-Ok-clause-closed
 returns-in-Ok-clause-closed g c =
@@ -50,7 +51,7 @@ pub invariant_of-self : goal.invariant_of-self
 invariant_of-self g c =
     let wires = c.args.self.now.wires.items in
     let within : c.args.peer < length wires = omega (arith, c.args.self.now.linked, c.requires.place) in
-    let linked : length (slice_set wires c.args.peer c.close.new.self) + 1 ≡ length (names_of c.see_loss.new.self) = omega (arith, length-set wires c.args.peer c.close.new.self, c.args.self.now.linked, ap (λ (names : List Node). length names) c.see_loss.ensures.stays.names) in
+    let linked : length (slice_set wires c.args.peer c.close.new.self) + 1 ≡ length (names_of c.see_loss_as.new.self) = omega (arith, length-set wires c.args.peer c.close.new.self, c.args.self.now.linked, ap (λ (names : List Node). length names) c.see_loss_as.ensures.stays.names) in
     record {
       linked = linked;
       passage = c.args.self.now.passage;

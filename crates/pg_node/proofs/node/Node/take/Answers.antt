@@ -3,7 +3,8 @@ use Rattle.pg_message.specs.declared.packet.Packet.{Packet}
 use Rattle.pg_opens.specs.Places.{name_at}
 use Rattle.pg_reader.specs.Own.{own_reply}
 use Rattle.pg_step.specs.Step.{step_take}
-use Rattle.pg_sends.specs.declared.done.Done.{Done}
+use Rattle.pg_sends.specs.Dones.{FramedDone}
+use Rattle.pg_sends.specs.Framed.{listed_of}
 use Rattle.pg_sends.specs.Frames.{AreSmallFrames}
 use Rattle.pg_node.specs.Bytes.{passed}
 use Rattle.pg_node.specs.Links.{links_in, at_link}
@@ -11,7 +12,7 @@ use Rattle.pg_node.specs.Nodes.{has_lost, taken_of, TakesNext, sent_out}
 use Rattle.pg_sends.specs.Sendable.{AreSendable}
 use Rattle.pg_node_state.specs.States.{names_of, nodes_of, state_of, answers_of}
 use Rattle.pg_sends.specs.Sent.{stamped_of}
-use Rattle.pg_node.proofs.Events.{takes_ok, takes_err, read_is, step_read}
+use Rattle.pg_node.proofs.Events.{same_done, takes_ok, takes_err, read_is, step_read}
 use Rattle.pg_node.proofs.node.Node.take.Goals as goal
 
 pub take_own_reply-requires-clause-next : goal.take_own_reply-requires-clause-next
@@ -45,11 +46,11 @@ returns-in-Err-clause-event g c =
 
 pub returns-in-Ok-clause-sent : goal.returns-in-Ok-clause-sent
 returns-in-Ok-clause-sent g c = λ done is.
-    let same : c.in-Ok.done ≡ done = cc in
-    subst (λ (d : Done). (place : ℕ) → links_in c.take_own_reply.new.self.wires.items place ≡ at_link c.args.peer passed (sent_out d.sends.items (links_in c.args.self.now.wires.items)) place) same c.in-Ok.ensures.sent
+    let same = same_done c.in-Ok.done done is in
+    subst (λ (d : FramedDone). (place : ℕ) → links_in c.take_own_reply.new.self.wires.items place ≡ at_link c.args.peer passed (sent_out (listed_of d.sends) (links_in c.args.self.now.wires.items)) place) same c.in-Ok.ensures.sent
 
 pub returns-in-Ok-clause-small : goal.returns-in-Ok-clause-small
-returns-in-Ok-clause-small g c = λ done is. let same : c.in-Ok.done ≡ done = cc in subst (λ (d : Done). AreSmallFrames d.sends.items) same c.in-Ok.ensures.small
+returns-in-Ok-clause-small g c = λ done is. let same = same_done c.in-Ok.done done is in subst (λ (d : FramedDone). AreSmallFrames (listed_of d.sends)) same c.in-Ok.ensures.small
 
 pub returns-in-Ok-clause-fits : goal.returns-in-Ok-clause-fits
-returns-in-Ok-clause-fits g c = λ done is. let same : c.in-Ok.done ≡ done = cc in subst (λ (d : Done). AreSendable (names_of c.args.self.now.state) d.sends.items) same c.in-Ok.ensures.fits
+returns-in-Ok-clause-fits g c = λ done is. let same = same_done c.in-Ok.done done is in subst (λ (d : FramedDone). AreSendable (names_of c.args.self.now.state) (listed_of d.sends)) same c.in-Ok.ensures.fits

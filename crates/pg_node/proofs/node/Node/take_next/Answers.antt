@@ -2,15 +2,16 @@ use Rattle.std.proofs.Common.{◌≡◌, ◌+◌, Option, Some, None, Ok, Err, r
 use Rattle.pg_message.specs.declared.packet.Packet.{Packet}
 use Rattle.pg_opens.specs.Places.{name_at}
 use Rattle.pg_step.specs.Step.{step_take}
-use Rattle.pg_sends.specs.declared.done.Done.{Done}
+use Rattle.pg_sends.specs.Dones.{FramedDone}
 use Rattle.pg_node.specs.Bytes.{next_packet}
+use Rattle.pg_sends.specs.Framed.{listed_of}
 use Rattle.pg_sends.specs.Frames.{AreSmallFrames}
 use Rattle.pg_node.specs.Links.{links_in}
 use Rattle.pg_node.specs.Nodes.{taken_of, TakesNext}
 use Rattle.pg_sends.specs.Sendable.{AreSendable}
 use Rattle.pg_node_state.specs.States.{names_of, nodes_of, state_of, answers_of}
 use Rattle.pg_sends.specs.Sent.{stamped_of}
-use Rattle.pg_node.proofs.Events.{takes_ok, takes_err}
+use Rattle.pg_node.proofs.Events.{same_done, takes_ok, takes_err}
 use Rattle.pg_node.proofs.node.Node.take_next.Goals as goal
 
 pub take_owned-requires-clause-next : goal.take_owned-requires-clause-next
@@ -37,7 +38,7 @@ returns-in-Err-clause-event g c =
     (sym c.in-Some.is) (takes_err (names_of old) (state_of old) (state_of new) (answers_of old) (answers_of new) (step_take (nodes_of old) (name_at (names_of old) (c.args.peer + 1)) (stamped_of c.in-Some.packet) (state_of old)) c.in-Err.fault c.in-Err.ensures.event)
 
 pub returns-in-Ok-clause-small : goal.returns-in-Ok-clause-small
-returns-in-Ok-clause-small g c = λ done is. let same : c.in-Ok.done ≡ done = cc in subst (λ (d : Done). AreSmallFrames d.sends.items) same c.in-Ok.ensures.small
+returns-in-Ok-clause-small g c = λ done is. let same = same_done c.in-Ok.done done is in subst (λ (d : FramedDone). AreSmallFrames (listed_of d.sends)) same c.in-Ok.ensures.small
 
 pub returns-in-Ok-clause-fits : goal.returns-in-Ok-clause-fits
-returns-in-Ok-clause-fits g c = λ done is. let same : c.in-Ok.done ≡ done = cc in subst (λ (d : Done). AreSendable (names_of c.args.self.now.state) d.sends.items) same c.in-Ok.ensures.fits
+returns-in-Ok-clause-fits g c = λ done is. let same = same_done c.in-Ok.done done is in subst (λ (d : FramedDone). AreSendable (names_of c.args.self.now.state) (listed_of d.sends)) same c.in-Ok.ensures.fits

@@ -1,11 +1,10 @@
 use Rattle.std.proofs.lemmas.List.{length-set}
 use Rattle.std.specs.Prelude.{slice_set}
-use Rattle.std.proofs.Common.{◌≡◌, ◌<◌, ◌+◌, ◌∙◌, ℕ, List, Err, length, refl, sym, ap, arith, subst}
-use Rattle.pg_message.specs.declared.packet.Packet.{Packet}
+use Rattle.std.proofs.Common.{◌≡◌, ◌<◌, ◌+◌, ◌∙◌, List, Err, length, refl, sym, ap, arith}
 use Rattle.pg_node_state.specs.declared.state.fault.NodeFault.TheVariants.{OutOfMemory}
 use Rattle.pg_node.specs.Bytes.{marked}
-use Rattle.pg_sends.specs.Frames.{frames_to, AreSmallFrames}
-use Rattle.pg_node.specs.Links.{links_in, at_link, with_more}
+use Rattle.pg_sends.specs.Framed.{listed_of}
+use Rattle.pg_node.specs.Links.{links_in, at_link}
 use Rattle.pg_step.specs.Nodes.{Node}
 use Rattle.pg_node_state.specs.States.{names_of, state_of}
 use Rattle.pg_node.proofs.Linked.{one_link, still_room}
@@ -15,48 +14,47 @@ use Rattle.pg_node.proofs.node.Node.take_owned.Goals as goal
 pub returns-in-Err-clause-marked : goal.returns-in-Err-clause-marked
 returns-in-Err-clause-marked g c = c.make_room.ensures.same ∙ sym (unmarked (links_in c.args.self.now.wires.items) c.args.peer OutOfMemory refl)
 
-pub returns-in-Err-take_owned-clause-event : goal.returns-in-Err-take_owned-clause-event
-returns-in-Err-take_owned-clause-event g c = in_room _ (state_of c.args.self.now.state) _ _ _ _ (Err c.in-Err-take_owned.fault) c.in-Err-take_owned.ensures.event
+pub returns-in-Err-take_owned_as-clause-event : goal.returns-in-Err-take_owned_as-clause-event
+returns-in-Err-take_owned_as-clause-event g c = in_room _ (state_of c.args.self.now.state) _ _ _ _ (Err c.in-Err-take_owned_as.fault) c.in-Err-take_owned_as.ensures.event
 
-pub returns-in-Err-take_owned-clause-marked : goal.returns-in-Err-take_owned-clause-marked
-returns-in-Err-take_owned-clause-marked g c =
+pub returns-in-Err-take_owned_as-clause-marked : goal.returns-in-Err-take_owned_as-clause-marked
+returns-in-Err-take_owned_as-clause-marked g c =
     let wires = c.make_room.new.wires.items in
     let within : c.args.peer < length wires = omega (arith, c.args.self.now.linked, c.requires.place, c.make_room.ensures.len) in
-    one_link wires c.args.peer c.index_mut-wire-in-Err-take_owned.result.now c.mark.new.self (λ l. marked l c.in-Err-take_owned.fault) within c.index_mut-wire-in-Err-take_owned.ensures.value c.mark.ensures.marked
-    ∙ ap (at_link c.args.peer (λ l. marked l c.in-Err-take_owned.fault)) c.make_room.ensures.same
+    one_link wires c.args.peer c.index_mut-wire-in-Err-take_owned_as.result.now c.mark.new.self (λ l. marked l c.in-Err-take_owned_as.fault) within c.index_mut-wire-in-Err-take_owned_as.ensures.value c.mark.ensures.marked
+    ∙ ap (at_link c.args.peer (λ l. marked l c.in-Err-take_owned_as.fault)) c.make_room.ensures.same
 
-pub returns-in-Ok-take_owned-clause-sent : goal.returns-in-Ok-take_owned-clause-sent
-returns-in-Ok-take_owned-clause-sent g c =
+pub returns-in-Ok-take_owned_as-clause-sent : goal.returns-in-Ok-take_owned_as-clause-sent
+returns-in-Ok-take_owned_as-clause-sent g c =
     let w0 = c.args.self.now.wires.items in
     let w1 = c.make_room.new.wires.items in
     let w2 = c.send_all.new.wires.items in
-    let sent : (place : ℕ) → links_in w2 place ≡ with_more (links_in w1 place) (frames_to c.in-Ok-take_owned.done.sends.items place) = λ place. c.send_all.ensures.sent place ∙ ap (λ (sends : List (ℕ × Packet)). with_more (links_in w1 place) (frames_to sends place)) c.as_slice.ensures.value in
     let within : c.args.peer < length w2 = omega (arith, c.args.self.now.linked, c.requires.place, c.make_room.ensures.len, c.send_all.ensures.len) in
-    λ place. sent_links w0 w1 w2 c.in-Ok-take_owned.done.sends.items c.args.peer c.index_mut-wire.result.now c.pass.new.self c.make_room.ensures.same sent within c.index_mut-wire.ensures.value c.pass.ensures.passed place
+    λ place. sent_links w0 w1 w2 (listed_of c.in-Ok-take_owned_as.done.sends) c.args.peer c.index_mut-wire.result.now c.pass.new.self c.make_room.ensures.same c.send_all.ensures.sent within c.index_mut-wire.ensures.value c.pass.ensures.passed place
 
-pub returns-in-Ok-take_owned-clause-small : goal.returns-in-Ok-take_owned-clause-small
-returns-in-Ok-take_owned-clause-small g c = subst (λ (sends : List (ℕ × Packet)). AreSmallFrames sends) c.as_slice.ensures.value c.send_all.ensures.small
+pub returns-in-Ok-take_owned_as-clause-small : goal.returns-in-Ok-take_owned_as-clause-small
+returns-in-Ok-take_owned_as-clause-small g c = c.send_all.ensures.small
 
-pub invariant_of-self-in-Ok-take_owned : goal.invariant_of-self-in-Ok-take_owned
-invariant_of-self-in-Ok-take_owned g c =
+pub invariant_of-self-in-Ok-take_owned_as : goal.invariant_of-self-in-Ok-take_owned_as
+invariant_of-self-in-Ok-take_owned_as g c =
     let wires = c.send_all.new.wires.items in
     let within : c.args.peer < length wires = omega (arith, c.args.self.now.linked, c.requires.place, c.make_room.ensures.len, c.send_all.ensures.len) in
-    let same = ap (λ (names : List Node). length names) c.take_owned.ensures.stays.names in
-    let linked : length (slice_set wires c.args.peer c.pass.new.self) + 1 ≡ length (names_of c.take_owned.new.self) = omega (arith, length-set wires c.args.peer c.pass.new.self, c.args.self.now.linked, c.make_room.ensures.len, c.send_all.ensures.len, same) in
+    let same = ap (λ (names : List Node). length names) c.take_owned_as.ensures.stays.names in
+    let linked : length (slice_set wires c.args.peer c.pass.new.self) + 1 ≡ length (names_of c.take_owned_as.new.self) = omega (arith, length-set wires c.args.peer c.pass.new.self, c.args.self.now.linked, c.make_room.ensures.len, c.send_all.ensures.len, same) in
     record {
       linked = linked;
       passage = c.args.self.now.passage;
       room = λ is. still_room wires c.args.peer c.index_mut-wire.result.now c.pass.new.self within c.index_mut-wire.ensures.value (omega (arith, c.pass.ensures.room)) (c.send_all.ensures.known is);
     }
 
-pub invariant_of-self-in-Err-take_owned : goal.invariant_of-self-in-Err-take_owned
-invariant_of-self-in-Err-take_owned g c =
+pub invariant_of-self-in-Err-take_owned_as : goal.invariant_of-self-in-Err-take_owned_as
+invariant_of-self-in-Err-take_owned_as g c =
     let wires = c.make_room.new.wires.items in
     let within : c.args.peer < length wires = omega (arith, c.args.self.now.linked, c.requires.place, c.make_room.ensures.len) in
-    let same = ap (λ (names : List Node). length names) c.take_owned.ensures.stays.names in
-    let linked : length (slice_set wires c.args.peer c.mark.new.self) + 1 ≡ length (names_of c.take_owned.new.self) = omega (arith, length-set wires c.args.peer c.mark.new.self, c.args.self.now.linked, c.make_room.ensures.len, same) in
+    let same = ap (λ (names : List Node). length names) c.take_owned_as.ensures.stays.names in
+    let linked : length (slice_set wires c.args.peer c.mark.new.self) + 1 ≡ length (names_of c.take_owned_as.new.self) = omega (arith, length-set wires c.args.peer c.mark.new.self, c.args.self.now.linked, c.make_room.ensures.len, same) in
     record {
       linked = linked;
       passage = c.args.self.now.passage;
-      room = λ is. still_room wires c.args.peer c.index_mut-wire-in-Err-take_owned.result.now c.mark.new.self within c.index_mut-wire-in-Err-take_owned.ensures.value (omega (arith, c.mark.ensures.room)) (c.make_room.ensures.known is);
+      room = λ is. still_room wires c.args.peer c.index_mut-wire-in-Err-take_owned_as.result.now c.mark.new.self within c.index_mut-wire-in-Err-take_owned_as.ensures.value (omega (arith, c.mark.ensures.room)) (c.make_room.ensures.known is);
     }

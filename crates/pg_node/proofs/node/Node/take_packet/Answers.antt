@@ -8,6 +8,7 @@ use Rattle.pg_node.specs.Links.{Link, links_in, at_link}
 use Rattle.pg_node.specs.Nodes.{has_lost, read_next, step_link, taken_of, TakesNext, sent_out}
 use Rattle.pg_sends.specs.Sendable.{AreSendable}
 use Rattle.pg_node_state.specs.States.{names_of, nodes_of, state_of, answers_of, Stays}
+use Rattle.pg_sends.specs.Framed.{listed_of}
 use Rattle.pg_node.proofs.Events.{tells_ok, next_err, read_is, step_read}
 use Rattle.pg_node.proofs.node.Node.take_packet.Goals as goal
 
@@ -36,7 +37,7 @@ returns-in-Ok-clause-event g c =
 
 pub returns-in-Ok-clause-sent : goal.returns-in-Ok-clause-sent
 returns-in-Ok-clause-sent g c = λ done is place.
-    c.take_next.ensures.sent done is place ∙ ap (λ (links : ℕ → Link). at_link c.args.peer passed (sent_out done.sends.items links) place) c.in-Ok.ensures.same
+    c.take_next.ensures.sent done is place ∙ ap (λ (links : ℕ → Link). at_link c.args.peer passed (sent_out (listed_of done.sends) links) place) c.in-Ok.ensures.same
 
 pub returns-in-Ok-clause-none : goal.returns-in-Ok-clause-none
 returns-in-Ok-clause-none g c = λ is. c.take_next.ensures.none is ∙ c.in-Ok.ensures.same
@@ -61,4 +62,4 @@ pub returns-in-Ok-clause-stays : goal.returns-in-Ok-clause-stays
 returns-in-Ok-clause-stays g c = subst (λ s. Stays s c.take_next.new.self.state c.take_next.result) c.next.ensures.state c.take_next.ensures.stays
 
 pub returns-in-Ok-clause-fits : goal.returns-in-Ok-clause-fits
-returns-in-Ok-clause-fits g c = λ done is. subst (λ s. AreSendable (names_of s) done.sends.items) c.next.ensures.state (c.take_next.ensures.fits done is)
+returns-in-Ok-clause-fits g c = λ done is. subst (λ s. AreSendable (names_of s) (listed_of done.sends)) c.next.ensures.state (c.take_next.ensures.fits done is)

@@ -1,12 +1,11 @@
 use Rattle.std.proofs.lemmas.Result.{err_from_is_err_and}
 use Rattle.std.proofs.lemmas.List.{length-set}
 use Rattle.std.specs.Prelude.{slice_set}
-use Rattle.std.proofs.Common.{◌≡◌, ◌<◌, ◌+◌, ◌∙◌, ℕ, List, Err, length, refl, sym, ap, arith, subst}
-use Rattle.pg_message.specs.declared.packet.Packet.{Packet}
+use Rattle.std.proofs.Common.{◌≡◌, ◌<◌, ◌+◌, ◌∙◌, List, Err, length, refl, sym, ap, arith}
 use Rattle.pg_node_state.specs.declared.state.fault.NodeFault.TheVariants.{OutOfMemory}
 use Rattle.pg_node.specs.Bytes.{marked}
-use Rattle.pg_sends.specs.Frames.{frames_to, AreSmallFrames}
-use Rattle.pg_node.specs.Links.{links_in, at_link, with_more}
+use Rattle.pg_sends.specs.Framed.{listed_of}
+use Rattle.pg_node.specs.Links.{links_in, at_link}
 use Rattle.pg_step.specs.Nodes.{Node}
 use Rattle.pg_node_state.specs.States.{names_of, state_of}
 use Rattle.pg_node.proofs.Linked.{one_link, still_room}
@@ -33,19 +32,18 @@ returns-in-Ok-clause-sent g c =
     let w0 = c.args.self.now.wires.items in
     let w1 = c.make_room.new.wires.items in
     let w2 = c.send_all.new.wires.items in
-    let sent : (place : ℕ) → links_in w2 place ≡ with_more (links_in w1 place) (frames_to c.in-Ok.done.sends.items place) = λ place. c.send_all.ensures.sent place ∙ ap (λ (sends : List (ℕ × Packet)). with_more (links_in w1 place) (frames_to sends place)) c.as_slice.ensures.value in
     let within : c.args.peer < length w2 = omega (arith, c.args.self.now.linked, c.requires.place, c.make_room.ensures.len, c.send_all.ensures.len) in
-    λ place. sent_links w0 w1 w2 c.in-Ok.done.sends.items c.args.peer c.index_mut-wire.result.now c.pass.new.self c.make_room.ensures.same sent within c.index_mut-wire.ensures.value c.pass.ensures.passed place
+    λ place. sent_links w0 w1 w2 (listed_of c.in-Ok.done.sends) c.args.peer c.index_mut-wire.result.now c.pass.new.self c.make_room.ensures.same c.send_all.ensures.sent within c.index_mut-wire.ensures.value c.pass.ensures.passed place
 
 pub returns-in-Ok-clause-small : goal.returns-in-Ok-clause-small
-returns-in-Ok-clause-small g c = subst (λ (sends : List (ℕ × Packet)). AreSmallFrames sends) c.as_slice.ensures.value c.send_all.ensures.small
+returns-in-Ok-clause-small g c = c.send_all.ensures.small
 
 pub invariant_of-self-in-Ok : goal.invariant_of-self-in-Ok
 invariant_of-self-in-Ok g c =
     let wires = c.send_all.new.wires.items in
     let within : c.args.peer < length wires = omega (arith, c.args.self.now.linked, c.requires.place, c.make_room.ensures.len, c.send_all.ensures.len) in
-    let same = ap (λ (names : List Node). length names) c.take.ensures.stays.names in
-    let linked : length (slice_set wires c.args.peer c.pass.new.self) + 1 ≡ length (names_of c.take.new.self) = omega (arith, length-set wires c.args.peer c.pass.new.self, c.args.self.now.linked, c.make_room.ensures.len, c.send_all.ensures.len, same) in
+    let same = ap (λ (names : List Node). length names) c.take_as.ensures.stays.names in
+    let linked : length (slice_set wires c.args.peer c.pass.new.self) + 1 ≡ length (names_of c.take_as.new.self) = omega (arith, length-set wires c.args.peer c.pass.new.self, c.args.self.now.linked, c.make_room.ensures.len, c.send_all.ensures.len, same) in
     record {
       linked = linked;
       passage = c.args.self.now.passage;
@@ -56,8 +54,8 @@ pub invariant_of-self-in-Err : goal.invariant_of-self-in-Err
 invariant_of-self-in-Err g c =
     let wires = c.make_room.new.wires.items in
     let within : c.args.peer < length wires = omega (arith, c.args.self.now.linked, c.requires.place, c.make_room.ensures.len) in
-    let same = ap (λ (names : List Node). length names) c.take.ensures.stays.names in
-    let linked : length (slice_set wires c.args.peer c.mark.new.self) + 1 ≡ length (names_of c.take.new.self) = omega (arith, length-set wires c.args.peer c.mark.new.self, c.args.self.now.linked, c.make_room.ensures.len, same) in
+    let same = ap (λ (names : List Node). length names) c.take_as.ensures.stays.names in
+    let linked : length (slice_set wires c.args.peer c.mark.new.self) + 1 ≡ length (names_of c.take_as.new.self) = omega (arith, length-set wires c.args.peer c.mark.new.self, c.args.self.now.linked, c.make_room.ensures.len, same) in
     record {
       linked = linked;
       passage = c.args.self.now.passage;

@@ -1,27 +1,42 @@
-use Rattle.std.proofs.Common.{◌≡◌, ◌∷◌, ◌∙◌, [], drop, arith}
-use Rattle.std.proofs.lemmas.List.{length-set}
-use Rattle.pg_node.proofs.Linked.{one_of, first_of, one_frame, only_room, only_sent}
+use Rattle.std.proofs.Common.{◌≡◌, ◌∙◌, ◌&&◌, ℕ, List, [], true, cond, nat_eq, length, sym, subst}
+use Rattle.pg_sends.specs.declared.goes.Goes.TheVariants.{One, Marked}
+use Rattle.pg_sends.specs.Frames.{IsFrame}
+use Rattle.pg_node.specs.Links.{links_in, with_more}
+use Rattle.pg_node.proofs.Linked.{one_out, one_small, many_fit, many_out, many_small}
 use Rattle.pg_node.proofs.node.wires.send_all.Goals as goal
 
-pub send-requires-clause-room : goal.send-requires-clause-room
-send-requires-clause-room c =
+pub returns-in-One-clause-sent : goal.returns-in-One-clause-sent
+returns-in-One-clause-sent c =
+    let framed = c.args.framed.now in
     let start = c.args.wires.now.items in
-    let sends = c.args.sends.now in
-    let sent = c.sent-item.result in
-    let one : sends ≡ sent ∷ [] = one_of sends sent (omega (arith, c.in-len1.len_at_least)) (omega (arith, c.in-len1.len_below)) c.sent-item.is in
-    only_room start sends sent one c.requires.fit c.requires.room c.index_mut-wire.result.now c.index_mut-wire.ensures.value
+    let wires = c.append_if.new.wires.items in
+    let peer = c.in-One.peer in
+    let goes : framed.goes ≡ One peer = sym c.goes.ensures ∙ c.in-One.is in
+    one_out framed peer goes start wires (λ place.
+    subst (λ (bytes : List ℕ). links_in wires place ≡ with_more (links_in start place) (cond (true && nat_eq peer place) bytes [])) c.frame.ensures (c.append_if.ensures.sent place))
 
-pub append_all-requires-clause-one : goal.append_all-requires-clause-one
-append_all-requires-clause-one c =
-    let sends = c.args.sends.now in
-    let first = c.first-item.result in
-    let begins : sends ≡ first ∷ drop 1 sends = first_of sends first (omega (arith, c.in-len1-up.len_at_least)) c.first-item.is in
-    one_frame c.as_slice.result.now first sends (drop 1 sends) begins (c.as_slice.ensures ∙ c.set.ensures.is) c.set.ensures.small c.requires.fit.2.alike
+pub returns-in-One-clause-small : goal.returns-in-One-clause-small
+returns-in-One-clause-small c =
+    let framed = c.args.framed.now in
+    let goes : framed.goes ≡ One c.in-One.peer = sym c.goes.ensures ∙ c.in-One.is in
+    one_small framed c.in-One.peer goes
 
-pub returns-in-len1-clause-sent : goal.returns-in-len1-clause-sent
-returns-in-len1-clause-sent c =
-    let start = c.args.wires.now.items in
-    let sends = c.args.sends.now in
-    let sent = c.sent-item.result in
-    let one : sends ≡ sent ∷ [] = one_of sends sent (omega (arith, c.in-len1.len_at_least)) (omega (arith, c.in-len1.len_below)) c.sent-item.is in
-    only_sent start sends sent one c.requires.fit c.requires.room c.index_mut-wire.result.now c.send.new.self c.index_mut-wire.ensures.value c.send.ensures.sent (length-set start sent.0 c.send.new.self) c.send.ensures.small
+pub append_marked-requires-clause-fit : goal.append_marked-requires-clause-fit
+append_marked-requires-clause-fit c =
+    let framed = c.args.framed.now in
+    let goes : framed.goes ≡ Marked c.in-Marked.marked c.in-Marked.peers = sym c.goes.ensures ∙ c.in-Marked.is in
+    let fit = many_fit framed c.in-Marked.marked c.in-Marked.peers goes (length c.args.wires.now.items) c.requires.fit in
+    (fit.0, subst (λ (bytes : List ℕ). IsFrame bytes fit.0) (sym c.frame-in-Marked.ensures) fit.1, fit.2)
+
+pub returns-in-Marked-clause-sent : goal.returns-in-Marked-clause-sent
+returns-in-Marked-clause-sent c =
+    let framed = c.args.framed.now in
+    let goes : framed.goes ≡ Marked c.in-Marked.marked c.in-Marked.peers = sym c.goes.ensures ∙ c.in-Marked.is in
+    many_out framed c.in-Marked.marked c.in-Marked.peers goes c.args.wires.now.items c.append_marked.new.wires.items
+    (λ packet is. c.append_marked.ensures.sent packet (subst (λ (bytes : List ℕ). IsFrame bytes packet) (sym c.frame-in-Marked.ensures) is))
+
+pub returns-in-Marked-clause-small : goal.returns-in-Marked-clause-small
+returns-in-Marked-clause-small c =
+    let framed = c.args.framed.now in
+    let goes : framed.goes ≡ Marked c.in-Marked.marked c.in-Marked.peers = sym c.goes.ensures ∙ c.in-Marked.is in
+    many_small framed c.in-Marked.marked c.in-Marked.peers goes

@@ -232,4 +232,4 @@ returns-in-Err-clause-stays g c =
     }
 
 pub returns-in-Ok-clause-fits : goal.returns-in-Ok-clause-fits
-returns-in-Ok-clause-fits g c = subst (λ (names : List Node). AreSendable names c.in-Ok.done.sends.items) c.count_ok.ensures.nodes c.in-Ok.ensures.fits
+returns-in-Ok-clause-fits g c = subst (λ (names : List Node). AreSendable names (g.S.Outgoing.listed c.in-Ok.done.sends)) c.count_ok.ensures.nodes c.in-Ok.ensures.fits

@@ -61,7 +61,7 @@ returns-in-Err-clause-comes g c =
     let read = read_numbered m.own n (omega arith) in
     let goes = leads m p reference c.args.said (kept_by old) n read in
     let kind = c.is_kind-kind.ensures ((kept_by old).uses n) c.gathering.ensures in
-    subst (λ (r : Result NodeTurn Refusal). ComesAt c.args.clock (names_of old) r (Err OutOfMemory) (state_of c.count.new.self) (answers_of old) (answers_of c.count.new.self)) (sym (goes taken.Counted true (sym c.in-Counted.is ∙ c.heard.ensures) (sym c.if-kind-2.true ∙ kind))) tt
+    subst (λ (r : Result NodeTurn Refusal). ComesAt {h = g.S.Outgoing} c.args.clock (names_of old) r (Err OutOfMemory) (state_of c.count.new.self) (answers_of old) (answers_of c.count.new.self)) (sym (goes taken.Counted true (sym c.in-Counted.is ∙ c.heard.ensures) (sym c.if-kind-2.true ∙ kind))) tt
 
 pub returns-in-Err-clause-light : goal.returns-in-Err-clause-light
 returns-in-Err-clause-light g c = λ light is.

@@ -1,6 +1,6 @@
 use Rattle.std.proofs.Common.{◌+◌, Option, None, Ok, ap, arith, refl, subst}
 use Rattle.pg_node.specs.Nodes.{held_by, has_lost, links_of, TakesNext}
-use Rattle.pg_sends.specs.declared.done.Done.{Done}
+use Rattle.pg_sends.specs.Dones.{FramedDone}
 use Rattle.pg_node_state.specs.States.{names_of, nodes_of, state_of, answers_of}
 use Rattle.pg_opens.specs.Places.{name_at}
 use Rattle.pg_node.proofs.Events.{read_is}
@@ -27,7 +27,7 @@ returns-in-Ok-Some-clause-took g c =
     let n = c.args.self.now.node in
     let m = c.take.new.self in
     let p = name_at (names_of (held_by n)) (c.args.peer + 1) in
-    let took = took_packet (names_of (held_by n)) (nodes_of (held_by n)) p (links_of n c.args.peer) (state_of (held_by n)) (state_of (held_by m)) (answers_of (held_by n)) (answers_of (held_by m)) c.in-Ok-Some.done (subst (λ (o : Option Done). TakesNext (names_of (held_by n)) (told_of_peer n c.args.peer) (Ok o) (state_of (held_by n)) (state_of (held_by m)) (answers_of (held_by n)) (answers_of (held_by m)))
+    let took = took_packet (names_of (held_by n)) (nodes_of (held_by n)) p (links_of n c.args.peer) (state_of (held_by n)) (state_of (held_by m)) (answers_of (held_by n)) (answers_of (held_by m)) c.in-Ok-Some.done (subst (λ (o : Option FramedDone). TakesNext (names_of (held_by n)) (told_of_peer n c.args.peer) (Ok o) (state_of (held_by n)) (state_of (held_by m)) (answers_of (held_by n)) (answers_of (held_by m)))
     c.in-Ok-Some.field-0-is c.in-Ok-Some.ensures.event) in
     take_acts g.L.Link.accepts g.I.Inlet.gives g.met.L.Link.rests g.met.I.Inlet.rests c.args.self.now c.keep.new.self m c.args.peer took.packet c.in-Ok-Some.done
     (omega (arith, c.requires.place, c.args.self.now.linked)) took.next took.came
@@ -39,7 +39,7 @@ returns-in-Ok-None-clause-took g c =
     let n = c.args.self.now.node in
     let m = c.take.new.self in
     let p = name_at (names_of (held_by n)) (c.args.peer + 1) in
-    let took = took_nothing (names_of (held_by n)) (nodes_of (held_by n)) p (links_of n c.args.peer) (state_of (held_by n)) (state_of (held_by m)) (answers_of (held_by n)) (answers_of (held_by m)) (subst (λ (o : Option Done). TakesNext (names_of (held_by n)) (told_of_peer n c.args.peer) (Ok o) (state_of (held_by n)) (state_of (held_by m)) (answers_of (held_by n)) (answers_of (held_by m)))
+    let took = took_nothing (names_of (held_by n)) (nodes_of (held_by n)) p (links_of n c.args.peer) (state_of (held_by n)) (state_of (held_by m)) (answers_of (held_by n)) (answers_of (held_by m)) (subst (λ (o : Option FramedDone). TakesNext (names_of (held_by n)) (told_of_peer n c.args.peer) (Ok o) (state_of (held_by n)) (state_of (held_by m)) (answers_of (held_by n)) (answers_of (held_by m)))
     c.in-Ok-None.field-0-is c.in-Ok-None.ensures.event) in
     nothing_done g.L.Link.accepts g.I.Inlet.gives g.met.L.Link.rests g.met.I.Inlet.rests c.args.self.now _ c.take.ensures.stays.names c.take.ensures.stays.ports took.1.0 took.1.1
     c.reserve.ensures.items refl (c.in-Ok-None.ensures.none (ap (λ o. Ok o) c.in-Ok-None.field-0-is))
@@ -49,7 +49,7 @@ returns-in-Ok-None-clause-none g c = λ is.
     let n = c.args.self.now.node in
     let m = c.take.new.self in
     let p = name_at (names_of (held_by n)) (c.args.peer + 1) in
-    (took_nothing (names_of (held_by n)) (nodes_of (held_by n)) p (links_of n c.args.peer) (state_of (held_by n)) (state_of (held_by m)) (answers_of (held_by n)) (answers_of (held_by m)) (subst (λ (o : Option Done). TakesNext (names_of (held_by n)) (told_of_peer n c.args.peer) (Ok o) (state_of (held_by n)) (state_of (held_by m)) (answers_of (held_by n)) (answers_of (held_by m)))
+    (took_nothing (names_of (held_by n)) (nodes_of (held_by n)) p (links_of n c.args.peer) (state_of (held_by n)) (state_of (held_by m)) (answers_of (held_by n)) (answers_of (held_by m)) (subst (λ (o : Option FramedDone). TakesNext (names_of (held_by n)) (told_of_peer n c.args.peer) (Ok o) (state_of (held_by n)) (state_of (held_by m)) (answers_of (held_by n)) (answers_of (held_by m)))
     c.in-Ok-None.field-0-is c.in-Ok-None.ensures.event)).0
 
 pub returns-in-Err-clause-took : goal.returns-in-Err-clause-took

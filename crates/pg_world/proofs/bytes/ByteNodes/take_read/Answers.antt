@@ -11,6 +11,7 @@ use Rattle.pg_world.specs.Crossings.{Crossing, crossing_in, crossing_of, node_of
 use Rattle.pg_account.specs.Histories.{account_of, update_asked_by}
 use Rattle.pg_frame_world.specs.Views.{peer_place}
 use Rattle.pg_account.specs.Histories.{Account}
+use Rattle.pg_sends.specs.Framed.{listed_of}
 use Rattle.pg_world.proofs.Linked.{alone, first_there, seen_there, links_here, nodes_set}
 use Rattle.pg_world.proofs.Linked.{seen_kept, take_acts, node_same, nodes_kept}
 use Rattle.pg_world.proofs.Passing.{first_read, taken_shown, take_err, unmarked}
@@ -51,8 +52,8 @@ returns-in-Ok-take_read g c = record {
       taken_shown config lost crossing _ (account_of c.args.self.now.histories) _ w shows (λ packets others bytes are. c.sending_adds_packets.ensures written_of packets others bytes are)
       i p stays c.requires.pair packet first (node_of node) (seen_there nodes rings i node l at) (node_of node2) done (nodes_set nodes rings i node2)
       c.in-Ok-take_read.ensures.stays.names c.in-Ok-take_read.ensures.stays.ports c.in-Ok-take_read.ensures.fits c.in-Ok-take_read.ensures.small
-      (take_acts nodes rings i node node2 done.sends.items l at p apart
-      (subst (λ k. (j : ℕ) → links_of node2 j ≡ at_link k passed (sent_out done.sends.items (links_of node)) j) place c.in-Ok-take_read.ensures.sent))
+      (take_acts nodes rings i node node2 (listed_of done.sends) l at p apart
+      (subst (λ k. (j : ℕ) → links_of node2 j ≡ at_link k passed (sent_out (listed_of done.sends) (links_of node)) j) place c.in-Ok-take_read.ensures.sent))
       (grew_taken (account_of c.args.self.now.histories) _ i (update_asked_by packet.message) done.began done.began (account_of c.make_room.new.self) (account_of c.serve.new.self) refl
       c.make_room.ensures.account c.serve.ensures.history c.serve.ensures.applied c.serve.ensures.marked c.begin.ensures.history c.begin.ensures.applied c.begin.ensures.marked) c.of-effect.result c.of-effect.ensures
       (subst (λ k. ComesInRoom (names_of (held_by node)) (step_take (nodes_of (held_by node)) (name_at (names_of (held_by node)) (k + 1)) (stamped_of packet) (state_of (held_by node))) (Ok done) (state_of (held_by node2)) (answers_of (held_by node)) (answers_of (held_by node2)))
