@@ -29,6 +29,10 @@ held_by node = node.state
 abbrev pub links_of : {T : Type 0} {g : Ghosts T} → Node T g → ℕ → Link
 links_of node = links_in node.wires.items
 
+-- what stands in the memory for the frame of the next event
+abbrev pub buffer_of : {T : Type 0} {g : Ghosts T} → Node T g → List ℕ
+buffer_of node = node.buffer.items
+
 -- the loss of the peer at a place was seen
 abbrev pub has_lost : {T : Type 0} {g : Ghosts T} → NodeState T g → ℕ → Bool
 has_lost node peer = (kept_by node).lost (name_at (names_of node) (peer + 1))

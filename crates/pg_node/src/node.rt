@@ -12,6 +12,7 @@ mod wire;
 mod wires;
 
 use crate::node::wire::Wire;
+use bytes::BytesMut;
 use pg_group::GroupTable;
 use pg_node_state::NodeState;
 use std::alloc::Global;
@@ -26,6 +27,8 @@ pub struct Node<T: GroupTable> {
     piece: Vec<u8>,
     // No event has taken of the room for a small frame since it was made in every outbox.
     has_room: bool,
+    // The memory for the frame of the next event.
+    buffer: BytesMut,
     alloc: Global,
     ghost linked: { length wires.items + 1 ≡ length (names_known state) },
     ghost passage: { length piece.items ≡ 65536 },

@@ -1,5 +1,5 @@
 -- A port where a command came in, or was answered.
-use Rattle.std.proofs.Common.{◌≡◌, ◌<◌, ◌≤◌, ◌+◌, ◌-◌, ℕ, Bool, true, false, cond, nat_eq}
+use Rattle.std.proofs.Common.{◌≡◌, ◌<◌, ◌≤◌, ◌+◌, ℕ, Bool, true, false, cond, nat_eq}
 use Rattle.std.proofs.Common.{List, length, Option, Some, refl, sym, arith, subst}
 use Rattle.std.proofs.lemmas.Bool.{eqb-true, eq-eqb}
 use Rattle.pg_group.specs.Functions.{upd}

@@ -18,6 +18,7 @@ use Rattle.pg_node_state.specs.declared.state.fault.NodeFault.{NodeFault}
 use Rattle.pg_node_state.specs.declared.state.fault.NodeFault.TheVariants.{Refused, OutOfMemory}
 use Rattle.pg_node_state.specs.declared.state.fault.NodeFault.TheVariants.{TooLong, Message, Damaged}
 use Rattle.pg_node.specs.Bytes.{next_packet, packet_at, packet_in, passed, closed, is_drained}
+use Rattle.pg_node_state.specs.declared.state.NodeState.{NodeState}
 use Rattle.pg_node_state.specs.Issued.{ports_of}
 use Rattle.pg_sends.specs.Frames.{AreSmallFrames}
 use Rattle.pg_node.specs.Links.{Link, at_link}
@@ -235,27 +236,28 @@ closed_unread k links place = go (cases_eq place k)
 
 module _ {T L I : Type 0} {g : Ghosts T} (accepts : L → List ℕ → L → Type 0) (gives : I → List ℕ → I → Type 0)
     (link_rests : (a : L) → accepts a [] a) (inlet_rests : (a : I) → gives a [] a) where
-  abbrev Gives : LinkedNode T L I g → TimedTurn → Node T g → Type 0
-  Gives a turn n = Gave (name_at (names_of (held_by (node_of a))) 0) turn.reported.gave (answers_of (held_by (node_of a))) (answers_of (held_by n))
+  abbrev Gives : LinkedNode T L I g → TimedTurn → NodeState T g → Type 0
+  Gives a turn n = Gave (name_at (names_of (held_by (node_of a))) 0) turn.reported.gave (answers_of (held_by (node_of a))) (answers_of n)
 
   -- a packet was taken, and that was logged
-  pub take_acts : (a b : LinkedNode T L I g) (m : Node T g) (peer : ℕ) (packet : Packet) (done : FramedDone) → peer + 1 < length (names_of (held_by (node_of a))) → next_packet (links_of (node_of a) peer) ≡ Ok (Some packet)
+  pub take_acts : (a b : LinkedNode T L I g) (m m2 : Node T g) (peer : ℕ) (packet : Packet) (done : FramedDone) → peer + 1 < length (names_of (held_by (node_of a))) → next_packet (links_of (node_of a) peer) ≡ Ok (Some packet)
       → ComesInRoom (names_of (held_by (node_of a)))
       (step_take (nodes_of (held_by (node_of a))) (name_at (names_of (held_by (node_of a))) (peer + 1)) (stamped_of packet) (state_of (held_by (node_of a))))
       (Ok done) (state_of (held_by m)) (answers_of (held_by (node_of a))) (answers_of (held_by m))
       → AreSendable (names_of (held_by (node_of a))) (listed_of done.sends) → AreSmallFrames (listed_of done.sends)
       → ((place : ℕ) → links_of m place ≡ at_link peer passed (sent_out (listed_of done.sends) (links_of (node_of a))) place)
       → names_of (held_by m) ≡ names_of (held_by (node_of a)) → ports_of (held_by m) ≡ ports_of (held_by (node_of a))
-      → node_of b ≡ m → log_of b ≡ log_of a ++ ((state_of (held_by m)).clock, event_of (Took peer (stamped_of packet))) ∷ [] → peers_of b ≡ peers_of a
+      → node_of b ≡ m2 → held_by m2 ≡ held_by m → links_of m2 ≡ links_of m → log_of b ≡ log_of a ++ ((state_of (held_by m2)).clock, event_of (Took peer (stamped_of packet))) ∷ [] → peers_of b ≡ peers_of a
       → ActsOnce accepts gives (IsOfPeer peer) a b
-  take_acts a b m peer packet done there next came fits small sent names ports node log peers =
+  take_acts a b m m2 peer packet done there next came fits small sent names ports node same wires log peers =
       let links = links_of (node_of a) in
       let happened = happened_by (names_of (held_by (node_of a)))
       (step_take (nodes_of (held_by (node_of a))) (name_at (names_of (held_by (node_of a))) (peer + 1)) (stamped_of packet) (state_of (held_by (node_of a))))
       done (state_of (held_by m)) (answers_of (held_by (node_of a))) (answers_of (held_by m)) came in
       let is = next_is (links peer) packet next in
       let act : Act = record { input = Took peer (stamped_of packet); turn = happened.turn; sends = (listed_of done.sends); came = take (4 + length is.body) (links peer).unread } in
-      let held = ap held_by node in record {
+      let held = ap held_by node ∙ same in
+      let wired = ap links_of node ∙ wires in record {
         act = act;
         wanted = refl;
         follows = acts_once accepts gives link_rests inlet_rests a b act (ap names_of held ∙ names) (ap ports_of held ∙ ports)
@@ -263,7 +265,7 @@ module _ {T L I : Type 0} {g : Ghosts T} (accepts : L → List ℕ → L → Typ
               there = there;
               made = happened.made;
               state = ap state_of held ∙ happened.happens.state;
-              answers = subst (λ (n : Node T g). Gives a happened.turn n) (sym node) happened.happens.answers;
+              answers = subst (λ (n : NodeState T g). Gives a happened.turn n) (sym held) happened.happens.answers;
               sends = happened.happens.told.sends;
               fits = fits;
               small = small;
@@ -277,32 +279,33 @@ module _ {T L I : Type 0} {g : Ghosts T} (accepts : L → List ℕ → L → Typ
               };
             })
             (log ∙ ap (λ (n : Node T g). log_of a ++ ((state_of (held_by n)).clock, event_of (Took peer (stamped_of packet))) ∷ []) (sym node)) peers
-            (λ place none. ap (λ (n : Node T g). (links_of n place).outbox) node ∙ (ap (λ (l : Link). l.outbox) (sent place) ∙ passed_outbox peer (sent_out (listed_of done.sends) links) place))
+            (λ place none. ap (λ (ls : ℕ → Link). (ls place).outbox) wired ∙ (ap (λ (l : Link). l.outbox) (sent place) ∙ passed_outbox peer (sent_out (listed_of done.sends) links) place))
             (λ place. inl refl)
             (λ place. taken_unread peer links (sent_out (listed_of done.sends) links) is.body (λ other. refl) is.front place
             ∙ (ap (λ (l : Link). cond (is_from place (Took peer (stamped_of packet))) (take (4 + length is.body) (links peer).unread) [] ++ l.unread) (sym (sent place))
-            ∙ ap (λ (n : Node T g). cond (is_from place (Took peer (stamped_of packet))) (take (4 + length is.body) (links peer).unread) [] ++ (links_of n place).unread) (sym node)))
-            (λ place. ap (λ (n : Node T g). (links_of n place).damaged) node
+            ∙ ap (λ (ls : ℕ → Link). cond (is_from place (Took peer (stamped_of packet))) (take (4 + length is.body) (links peer).unread) [] ++ (ls place).unread) (sym wired)))
+            (λ place. ap (λ (ls : ℕ → Link). (ls place).damaged) wired
             ∙ (ap (λ (l : Link). l.damaged) (sent place) ∙ marks_kept peer passed (λ l. refl) (sent_out (listed_of done.sends) links) place))
             (λ place. untaken_of peer links packet act.came place next);
       }
 
   -- an action was made, and that was logged
-  pub action_acts : (a b : LinkedNode T L I g) (m : Node T g) (action : Action) (done : FramedDone)
+  pub action_acts : (a b : LinkedNode T L I g) (m m2 : Node T g) (action : Action) (done : FramedDone)
       → ComesInRoom (names_of (held_by (node_of a)))
       (step_act (nodes_of (held_by (node_of a))) (ports_of (held_by (node_of a))) action (state_of (held_by (node_of a))))
       (Ok done) (state_of (held_by m)) (answers_of (held_by (node_of a))) (answers_of (held_by m))
       → AreSendable (names_of (held_by (node_of a))) (listed_of done.sends) → AreSmallFrames (listed_of done.sends)
       → ((place : ℕ) → links_of m place ≡ sent_out (listed_of done.sends) (links_of (node_of a)) place)
       → names_of (held_by m) ≡ names_of (held_by (node_of a)) → ports_of (held_by m) ≡ ports_of (held_by (node_of a))
-      → node_of b ≡ m → log_of b ≡ log_of a ++ ((state_of (held_by m)).clock, event_of (Did action)) ∷ [] → peers_of b ≡ peers_of a
+      → node_of b ≡ m2 → held_by m2 ≡ held_by m → links_of m2 ≡ links_of m → log_of b ≡ log_of a ++ ((state_of (held_by m2)).clock, event_of (Did action)) ∷ [] → peers_of b ≡ peers_of a
       → ActsOnce accepts gives (λ input. input ≡ Did action) a b
-  action_acts a b m action done came fits small sent names ports node log peers =
+  action_acts a b m m2 action done came fits small sent names ports node same wires log peers =
       let happened = happened_by (names_of (held_by (node_of a)))
       (step_act (nodes_of (held_by (node_of a))) (ports_of (held_by (node_of a))) action (state_of (held_by (node_of a))))
       done (state_of (held_by m)) (answers_of (held_by (node_of a))) (answers_of (held_by m)) came in
       let act : Act = record { input = Did action; turn = happened.turn; sends = (listed_of done.sends); came = [] } in
-      let held = ap held_by node in record {
+      let held = ap held_by node ∙ same in
+      let wired = ap links_of node ∙ wires in record {
         act = act;
         wanted = refl;
         follows = acts_once accepts gives link_rests inlet_rests a b act (ap names_of held ∙ names) (ap ports_of held ∙ ports)
@@ -310,27 +313,27 @@ module _ {T L I : Type 0} {g : Ghosts T} (accepts : L → List ℕ → L → Typ
               there = tt;
               made = happened.made;
               state = ap state_of held ∙ happened.happens.state;
-              answers = subst (λ (n : Node T g). Gives a happened.turn n) (sym node) happened.happens.answers;
+              answers = subst (λ (n : NodeState T g). Gives a happened.turn n) (sym held) happened.happens.answers;
               sends = happened.happens.told.sends;
               fits = fits;
               small = small;
               came = refl;
             })
             (log ∙ ap (λ (n : Node T g). log_of a ++ ((state_of (held_by n)).clock, event_of (Did action)) ∷ []) (sym node)) peers
-            (λ place none. ap (λ (n : Node T g). (links_of n place).outbox) node ∙ ap (λ (l : Link). l.outbox) (sent place))
+            (λ place none. ap (λ (ls : ℕ → Link). (ls place).outbox) wired ∙ ap (λ (l : Link). l.outbox) (sent place))
             (λ place. inl refl)
-            (λ place. ap (λ (l : Link). l.unread) (sym (sent place)) ∙ ap (λ (n : Node T g). (links_of n place).unread) (sym node))
-            (λ place. ap (λ (n : Node T g). (links_of n place).damaged) node ∙ ap (λ (l : Link). l.damaged) (sent place)) (λ place damaged. refl);
+            (λ place. ap (λ (l : Link). l.unread) (sym (sent place)) ∙ ap (λ (ls : ℕ → Link). (ls place).unread) (sym wired))
+            (λ place. ap (λ (ls : ℕ → Link). (ls place).damaged) wired ∙ ap (λ (l : Link). l.damaged) (sent place)) (λ place damaged. refl);
       }
 
   -- the loss of a peer was seen, and that was logged
-  pub loss_acts : (a b : LinkedNode T L I g) (m : Node T g) (peer last : ℕ) (done : FramedDone) → peer + 1 < length (names_of (held_by (node_of a)))
+  pub loss_acts : (a b : LinkedNode T L I g) (m m2 : Node T g) (peer last : ℕ) (done : FramedDone) → peer + 1 < length (names_of (held_by (node_of a)))
       → Comes (names_of (held_by (node_of a))) (told_of_loss (node_of a) peer last) (Ok done) (state_of (held_by m)) (answers_of (held_by (node_of a))) (answers_of (held_by m))
       → links_of m ≡ at_link peer closed (links_of (node_of a))
       → names_of (held_by m) ≡ names_of (held_by (node_of a)) → ports_of (held_by m) ≡ ports_of (held_by (node_of a))
-      → node_of b ≡ m → log_of b ≡ log_of a ++ ((state_of (held_by m)).clock, event_of (Saw peer last)) ∷ [] → peers_of b ≡ peers_of a
+      → node_of b ≡ m2 → held_by m2 ≡ held_by m → links_of m2 ≡ links_of m → log_of b ≡ log_of a ++ ((state_of (held_by m2)).clock, event_of (Saw peer last)) ∷ [] → peers_of b ≡ peers_of a
       → ActsOnce accepts gives (λ input. input ≡ Saw peer last) a b
-  loss_acts a b m peer last done there came shut names ports node log peers =
+  loss_acts a b m m2 peer last done there came shut names ports node same wires log peers =
       let links = links_of (node_of a) in
       let s = state_of (held_by (node_of a)) in
       let p = name_at (names_of (held_by (node_of a))) (peer + 1) in
@@ -338,7 +341,8 @@ module _ {T L I : Type 0} {g : Ghosts T} (accepts : L → List ℕ → L → Typ
       let made : step_see_loss p last s ≡ Ok happened.turn = not_refused (s.state.lost p) (is_drained (links peer)) (step_see_loss p last s) happened.turn happened.made in
       let is : at_clock (max s.clock last + 1) (see_loss p s.state) ≡ happened.turn = loss_turn (s.state.lost p) (max s.clock last + 1) (see_loss p s.state) happened.turn made in
       let act : Act = record { input = Saw peer last; turn = happened.turn; sends = []; came = [] } in
-      let held = ap held_by node in record {
+      let held = ap held_by node ∙ same in
+      let wired = ap links_of node ∙ wires in record {
         act = act;
         wanted = refl;
         follows = acts_once accepts gives link_rests inlet_rests a b act (ap names_of held ∙ names) (ap ports_of held ∙ ports)
@@ -346,19 +350,19 @@ module _ {T L I : Type 0} {g : Ghosts T} (accepts : L → List ℕ → L → Typ
               there = there;
               made = made;
               state = ap state_of held ∙ happened.happens.state;
-              answers = subst (λ (n : Node T g). Gives a happened.turn n) (sym node) happened.happens.answers;
+              answers = subst (λ (n : NodeState T g). Gives a happened.turn n) (sym held) happened.happens.answers;
               sends = ap (λ (t : TimedTurn). t.sends) is;
               fits = record { each = tt; apart = tt; alike = tt };
               small = tt;
               came = refl;
             })
             (log ∙ ap (λ (n : Node T g). log_of a ++ ((state_of (held_by n)).clock, event_of (Saw peer last)) ∷ []) (sym node)) peers
-            (λ place none. ap (λ (n : Node T g). (links_of n place).outbox) node
+            (λ place none. ap (λ (ls : ℕ → Link). (ls place).outbox) wired
             ∙ (ap (λ (ls : ℕ → Link). (ls place).outbox) shut
             ∙ (ap (λ (l : Link). l.outbox) (link_else peer place closed links (another place peer last none)) ∙ sym (append-nil (links place).outbox))))
-            (λ place. closes_there peer last links place act b refl (ap links_of node ∙ shut))
-            (λ place. sym (ap (λ (n : Node T g). (links_of n place).unread) node ∙ (ap (λ (ls : ℕ → Link). (ls place).unread) shut ∙ closed_unread peer links place)))
-            (λ place. ap (λ (n : Node T g). (links_of n place).damaged) node ∙ (ap (λ (ls : ℕ → Link). (ls place).damaged) shut ∙ marks_kept peer closed (λ l. refl) links place))
+            (λ place. closes_there peer last links place act b refl (wired ∙ shut))
+            (λ place. sym (ap (λ (ls : ℕ → Link). (ls place).unread) wired ∙ (ap (λ (ls : ℕ → Link). (ls place).unread) shut ∙ closed_unread peer links place)))
+            (λ place. ap (λ (ls : ℕ → Link). (ls place).damaged) wired ∙ (ap (λ (ls : ℕ → Link). (ls place).damaged) shut ∙ marks_kept peer closed (λ l. refl) links place))
             (λ place damaged. refl);
       }
 

@@ -45,7 +45,7 @@ impl<T: GroupTable + Drop, L: Link + Drop, I: Inlet + Drop> LinkedNode<T, L, I> 
         }
         match self.node.take(peer) {
             Ok(Some(done)) => {
-                drop(done);
+                self.node.reuse(done);
                 self.keep(NodeEvent::Take(peer));
                 Ok(true)
             }
@@ -89,7 +89,7 @@ impl<T: GroupTable + Drop, L: Link + Drop, I: Inlet + Drop> LinkedNode<T, L, I> 
         }
         match self.node.command(port, command.get()) {
             Ok(done) => {
-                drop(done);
+                self.node.reuse(done);
                 self.keep(NodeEvent::Command(port, command));
                 Ok(())
             }
@@ -113,7 +113,7 @@ impl<T: GroupTable + Drop, L: Link + Drop, I: Inlet + Drop> LinkedNode<T, L, I> 
         }
         match self.node.retry(op) {
             Ok(done) => {
-                drop(done);
+                self.node.reuse(done);
                 self.keep(NodeEvent::Retry(op));
                 Ok(())
             }
@@ -139,7 +139,7 @@ impl<T: GroupTable + Drop, L: Link + Drop, I: Inlet + Drop> LinkedNode<T, L, I> 
         }
         match self.node.see_loss(peer, last) {
             Ok(done) => {
-                drop(done);
+                self.node.reuse(done);
                 self.keep(NodeEvent::SeeLoss(peer));
                 Ok(())
             }

@@ -22,6 +22,7 @@ use crate::done::Done;
 use crate::orders::{Order, own_under};
 use crate::outgoing::Outgoing;
 use crate::sends::{to_asked, to_granted, to_live};
+use bytes::BytesMut;
 use pg_group::Update;
 use pg_opens::Opens;
 use pg_step::OpId;
@@ -32,6 +33,7 @@ use std::alloc::{AllocError, Global};
 /// Errors: `AllocError`.
 pub fn freed<S: Outgoing + Drop>(
     alloc: Global,
+    buffer: &mut BytesMut,
     clock: u32,
     opens: &Opens,
     number: u32,
@@ -48,7 +50,7 @@ pub fn freed<S: Outgoing + Drop>(
 {
     let update = update_under(opens, number);
     let order = Order::Free(update.name(), own_under(opens, number));
-    let sends = to_granted(alloc, clock, order, opens, number)?;
+    let sends = to_granted(alloc, buffer, clock, order, opens, number)?;
     Ok(done_with(sends, None))
 }
 
@@ -57,6 +59,7 @@ pub fn freed<S: Outgoing + Drop>(
 /// Errors: `AllocError`.
 pub fn asked<S: Outgoing + Drop>(
     alloc: Global,
+    buffer: &mut BytesMut,
     clock: u32,
     opens: &Opens,
     number: u32,
@@ -73,7 +76,7 @@ pub fn asked<S: Outgoing + Drop>(
 {
     let update = update_under(opens, number);
     let order = Order::Lock(update.name(), own_under(opens, number));
-    let sends = to_asked(alloc, clock, order, opens, number)?;
+    let sends = to_asked(alloc, buffer, clock, order, opens, number)?;
     Ok(done_with(sends, None))
 }
 
@@ -82,6 +85,7 @@ pub fn asked<S: Outgoing + Drop>(
 /// Errors: `AllocError`.
 pub fn begun<S: Outgoing + Drop>(
     alloc: Global,
+    buffer: &mut BytesMut,
     clock: u32,
     opens: &Opens,
     number: u32,
@@ -100,7 +104,7 @@ pub fn begun<S: Outgoing + Drop>(
 {
     let update = update_under(opens, number);
     let call = own_under(opens, opens.references() + 1);
-    let sends = to_live(alloc, clock, Order::Change(update, call), opens)?;
+    let sends = to_live(alloc, buffer, clock, Order::Change(update, call), opens)?;
     match update.copy(alloc) {
         Ok(update) => Ok(done_with(sends, Some((op, update)))),
         Err(fault) => {
@@ -115,6 +119,7 @@ pub fn begun<S: Outgoing + Drop>(
 /// Errors: `AllocError`.
 pub fn ended<S: Outgoing + Drop>(
     alloc: Global,
+    buffer: &mut BytesMut,
     clock: u32,
     opens: &Opens,
     number: u32,
@@ -132,7 +137,7 @@ pub fn ended<S: Outgoing + Drop>(
 {
     let update = update_under(opens, number);
     let order = Order::Free(update.name(), own_under(opens, lock));
-    let sends = to_live(alloc, clock, order, opens)?;
+    let sends = to_live(alloc, buffer, clock, order, opens)?;
     Ok(done_with(sends, None))
 }
 
@@ -160,8 +165,20 @@ pub fn update_under(opens: &Opens, number: u32) -> &Update
     }
 }
 
-ghost use Rattle.std.specs.Prelude.{false};
+ghost use Rattle.std.specs.Prelude.{false, nat_le};
+ghost use Rattle.pg_opens.specs.Opens.{opened_of};
+ghost use Rattle.pg_step.specs.Commands.{OPEN_LIMIT as limit_of_open};
 ghost use Rattle.pg_step.specs.Nodes.{is_peer};
+
+/// How many commands are open at most at one node.
+const OPEN_LIMIT: usize = 256;
+
+/// Whether as many commands are open as can be. It takes no memory.
+pub fn is_busy(opens: &Opens) -> bool
+    ensures { result ≡ nat_le limit_of_open (opened_of opens.now) }
+{
+    opens.open_count() >= OPEN_LIMIT
+}
 
 /// Whether a peer counts. It takes no memory: O(nodes).
 pub fn has_peer(opens: &Opens) -> bool

@@ -23,6 +23,7 @@ use crate::done::Done;
 use crate::orders::{Order, own_under};
 use crate::outgoing::Outgoing;
 use crate::sends::{to_live, to_place};
+use bytes::BytesMut;
 use pg_group::Update;
 use pg_opens::Opens;
 use pg_step::OpId;
@@ -33,6 +34,7 @@ use std::alloc::{AllocError, Global};
 /// Errors: `AllocError`.
 pub fn first_asked<S: Outgoing + Drop>(
     alloc: Global,
+    buffer: &mut BytesMut,
     clock: u32,
     opens: &Opens,
     op: OpId,
@@ -53,7 +55,7 @@ pub fn first_asked<S: Outgoing + Drop>(
 {
     let name = waiting_under(opens, op).name();
     let lock = own_under(opens, opens.references() + 1);
-    let sends = to_place(alloc, clock, Order::Lock(name, lock), first)?;
+    let sends = to_place(alloc, buffer, clock, Order::Lock(name, lock), first)?;
     Ok(done_with(sends, None))
 }
 
@@ -62,6 +64,7 @@ pub fn first_asked<S: Outgoing + Drop>(
 /// Errors: `AllocError`.
 pub fn all_asked<S: Outgoing + Drop>(
     alloc: Global,
+    buffer: &mut BytesMut,
     clock: u32,
     opens: &Opens,
     op: OpId,
@@ -79,7 +82,7 @@ pub fn all_asked<S: Outgoing + Drop>(
 {
     let name = waiting_under(opens, op).name();
     let lock = own_under(opens, opens.references() + 1);
-    let sends = to_live(alloc, clock, Order::Lock(name, lock), opens)?;
+    let sends = to_live(alloc, buffer, clock, Order::Lock(name, lock), opens)?;
     Ok(done_with(sends, None))
 }
 

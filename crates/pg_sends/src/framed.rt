@@ -48,6 +48,13 @@ impl Framed {
         self.frame.as_slice()
     }
 
+    /// The frame, which is taken out; none, where it goes to nobody. It takes no memory.
+    pub fn into_frame(self) -> BytesMut
+        ensures { result.items ≡ self.frame.items }
+    {
+        self.frame
+    }
+
     /// The peers that it goes to.
     pub fn goes(&self) -> Goes
         ensures { result ≡ self.now.goes }

@@ -21,6 +21,7 @@ use pg_multicall::Places;
 use pg_term::{Pid, Reference, Term};
 use pg_writer::{Asked, write_call_into, write_del_lock_into, write_down_into, write_reply_into};
 use std::alloc::{AllocError, Global};
+use std::mem;
 
 impl Outgoing for Framed {
     ghost use Rattle.pg_sends.specs.Framed.{listed_of};
@@ -33,17 +34,19 @@ impl Outgoing for Framed {
 
     fn to_one(
         alloc: Global,
+        buffer: &mut BytesMut,
         stamp: u32,
         order: Order<'_>,
         peer: usize,
     ) -> Result<Framed, AllocError> {
-        let frame = order_frame(alloc, stamp, order)?;
+        let frame = order_frame(alloc, buffer, stamp, order)?;
         Ok(Framed::new(frame, Goes::One(peer)))
     }
 
     /// Nothing is written where nobody is marked.
     fn to_marked(
         alloc: Global,
+        buffer: &mut BytesMut,
         stamp: u32,
         order: Order<'_>,
         goes: Places,
@@ -52,7 +55,7 @@ impl Outgoing for Framed {
         if goes == Places::none() {
             return Ok(Framed::nobody(alloc));
         }
-        let frame = order_frame(alloc, stamp, order)?;
+        let frame = order_frame(alloc, buffer, stamp, order)?;
         Ok(Framed::new(frame, Goes::Marked(goes, peers)))
     }
 
@@ -65,22 +68,22 @@ impl Outgoing for Framed {
     }
 }
 
-/// The frame of an order.
+/// The frame of an order, written in the memory of a buffer, which is left without any.
 ///
 /// Errors: `AllocError`.
-fn order_frame(alloc: Global, stamp: u32, order: Order<'_>) -> Result<BytesMut, AllocError>
+fn order_frame(
+    alloc: Global,
+    buffer: &mut BytesMut,
+    stamp: u32,
+    order: Order<'_>,
+) -> Result<BytesMut, AllocError>
     requires within { stamp ≤ MAX_STAMP }
     requires named { is_sayable (message_of order) ≡ true }
     ensures { IfOk result (λ frame. IsFrame frame.items (ordered stamp order.entry)) }
 {
-    let mut frame = BytesMut::new(alloc);
-    match append_order(stamp, order, &mut frame) {
-        Ok(()) => Ok(frame),
-        Err(AllocError) => {
-            drop(frame);
-            Err(AllocError)
-        }
-    }
+    buffer.clear();
+    append_order(stamp, order, buffer)?;
+    Ok(mem::replace(buffer, BytesMut::new(alloc)))
 }
 
 /// Appends the frame of an order.

@@ -1,6 +1,6 @@
 //! What an event of a node sends, and how it is made before anything changes.
 //!
-//! `begun(alloc, clock, &opens, number, op)?` is a `Done`: an update that begins, sent to each peer by its place, as packets or as one
+//! `begun(alloc, buffer, clock, &opens, number, op)?` is a `Done`: an update that begins, sent to each peer by its place, as packets or as one
 //! frame. Begin with `src/done.rt` and `src/outgoing.rt`, then `src/orders.rt` and `src/sends.rt`.
 #![tactic(auto)]
 
@@ -17,9 +17,10 @@ mod outgoing;
 mod own;
 mod replies;
 mod sends;
+mod served;
 
 pub use begin::{announced, opening};
-pub use calls::{asked, begun, done_with, ended, freed, has_peer, update_under};
+pub use calls::{asked, begun, done_with, ended, freed, has_peer, is_busy, update_under};
 pub use done::Done;
 pub use first::{all_asked, began_alone, first_asked, waiting_under};
 pub use framed::Framed;
@@ -28,5 +29,5 @@ pub use goes::Goes;
 pub use orders::{Numbered, Order, own_under};
 pub use outgoing::Outgoing;
 pub use own::{apply_own, ask_own, free_own, give_up_own};
-pub use replies::{reply, verdict};
 pub use sends::to_live;
+pub use served::{change_for_peer, forget_node, lock_for_peer};

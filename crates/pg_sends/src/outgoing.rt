@@ -8,6 +8,7 @@ ghost use Rattle.pg_sends.specs.Marked.{marks_of, sent_below};
 ghost use Rattle.pg_sends.specs.Orders.{message_of, ordered};
 
 use crate::orders::Order;
+use bytes::BytesMut;
 use pg_multicall::Places;
 use std::alloc::{AllocError, Global};
 
@@ -23,10 +24,17 @@ pub trait Outgoing {
     fn nothing(alloc: Global) -> Self
         ensures { listed result ≡ [] };
 
-    /// An order to one peer. `stamp`: the clock that its packet has, at most 1,073,741,824.
+    /// An order to one peer. `buffer`: its memory takes the frame, where one is written; what it held is lost. `stamp`: the
+    /// clock that the packet has, at most 1,073,741,824.
     ///
     /// Errors: `AllocError`.
-    fn to_one(alloc: Global, stamp: u32, order: Order<'_>, peer: usize) -> Result<Self, AllocError>
+    fn to_one(
+        alloc: Global,
+        buffer: &mut BytesMut,
+        stamp: u32,
+        order: Order<'_>,
+        peer: usize,
+    ) -> Result<Self, AllocError>
         requires within { stamp ≤ MAX_STAMP }
         requires named { is_sayable (message_of order) ≡ true }
         ensures { IfOk result (λ sends. listed sends ≡ (peer, ordered stamp order.entry) ∷ []) };
@@ -37,6 +45,7 @@ pub trait Outgoing {
     /// Errors: `AllocError`.
     fn to_marked(
         alloc: Global,
+        buffer: &mut BytesMut,
         stamp: u32,
         order: Order<'_>,
         goes: Places,

@@ -15,6 +15,7 @@ use crate::done::Done;
 use crate::orders::Order;
 use crate::outgoing::Outgoing;
 use crate::sends::send_one;
+use bytes::BytesMut;
 use pg_message::Said;
 use pg_term::Reference;
 use std::alloc::{AllocError, Global};
@@ -22,8 +23,9 @@ use std::alloc::{AllocError, Global};
 /// A reply to a peer, and nothing else. `peer`: its place among the peers.
 ///
 /// Errors: `AllocError`.
-pub fn reply<S: Outgoing + Drop>(
+pub(crate) fn reply<S: Outgoing + Drop>(
     alloc: Global,
+    buffer: &mut BytesMut,
     clock: u32,
     peer: usize,
     reference: &Reference,
@@ -36,12 +38,12 @@ pub fn reply<S: Outgoing + Drop>(
     ensures odd { IfOk result (λ done. done.odd ≡ None) }
     ensures fits { (names : List Node) → peer + 1 < length names → IfOk result (λ done. AreSendable names (S.listed done.sends)) }
 {
-    let sends = send_one(alloc, clock, Order::Reply(reference, said), peer)?;
+    let sends = send_one(alloc, buffer, clock, Order::Reply(reference, said), peer)?;
     Ok(done_with(sends, None))
 }
 
 /// What is said to a request for a lock.
-pub fn verdict(granted: bool) -> Said
+pub(crate) fn verdict(granted: bool) -> Said
     ensures { result ≡ verdict granted }
 {
     if granted { Said::Granted } else { Said::Denied }

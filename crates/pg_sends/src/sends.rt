@@ -22,6 +22,7 @@ ghost use Rattle.pg_message.specs.declared.packet.TheConstants.{MAX_STAMP};
 
 use crate::orders::Order;
 use crate::outgoing::Outgoing;
+use bytes::BytesMut;
 use pg_marks::Asked;
 use pg_message::Packet;
 use pg_multicall::Places;
@@ -33,6 +34,7 @@ use std::alloc::{AllocError, Global};
 /// Errors: `AllocError`.
 pub fn to_live<S: Outgoing>(
     alloc: Global,
+    buffer: &mut BytesMut,
     clock: u32,
     order: Order<'_>,
     opens: &Opens,
@@ -44,7 +46,7 @@ pub fn to_live<S: Outgoing>(
     ensures fits { IfOk result (λ sends. AreSendable (names_of opens.now) (S.listed sends)) }
 {
     let goes = live_peers(opens);
-    send_marked(alloc, clock, order, goes, peer_count(opens))
+    send_marked(alloc, buffer, clock, order, goes, peer_count(opens))
 }
 
 /// A copy of a packet to each live peer. Its cost grows with the peers and the packet.
@@ -68,6 +70,7 @@ pub fn copies_to_live(
 /// Errors: `AllocError`.
 pub fn to_asked<S: Outgoing>(
     alloc: Global,
+    buffer: &mut BytesMut,
     clock: u32,
     order: Order<'_>,
     opens: &Opens,
@@ -83,7 +86,7 @@ pub fn to_asked<S: Outgoing>(
     ensures fits { IfOk result (λ sends. AreSendable (names_of opens.now) (S.listed sends)) }
 {
     let goes = asked_peers(opens, number);
-    send_marked(alloc, clock, order, goes, peer_count(opens))
+    send_marked(alloc, buffer, clock, order, goes, peer_count(opens))
 }
 
 /// An order to each live peer and has granted the lock that is asked for under the reference of this number.
@@ -91,6 +94,7 @@ pub fn to_asked<S: Outgoing>(
 /// Errors: `AllocError`.
 pub fn to_granted<S: Outgoing>(
     alloc: Global,
+    buffer: &mut BytesMut,
     clock: u32,
     order: Order<'_>,
     opens: &Opens,
@@ -106,7 +110,7 @@ pub fn to_granted<S: Outgoing>(
     ensures fits { IfOk result (λ sends. AreSendable (names_of opens.now) (S.listed sends)) }
 {
     let goes = granted_peers(opens, number);
-    send_marked(alloc, clock, order, goes, peer_count(opens))
+    send_marked(alloc, buffer, clock, order, goes, peer_count(opens))
 }
 
 /// An order to the node at a place, by the names, which is a peer.
@@ -114,6 +118,7 @@ pub fn to_granted<S: Outgoing>(
 /// Errors: `AllocError`.
 pub fn to_place<S: Outgoing>(
     alloc: Global,
+    buffer: &mut BytesMut,
     clock: u32,
     order: Order<'_>,
     place: usize,
@@ -125,7 +130,7 @@ pub fn to_place<S: Outgoing>(
         ≡ (λ q. stamped clock (to_one (name_at names place) (message_of order.entry) q))) }
     ensures fits { (names : List Node) → place < length names → IfOk result (λ sends. AreSendable names (S.listed sends)) }
 {
-    send_one(alloc, clock, order, place - 1)
+    send_one(alloc, buffer, clock, order, place - 1)
 }
 
 /// An order to the peer at a place among the peers.
@@ -133,6 +138,7 @@ pub fn to_place<S: Outgoing>(
 /// Errors: `AllocError`.
 pub(crate) fn send_one<S: Outgoing>(
     alloc: Global,
+    buffer: &mut BytesMut,
     clock: u32,
     order: Order<'_>,
     peer: usize,
@@ -143,12 +149,13 @@ pub(crate) fn send_one<S: Outgoing>(
         ≡ (λ q. stamped clock (to_one (name_at names (peer + 1)) (message_of order.entry) q))) }
     ensures fits { (names : List Node) → peer + 1 < length names → IfOk result (λ sends. AreSendable names (S.listed sends)) }
 {
-    S::to_one(alloc, clock, order, peer)
+    S::to_one(alloc, buffer, clock, order, peer)
 }
 
 /// An order to each peer that is marked, in the order of the peers. `goes`: who is marked, by the places of so many peers.
 fn send_marked<S: Outgoing>(
     alloc: Global,
+    buffer: &mut BytesMut,
     clock: u32,
     order: Order<'_>,
     goes: Places,
@@ -161,7 +168,7 @@ fn send_marked<S: Outgoing>(
         ≡ (λ q. stamped clock (cond (is_marked names (marks_of goes peers) q) (message_of order.entry ∷ []) []))) }
     ensures fits { (names : List Node) → peers + 1 ≡ length names → IfOk result (λ sends. AreSendable names (S.listed sends)) }
 {
-    S::to_marked(alloc, clock, order, goes, peers)
+    S::to_marked(alloc, buffer, clock, order, goes, peers)
 }
 
 impl Outgoing for Vec<(usize, Packet)> {
@@ -173,6 +180,7 @@ impl Outgoing for Vec<(usize, Packet)> {
 
     fn to_one(
         alloc: Global,
+        buffer: &mut BytesMut,
         stamp: u32,
         order: Order<'_>,
         peer: usize,
@@ -186,6 +194,7 @@ impl Outgoing for Vec<(usize, Packet)> {
     /// It takes no memory where nobody is marked, else that of the list once.
     fn to_marked(
         alloc: Global,
+        buffer: &mut BytesMut,
         stamp: u32,
         order: Order<'_>,
         goes: Places,

@@ -48,18 +48,6 @@ fn opened(alloc: Global) -> Option<Node<IndexTable>> {
     }
 }
 
-// Keeps the first call that is sent by an event, if it happened and one is; whether it happened, and there was memory.
-fn is_kept(alloc: Global, done: Option<Done<Framed>>, calls: &mut Vec<Reference>) -> bool {
-    match done {
-        Some(done) => {
-            let is_kept = is_call_kept(alloc, done.sends.frame(), calls);
-            drop(done);
-            is_kept
-        }
-        None => false,
-    }
-}
-
 // Keeps the call of a frame, if it is one; whether there was memory for it.
 fn is_call_kept(alloc: Global, frame: &[u8], calls: &mut Vec<Reference>) -> bool {
     if frame.len() < 4 {
@@ -101,6 +89,13 @@ impl OverBytes {
             && self.node.pull(peer, &mut self.rings.to, RING).is_ok()
     }
 
+    // Keeps the first call that is sent by an event, if one is, and gives the event back; whether there was memory.
+    fn is_kept(&mut self, done: Done<Framed>, calls: &mut Vec<Reference>) -> bool {
+        let is_kept = is_call_kept(self.alloc, done.sends.frame(), calls);
+        self.node.reuse(done);
+        is_kept
+    }
+
     fn taken(&mut self, peer: usize) -> Result<Option<Done<Framed>>, NodeFault> {
         if peer < self.node.state().peer_count() {
             self.node.take(peer)
@@ -114,7 +109,7 @@ impl OverBytes {
         for _ in 0..10_000 {
             match self.taken(peer) {
                 Ok(Some(done)) => {
-                    if !is_kept(self.alloc, Some(done), calls) {
+                    if !self.is_kept(done, calls) {
                         return false;
                     }
                 }
@@ -172,8 +167,10 @@ impl Player for OverBytes {
 
     fn ask(&mut self, commands: &[Command], calls: &mut Vec<Reference>) -> bool {
         for command in commands {
-            let done = self.given(command);
-            if !is_kept(self.alloc, done, calls) {
+            let Some(done) = self.given(command) else {
+                return false;
+            };
+            if !self.is_kept(done, calls) {
                 return false;
             }
         }

@@ -16,6 +16,7 @@ ghost use Rattle.pg_node_state.specs.States.{names_of as names_known, kept_by};
 
 use crate::node::Node;
 use crate::node::wire::Wire;
+use bytes::BytesMut;
 use pg_group::GroupTable;
 use pg_message::Packet;
 use pg_node_state::{NodeConfig, NodeFault, NodeState, started};
@@ -82,6 +83,7 @@ impl<T: GroupTable + Drop> Node<T> {
             wires,
             piece,
             has_room: false,
+            buffer: BytesMut::new(alloc),
             alloc,
         })
     }

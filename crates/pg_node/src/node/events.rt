@@ -1,6 +1,6 @@
 //! The events of a node over bytes.
 
-ghost use Rattle.std.specs.Prelude.{◌≡◌, ◌<◌, ◌+◌, ◌^◌, ℕ, None, Some, Ok, Err};
+ghost use Rattle.std.specs.Prelude.{◌≡◌, ◌<◌, ◌+◌, ◌^◌, ℕ, true, false, None, Some, Ok, Err};
 ghost use Rattle.std.specs.Prelude.{IfOk, IfErr, IfSome, OnOk, OnErr, length};
 ghost use Rattle.pg_message.specs.Members.{IsShort};
 
@@ -8,19 +8,21 @@ use crate::node::Node;
 use crate::node::wires::{make_room, send_all};
 use pg_group::GroupTable;
 use pg_message::Packet;
-use pg_node_state::{Done, Framed, NodeFault};
+use pg_node_state::{Done, Framed, Goes, NodeFault};
 use pg_step::{Command, OpId, Refusal};
 use std::alloc::AllocError;
+use std::mem;
 
 impl<T: GroupTable + Drop> Node<T> {
     ghost use Rattle.pg_opens.specs.Places.{name_at};
     ghost use Rattle.pg_step.specs.Step.{Issue, Retry, step_act, step_take};
     ghost use Rattle.pg_node.specs.Bytes.{ReadsNext, next_packet, marked, passed, closed};
     ghost use Rattle.pg_node.specs.Nodes.{held_by, links_of, has_lost, read_next, step_link};
-    ghost use Rattle.pg_node.specs.Nodes.{taken_of, TakesNext, ComesInRoom, sent_out, step_lose};
+    ghost use Rattle.pg_node.specs.Nodes.{buffer_of, taken_of, TakesNext, ComesInRoom, sent_out, step_lose};
     ghost use Rattle.pg_sends.specs.Dones.{FramedDone};
     ghost use Rattle.pg_sends.specs.Framed.{listed_of};
     ghost use Rattle.pg_sends.specs.Frames.{AreSmallFrames};
+    ghost use Rattle.pg_sends.specs.Going.{goes_out};
     ghost use Rattle.pg_node.specs.Links.{at_link};
     ghost use Rattle.pg_node_state.specs.Issued.{ports_of};
     ghost use Rattle.pg_sends.specs.Sendable.{AreSendable};
@@ -152,7 +154,7 @@ impl<T: GroupTable + Drop> Node<T> {
         ensures stays { Stays (held_by self.old) (held_by self.new) result }
     {
         make_room(&mut self.wires, &mut self.has_room)?;
-        match self.state.take_as(peer, packet) {
+        match self.state.take_as(&mut self.buffer, peer, packet) {
             Ok(done) => {
                 send_all(&mut self.wires, &mut self.has_room, &done.sends);
                 let wire = &mut self.wires[peer];
@@ -188,7 +190,7 @@ impl<T: GroupTable + Drop> Node<T> {
                 return Err(NodeFault::OutOfMemory);
             }
         }
-        match self.state.take_owned_as(peer, packet) {
+        match self.state.take_owned_as(&mut self.buffer, peer, packet) {
             Ok(done) => {
                 send_all(&mut self.wires, &mut self.has_room, &done.sends);
                 let wire = &mut self.wires[peer];
@@ -221,7 +223,7 @@ impl<T: GroupTable + Drop> Node<T> {
         ensures stays { Stays (held_by self.old) (held_by self.new) result }
     {
         make_room(&mut self.wires, &mut self.has_room)?;
-        match self.state.command_as(port, command) {
+        match self.state.command_as(&mut self.buffer, port, command) {
             Ok(done) => {
                 send_all(&mut self.wires, &mut self.has_room, &done.sends);
                 Ok(done)
@@ -247,7 +249,7 @@ impl<T: GroupTable + Drop> Node<T> {
         ensures stays { Stays (held_by self.old) (held_by self.new) result }
     {
         make_room(&mut self.wires, &mut self.has_room)?;
-        match self.state.retry_as(op) {
+        match self.state.retry_as(&mut self.buffer, op) {
             Ok(done) => {
                 send_all(&mut self.wires, &mut self.has_room, &done.sends);
                 Ok(done)
@@ -285,6 +287,26 @@ impl<T: GroupTable + Drop> Node<T> {
                 Ok(done)
             }
             Err(fault) => Err(fault),
+        }
+    }
+
+    /// Takes back what an event did, once nobody looks at it: the next event that sends writes its frame in the memory of
+    /// this one. Without it each such event takes a block of memory.
+    ///
+    /// Cost: no memory.
+    pub fn reuse(&mut self, done: Done<Framed>)
+        ensures held { held_by self.new ≡ held_by self.old }
+        ensures links { links_of self.new ≡ links_of self.old }
+        ensures frame { goes_out done.sends.goes ≡ true → buffer_of self.new ≡ done.sends.frame.items }
+        ensures none { goes_out done.sends.goes ≡ false → buffer_of self.new ≡ buffer_of self.old }
+    {
+        let sends = done.sends;
+        drop(done.began);
+        match sends.goes() {
+            Goes::Nobody => drop(sends),
+            Goes::One(_) | Goes::Marked(_, _) => {
+                drop(mem::replace(&mut self.buffer, sends.into_frame()));
+            }
         }
     }
 }

@@ -52,10 +52,13 @@ impl<T: GroupTable + Drop> Node<T> {
         ensures stays { Stays (held_by self.old) (held_by self.new) result }
     {
         make_room(&mut self.wires, &mut self.has_room)?;
-        match self
-            .state
-            .take_own_reply_as(peer, reply.stamp, reply.number, reply.said)
-        {
+        match self.state.take_own_reply_as(
+            &mut self.buffer,
+            peer,
+            reply.stamp,
+            reply.number,
+            reply.said,
+        ) {
             Ok(done) => {
                 send_all(&mut self.wires, &mut self.has_room, &done.sends);
                 let wire = &mut self.wires[peer];

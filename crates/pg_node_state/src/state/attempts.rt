@@ -15,6 +15,7 @@ ghost use Rattle.pg_term.specs.declared.term.Term.{Term};
 
 use crate::state::NodeState;
 use crate::state::first::{ask_first, end_alone};
+use bytes::BytesMut;
 use pg_group::GroupTable;
 use pg_marks::Asked;
 use pg_ports::{keep_reserved, reserve_answer};
@@ -38,6 +39,7 @@ impl<T: GroupTable + Drop> NodeState<T> {
     /// follows is done at once where it is the own one.
     pub(crate) fn attempt<S: Outgoing + Drop>(
         &mut self,
+        buffer: &mut BytesMut,
         clock: u32,
         op: OpId,
     ) -> Result<Done<S>, AllocError>
@@ -54,13 +56,13 @@ impl<T: GroupTable + Drop> NodeState<T> {
     {
         let first = self.opens.greatest();
         if first != 0 {
-            return self.ask_greatest(clock, op, first);
+            return self.ask_greatest(buffer, clock, op, first);
         }
         if !self.would_grant_to(op) {
             return Ok(self.deny_itself(clock, op));
         }
         if has_peer(&self.opens) {
-            self.ask_everyone(clock, op)
+            self.ask_everyone(buffer, clock, op)
         } else {
             self.change_alone(clock, op)
         }
@@ -69,6 +71,7 @@ impl<T: GroupTable + Drop> NodeState<T> {
     /// The greatest node is asked, which is a peer. `first`: its place, by the names.
     fn ask_greatest<S: Outgoing + Drop>(
         &mut self,
+        buffer: &mut BytesMut,
         clock: u32,
         op: OpId,
         first: usize,
@@ -88,7 +91,7 @@ impl<T: GroupTable + Drop> NodeState<T> {
         ensures stays { Stays self.old self.new result }
         ensures fits { IfOk result (λ done. AreSendable (names_of self.old) (S.listed done.sends)) }
     {
-        let done = first_asked(self.alloc, clock, &self.opens, op, first)?;
+        let done = first_asked(self.alloc, buffer, clock, &self.opens, op, first)?;
         let granted = self.would_grant_to(op);
         ask_first(&mut self.opens, op, first, granted);
         self.clock = clock;
@@ -121,6 +124,7 @@ impl<T: GroupTable + Drop> NodeState<T> {
     /// The own node is the greatest, and grants the lock: every live peer is asked.
     fn ask_everyone<S: Outgoing + Drop>(
         &mut self,
+        buffer: &mut BytesMut,
         clock: u32,
         op: OpId,
     ) -> Result<Done<S>, AllocError>
@@ -138,7 +142,7 @@ impl<T: GroupTable + Drop> NodeState<T> {
         ensures stays { Stays self.old self.new result }
         ensures fits { IfOk result (λ done. AreSendable (names_of self.old) (S.listed done.sends)) }
     {
-        let done = all_asked(self.alloc, clock, &self.opens, op)?;
+        let done = all_asked(self.alloc, buffer, clock, &self.opens, op)?;
         let number = self.opens.references() + 1;
         let name = waiting_under(&self.opens, op).name();
         let lock = own_under(&self.opens, number);

@@ -8,6 +8,7 @@ ghost use Rattle.pg_message.specs.Name.{is_name};
 ghost use Rattle.pg_step.specs.Commands.{change_of, look};
 
 use crate::state::NodeState;
+use bytes::BytesMut;
 use pg_group::GroupTable;
 use pg_ports::look;
 use pg_sends::{Done, Outgoing};
@@ -26,6 +27,7 @@ impl<T: GroupTable + Drop> NodeState<T> {
     /// Changes a group, for the next command of a port: it is answered at once by the look, or begun.
     pub(crate) fn change<S: Outgoing + Drop>(
         &mut self,
+        buffer: &mut BytesMut,
         clock: u32,
         port: u16,
         command: &Command,
@@ -42,7 +44,7 @@ impl<T: GroupTable + Drop> NodeState<T> {
     {
         match look(self.alloc, &self.table, command)? {
             Some(reply) => self.answer(clock, port, reply),
-            None => self.undertake(clock, port, command),
+            None => self.undertake(buffer, clock, port, command),
         }
     }
 }

@@ -4,6 +4,7 @@ ghost use Rattle.std.specs.Prelude.{◌≡◌, ◌<◌, ◌+◌, true, None, IfO
 ghost use Rattle.pg_message.specs.declared.packet.TheConstants.{MAX_STAMP};
 
 use crate::state::{NodeFault, NodeState};
+use bytes::BytesMut;
 use pg_group::GroupTable;
 use pg_message::MAX_STAMP;
 use pg_ports::query_reply;
@@ -48,12 +49,14 @@ impl<T: GroupTable + Drop> NodeState<T> {
         ensures stays { Stays self.old self.new result }
         ensures fits { IfOk result (λ done. AreSendable (names_of self.old) done.sends.items) }
     {
-        self.command_as(port, command)
+        self.command_as(&mut BytesMut::new(self.alloc), port, command)
     }
 
-    /// The same, in the form in which the caller sends: a list of packets, or a frame.
+    /// The same, in the form in which the caller sends: a list of packets, or a frame, which is written in the memory of
+    /// a buffer and takes it along. What the buffer held is lost.
     pub fn command_as<S: Outgoing + Drop>(
         &mut self,
+        buffer: &mut BytesMut,
         port: u16,
         command: &Command,
     ) -> Result<Done<S>, NodeFault>
@@ -67,12 +70,13 @@ impl<T: GroupTable + Drop> NodeState<T> {
         if self.clock >= MAX_STAMP {
             return Err(NodeFault::Refused(Refusal::ClockFull));
         }
-        Ok(self.issue(self.clock + 1, port, command)?)
+        Ok(self.issue(buffer, self.clock + 1, port, command)?)
     }
 
     /// Answers the next command of a port, where it is refused, and else carries it out.
     fn issue<S: Outgoing + Drop>(
         &mut self,
+        buffer: &mut BytesMut,
         clock: u32,
         port: u16,
         command: &Command,
@@ -87,13 +91,14 @@ impl<T: GroupTable + Drop> NodeState<T> {
     {
         match self.command_fault(command) {
             Some(fault) => self.answer(clock, port, Reply::Refused(fault.number())),
-            None => self.carry_out(clock, port, command),
+            None => self.carry_out(buffer, clock, port, command),
         }
     }
 
     /// Carries out the next command of a port, which is not refused.
     fn carry_out<S: Outgoing + Drop>(
         &mut self,
+        buffer: &mut BytesMut,
         clock: u32,
         port: u16,
         command: &Command,
@@ -108,10 +113,10 @@ impl<T: GroupTable + Drop> NodeState<T> {
         ensures fits { IfOk result (λ done. AreSendable (names_of self.old) (S.listed done.sends)) }
     {
         match command {
-            Command::Create(_) | Command::Delete(_) => self.change(clock, port, command),
-            Command::Join(_, _) | Command::Leave(_, _) => self.change(clock, port, command),
+            Command::Create(_) | Command::Delete(_) => self.change(buffer, clock, port, command),
+            Command::Join(_, _) | Command::Leave(_, _) => self.change(buffer, clock, port, command),
             Command::Make => self.make_process(clock, port),
-            Command::Finish(pid) => self.end_process(clock, port, pid),
+            Command::Finish(pid) => self.end_process(buffer, clock, port, pid),
             _ => self.read(clock, port, command),
         }
     }

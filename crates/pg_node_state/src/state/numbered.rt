@@ -4,6 +4,7 @@ ghost use Rattle.std.specs.Prelude.{◌≡◌, ◌≢◌, ◌<◌, ◌+◌, true
 ghost use Rattle.pg_message.specs.declared.message.Message.TheVariants as messages;
 
 use crate::state::{NodeFault, NodeState};
+use bytes::BytesMut;
 use pg_group::GroupTable;
 use pg_message::{MAX_STAMP, Said};
 use pg_sends::{Done, Outgoing};
@@ -44,12 +45,14 @@ impl<T: GroupTable + Drop> NodeState<T> {
         ensures stays { Stays self.old self.new result }
         ensures fits { IfOk result (λ done. AreSendable (names_of self.old) done.sends.items) }
     {
-        self.take_own_reply_as(peer, stamp, number, said)
+        self.take_own_reply_as(&mut BytesMut::new(self.alloc), peer, stamp, number, said)
     }
 
-    /// The same, in the form in which the caller sends: a list of packets, or a frame.
+    /// The same, in the form in which the caller sends: a list of packets, or a frame, which is written in the memory of
+    /// a buffer and takes it along. What the buffer held is lost.
     pub fn take_own_reply_as<S: Outgoing + Drop>(
         &mut self,
+        buffer: &mut BytesMut,
         peer: usize,
         stamp: u32,
         number: u32,
@@ -73,6 +76,6 @@ impl<T: GroupTable + Drop> NodeState<T> {
         if latest >= MAX_STAMP {
             return Err(NodeFault::Refused(Refusal::ClockFull));
         }
-        self.take_numbered(latest + 1, peer, number, said)
+        self.take_numbered(buffer, latest + 1, peer, number, said)
     }
 }

@@ -6,11 +6,11 @@ ghost use Rattle.pg_node_state.specs.declared.state.fault.NodeFault.TheVariants.
 ghost use Rattle.pg_step.specs.declared.refusal.Refusal.TheVariants.{NotAMessage};
 
 use crate::state::{NodeFault, NodeState};
+use bytes::BytesMut;
 use pg_ends::take_end;
 use pg_exchange::ExchangeFault;
 use pg_group::{GroupTable, Update};
-use pg_message::Said;
-use pg_sends::{Done, Outgoing, reply, verdict};
+use pg_sends::{Done, Outgoing, change_for_peer, forget_node, lock_for_peer};
 use pg_step::Refusal;
 use pg_term::{Atom, Items, Pid, Reference, Term};
 use std::alloc::AllocError;
@@ -30,6 +30,7 @@ impl<T: GroupTable + Drop> NodeState<T> {
     /// Answers a request for a lock.
     pub(crate) fn serve_lock<S: Outgoing + Drop>(
         &mut self,
+        buffer: &mut BytesMut,
         clock: u32,
         peer: usize,
         reference: &Reference,
@@ -46,23 +47,24 @@ impl<T: GroupTable + Drop> NodeState<T> {
         ensures answers { answers_of self.new ≡ answers_of self.old }
     {
         let formed = self.formation.formed();
-        let granted = self.locks.grants(formed, name);
-        let done = reply(self.alloc, clock, peer, reference, verdict(granted))?;
-        match self.locks.ask(formed, name, reference) {
-            Ok(_) => {
-                self.clock = clock;
-                Ok(done)
-            }
-            Err(fault) => {
-                drop(done);
-                Err(fault)
-            }
-        }
+        let done = lock_for_peer(
+            self.alloc,
+            buffer,
+            clock,
+            peer,
+            &mut self.locks,
+            formed,
+            reference,
+            name,
+        )?;
+        self.clock = clock;
+        Ok(done)
     }
 
     /// Applies an update for a peer.
     pub(crate) fn serve_update<S: Outgoing + Drop>(
         &mut self,
+        buffer: &mut BytesMut,
         clock: u32,
         peer: usize,
         reference: &Reference,
@@ -78,17 +80,18 @@ impl<T: GroupTable + Drop> NodeState<T> {
         ensures fits { IfOk result (λ done. AreSendable (names_of self.old) (S.listed done.sends)) }
         ensures answers { answers_of self.new ≡ answers_of self.old }
     {
-        let done = reply(self.alloc, clock, peer, reference, Said::Applied)?;
-        match self.table.apply(update, &self.ended) {
-            Ok(()) => {
-                self.clock = clock;
-                Ok(done)
-            }
-            Err(fault) => {
-                drop(done);
-                Err(fault)
-            }
-        }
+        let done = change_for_peer(
+            self.alloc,
+            buffer,
+            clock,
+            peer,
+            &mut self.table,
+            &self.ended,
+            reference,
+            update,
+        )?;
+        self.clock = clock;
+        Ok(done)
     }
 
     /// Frees a lock that a peer gives up.
@@ -232,10 +235,13 @@ impl<T: GroupTable + Drop> NodeState<T> {
         ensures fits { IfOk result (λ done. AreSendable (names_of self.old) (S.listed done.sends)) }
         ensures answers { answers_of self.new ≡ answers_of self.old }
     {
-        let name = self.opens.name(peer + 1);
-        self.ended.add_node(name)?;
-        self.table.drop_node(name);
-        self.locks.free_node(name);
+        forget_node(
+            &self.opens,
+            peer + 1,
+            &mut self.ended,
+            &mut self.table,
+            &mut self.locks,
+        )?;
         self.formation.forget(peer);
         self.opens.lose(peer + 1);
         self.clock = clock;

@@ -11,6 +11,7 @@ ghost use Rattle.pg_ports.specs.Ports.{counted_at};
 ghost use Rattle.pg_ports.specs.Ports.{port_commands, answers_in};
 
 use crate::state::NodeState;
+use bytes::BytesMut;
 use pg_ends::take_end;
 use pg_group::{Ended, GroupTable};
 use pg_ports::{Port, give, reserve_answer};
@@ -55,6 +56,7 @@ impl<T: GroupTable + Drop> NodeState<T> {
     /// end.
     pub(crate) fn end_process<S: Outgoing + Drop>(
         &mut self,
+        buffer: &mut BytesMut,
         clock: u32,
         port: u16,
         pid: &Pid,
@@ -66,7 +68,7 @@ impl<T: GroupTable + Drop> NodeState<T> {
         ensures stays { Stays self.old self.new result }
         ensures fits { IfOk result (λ done. AreSendable (names_of self.old) (S.listed done.sends)) }
     {
-        let sends = to_live(self.alloc, clock, Order::End(pid), &self.opens)?;
+        let sends = to_live(self.alloc, buffer, clock, Order::End(pid), &self.opens)?;
         end_at(&mut self.ports, &mut self.table, &mut self.ended, port, pid)?;
         self.clock = clock;
         Ok(Done {

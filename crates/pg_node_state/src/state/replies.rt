@@ -4,6 +4,7 @@ ghost use Rattle.std.specs.Prelude.{◌≡◌, ◌≢◌, ◌<◌, ◌+◌, true
 ghost use Rattle.pg_message.specs.declared.message.Said.{Said};
 
 use crate::state::{NodeFault, NodeState};
+use bytes::BytesMut;
 use pg_group::GroupTable;
 use pg_message::Said;
 use pg_multicall::Taken;
@@ -36,6 +37,7 @@ impl<T: GroupTable + Drop> NodeState<T> {
     /// Errors: `Refused` by `NotAMessage` where the reply is not of the kind that is gathered; else `OutOfMemory`.
     pub(crate) fn take_reply<S: Outgoing + Drop>(
         &mut self,
+        buffer: &mut BytesMut,
         clock: u32,
         peer: usize,
         reference: &Reference,
@@ -51,7 +53,7 @@ impl<T: GroupTable + Drop> NodeState<T> {
         ensures fits { IfOk result (λ done. AreSendable (names_of self.old) (S.listed done.sends)) }
     {
         match number_of(self.opens.name(0), reference) {
-            Some(number) => self.take_numbered(clock, peer, number, said),
+            Some(number) => self.take_numbered(buffer, clock, peer, number, said),
             None => Ok(self.note_odd(clock, Odd::Stranger)),
         }
     }
@@ -61,6 +63,7 @@ impl<T: GroupTable + Drop> NodeState<T> {
     /// Errors: those of `take_reply`.
     pub(crate) fn take_numbered<S: Outgoing + Drop>(
         &mut self,
+        buffer: &mut BytesMut,
         clock: u32,
         peer: usize,
         number: u32,
@@ -76,7 +79,7 @@ impl<T: GroupTable + Drop> NodeState<T> {
         ensures fits { IfOk result (λ done. AreSendable (names_of self.old) (S.listed done.sends)) }
     {
         self.look_for(number);
-        self.take_looked_for(clock, peer, number, said)
+        self.take_looked_for(buffer, clock, peer, number, said)
     }
 
     /// Looks for the command that has the reference of this number, so that what follows finds it at once.
@@ -93,6 +96,7 @@ impl<T: GroupTable + Drop> NodeState<T> {
     /// Takes the reply once its command was looked for.
     fn take_looked_for<S: Outgoing + Drop>(
         &mut self,
+        buffer: &mut BytesMut,
         clock: u32,
         peer: usize,
         number: u32,
@@ -111,7 +115,7 @@ impl<T: GroupTable + Drop> NodeState<T> {
         match self.opens.heard(number, peer + 1) {
             Taken::Stranger => Ok(self.note_odd(clock, Odd::Stranger)),
             Taken::Double if kind => Ok(self.note_odd(clock, Odd::Double)),
-            Taken::Counted if kind => match self.count(clock, number, peer, said) {
+            Taken::Counted if kind => match self.count(buffer, clock, number, peer, said) {
                 Ok(done) => Ok(done),
                 Err(AllocError) => Err(NodeFault::OutOfMemory),
             },
@@ -122,6 +126,7 @@ impl<T: GroupTable + Drop> NodeState<T> {
     /// Counts the reply of a peer, and goes on.
     fn count<S: Outgoing + Drop>(
         &mut self,
+        buffer: &mut BytesMut,
         clock: u32,
         number: u32,
         peer: usize,
@@ -137,8 +142,8 @@ impl<T: GroupTable + Drop> NodeState<T> {
         ensures fits { IfOk result (λ done. AreSendable (names_of self.old) (S.listed done.sends)) }
     {
         match self.opens.gathering(number) {
-            Gathering::Lock(op) => self.count_answer(clock, number, op, peer, said),
-            Gathering::Update(op, lock) => self.count_ok(clock, number, op, lock, peer),
+            Gathering::Lock(op) => self.count_answer(buffer, clock, number, op, peer, said),
+            Gathering::Update(op, lock) => self.count_ok(buffer, clock, number, op, lock, peer),
             Gathering::Nothing => unreachable!(),
         }
     }
@@ -146,6 +151,7 @@ impl<T: GroupTable + Drop> NodeState<T> {
     /// Counts the answer of a peer to a request for the lock, and goes on.
     fn count_answer<S: Outgoing + Drop>(
         &mut self,
+        buffer: &mut BytesMut,
         clock: u32,
         number: u32,
         op: OpId,
@@ -163,7 +169,7 @@ impl<T: GroupTable + Drop> NodeState<T> {
         ensures fits { IfOk result (λ done. AreSendable (names_of self.old) (S.listed done.sends)) }
     {
         self.opens.count_answer(number, peer + 1, is_granted(said));
-        match self.go_on(clock, number, op) {
+        match self.go_on(buffer, clock, number, op) {
             Ok(done) => Ok(done),
             Err(fault) => {
                 self.opens.take_back_answer(number, peer + 1);
@@ -175,6 +181,7 @@ impl<T: GroupTable + Drop> NodeState<T> {
     /// Counts the ok of a peer, and ends the command where all have come.
     fn count_ok<S: Outgoing + Drop>(
         &mut self,
+        buffer: &mut BytesMut,
         clock: u32,
         number: u32,
         op: OpId,
@@ -195,7 +202,7 @@ impl<T: GroupTable + Drop> NodeState<T> {
         if !self.opens.is_complete(number) {
             return Ok(self.wait(clock));
         }
-        match self.finish(clock, number, op, lock) {
+        match self.finish(buffer, clock, number, op, lock) {
             Ok(done) => Ok(done),
             Err(fault) => {
                 self.opens.take_back_ok(number, peer + 1);

@@ -4,6 +4,7 @@ ghost use Rattle.std.specs.Prelude.{◌≡◌, ◌<◌, IfOk};
 ghost use Rattle.pg_message.specs.declared.packet.TheConstants.{MAX_STAMP};
 
 use crate::state::{NodeFault, NodeState};
+use bytes::BytesMut;
 use pg_group::GroupTable;
 use pg_message::MAX_STAMP;
 use pg_opens::{Gathering, Stage};
@@ -37,11 +38,16 @@ impl<T: GroupTable + Drop> NodeState<T> {
         ensures stays { Stays self.old self.new result }
         ensures fits { IfOk result (λ done. AreSendable (names_of self.old) done.sends.items) }
     {
-        self.retry_as(op)
+        self.retry_as(&mut BytesMut::new(self.alloc), op)
     }
 
-    /// The same, in the form in which the caller sends: a list of packets, or a frame.
-    pub fn retry_as<S: Outgoing + Drop>(&mut self, op: OpId) -> Result<Done<S>, NodeFault>
+    /// The same, in the form in which the caller sends: a list of packets, or a frame, which is written in the memory of
+    /// a buffer and takes it along. What the buffer held is lost.
+    pub fn retry_as<S: Outgoing + Drop>(
+        &mut self,
+        buffer: &mut BytesMut,
+        op: OpId,
+    ) -> Result<Done<S>, NodeFault>
         requires place { op.port < ports_of self.old }
         ensures event { Comes (names_of self.old)
             (step_act (nodes_of self.old) (ports_of self.old) (Retry op) (state_of self.old))
@@ -55,7 +61,7 @@ impl<T: GroupTable + Drop> NodeState<T> {
         if self.clock >= MAX_STAMP {
             return Err(NodeFault::Refused(Refusal::ClockFull));
         }
-        match self.try_again(self.clock + 1, op) {
+        match self.try_again(buffer, self.clock + 1, op) {
             Ok(done) => Ok(done),
             Err(AllocError) => Err(NodeFault::OutOfMemory),
         }
@@ -75,7 +81,12 @@ impl<T: GroupTable + Drop> NodeState<T> {
     }
 
     /// What a retry of a command leads to.
-    fn try_again<S: Outgoing + Drop>(&mut self, clock: u32, op: OpId) -> Result<Done<S>, AllocError>
+    fn try_again<S: Outgoing + Drop>(
+        &mut self,
+        buffer: &mut BytesMut,
+        clock: u32,
+        op: OpId,
+    ) -> Result<Done<S>, AllocError>
         requires now { IsNow self.old.clock clock }
         ensures happens { IfOk result (λ done. Happens (names_of self.old) (at_clock clock
             (tried_again ((kept_by self.old).stages op) (live_of self.old) op (kept_by self.old)))
@@ -85,15 +96,16 @@ impl<T: GroupTable + Drop> NodeState<T> {
     {
         match self.opens.stage(op) {
             Stage::Closed => Ok(self.wait(clock)),
-            Stage::Waiting => self.attempt(clock, op),
-            Stage::Asking(number) => self.go_on_asking(clock, number),
-            Stage::Changing(number) => self.go_on_changing(clock, number),
+            Stage::Waiting => self.attempt(buffer, clock, op),
+            Stage::Asking(number) => self.go_on_asking(buffer, clock, number),
+            Stage::Changing(number) => self.go_on_changing(buffer, clock, number),
         }
     }
 
     /// What follows for the request for the lock under the reference of this number.
     fn go_on_asking<S: Outgoing + Drop>(
         &mut self,
+        buffer: &mut BytesMut,
         clock: u32,
         number: u32,
     ) -> Result<Done<S>, AllocError>
@@ -105,7 +117,7 @@ impl<T: GroupTable + Drop> NodeState<T> {
         ensures fits { IfOk result (λ done. AreSendable (names_of self.old) (S.listed done.sends)) }
     {
         match self.opens.gathering(number) {
-            Gathering::Lock(op) => self.go_on(clock, number, op),
+            Gathering::Lock(op) => self.go_on(buffer, clock, number, op),
             Gathering::Update(_, _) => Ok(self.wait(clock)),
             Gathering::Nothing => Ok(self.wait(clock)),
         }
@@ -114,6 +126,7 @@ impl<T: GroupTable + Drop> NodeState<T> {
     /// What follows for the update under the reference of this number.
     fn go_on_changing<S: Outgoing + Drop>(
         &mut self,
+        buffer: &mut BytesMut,
         clock: u32,
         number: u32,
     ) -> Result<Done<S>, AllocError>
@@ -127,7 +140,7 @@ impl<T: GroupTable + Drop> NodeState<T> {
         match self.opens.gathering(number) {
             Gathering::Update(op, lock) => {
                 if self.opens.is_complete(number) {
-                    self.finish(clock, number, op, lock)
+                    self.finish(buffer, clock, number, op, lock)
                 } else {
                     Ok(self.wait(clock))
                 }

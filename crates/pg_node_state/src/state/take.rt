@@ -5,6 +5,7 @@ ghost use Rattle.pg_message.specs.Members.{IsShort, HasFewMembers};
 ghost use Rattle.pg_message.specs.declared.packet.TheConstants.{MAX_STAMP};
 
 use crate::state::{NodeFault, NodeState};
+use bytes::BytesMut;
 use pg_group::GroupTable;
 use pg_message::{MAX_STAMP, Message, Packet, Request};
 use pg_sends::{Done, Outgoing};
@@ -41,12 +42,14 @@ impl<T: GroupTable + Drop> NodeState<T> {
         ensures stays { Stays self.old self.new result }
         ensures fits { IfOk result (λ done. AreSendable (names_of self.old) done.sends.items) }
     {
-        self.take_as(peer, packet)
+        self.take_as(&mut BytesMut::new(self.alloc), peer, packet)
     }
 
-    /// The same, in the form in which the caller sends: a list of packets, or a frame.
+    /// The same, in the form in which the caller sends: a list of packets, or a frame, which is written in the memory of
+    /// a buffer and takes it along. What the buffer held is lost.
     pub fn take_as<S: Outgoing + Drop>(
         &mut self,
+        buffer: &mut BytesMut,
         peer: usize,
         packet: &Packet,
     ) -> Result<Done<S>, NodeFault>
@@ -70,10 +73,16 @@ impl<T: GroupTable + Drop> NodeState<T> {
         let clock = latest + 1;
         match &packet.message {
             Message::Call(reference, request) => match request {
-                Request::SetLock(name) => Ok(self.serve_lock(clock, peer, reference, name)?),
-                Request::Change(update) => Ok(self.serve_update(clock, peer, reference, update)?),
+                Request::SetLock(name) => Ok(self.serve_lock(
+                    buffer, clock, peer, reference, name,
+                )?),
+                Request::Change(update) => Ok(self.serve_update(
+                    buffer, clock, peer, reference, update,
+                )?),
             },
-            Message::Reply(reference, said) => self.take_reply(clock, peer, reference, *said),
+            Message::Reply(reference, said) => self.take_reply(
+                buffer, clock, peer, reference, *said,
+            ),
             Message::DelLock(name, reference) => Ok(self.free_lock(clock, reference, name)),
             Message::Exchange(node, groups) => {
                 self.take_groups(clock, peer, node, groups.as_slice())
@@ -99,12 +108,14 @@ impl<T: GroupTable + Drop> NodeState<T> {
         ensures stays { Stays self.old self.new result }
         ensures fits { IfOk result (λ done. AreSendable (names_of self.old) done.sends.items) }
     {
-        self.take_owned_as(peer, packet)
+        self.take_owned_as(&mut BytesMut::new(self.alloc), peer, packet)
     }
 
-    /// The same, in the form in which the caller sends: a list of packets, or a frame.
+    /// The same, in the form in which the caller sends: a list of packets, or a frame, which is written in the memory of
+    /// a buffer and takes it along. What the buffer held is lost.
     pub fn take_owned_as<S: Outgoing + Drop>(
         &mut self,
+        buffer: &mut BytesMut,
         peer: usize,
         packet: Packet,
     ) -> Result<Done<S>, NodeFault>
@@ -127,7 +138,7 @@ impl<T: GroupTable + Drop> NodeState<T> {
             }
             message => {
                 let packet = Packet { stamp, message };
-                let taken = self.take_as(peer, &packet);
+                let taken = self.take_as(buffer, peer, &packet);
                 drop(packet);
                 taken
             }

@@ -13,6 +13,7 @@ ghost use Rattle.pg_step.specs.State.{Status};
 ghost use Rattle.pg_step.specs.State.Use.{Locking, Updating};
 
 use crate::state::NodeState;
+use bytes::BytesMut;
 use pg_group::GroupTable;
 use pg_marks::Asked;
 use pg_opens::{Outlook, steps_go_by_outlook};
@@ -40,6 +41,7 @@ impl<T: GroupTable + Drop> NodeState<T> {
     /// Gives an attempt up: frees the lock at each node that granted it. `number`: the one of its reference.
     pub(crate) fn stop_asking<S: Outgoing + Drop>(
         &mut self,
+        buffer: &mut BytesMut,
         clock: u32,
         number: u32,
     ) -> Result<Done<S>, AllocError>
@@ -52,7 +54,7 @@ impl<T: GroupTable + Drop> NodeState<T> {
         ensures stays { Stays self.old self.new result }
         ensures fits { IfOk result (λ done. AreSendable (names_of self.old) (S.listed done.sends)) }
     {
-        let done = freed(self.alloc, clock, &self.opens, number)?;
+        let done = freed(self.alloc, buffer, clock, &self.opens, number)?;
         let granted = self.opens.has_granted(number, 0);
         let name = update_under(&self.opens, number).name();
         let lock = own_under(&self.opens, number);
@@ -65,6 +67,7 @@ impl<T: GroupTable + Drop> NodeState<T> {
     /// Asks for the lock those that were not asked, the own node too. `number`: the one of its reference.
     pub(crate) fn ask_rest<S: Outgoing + Drop>(
         &mut self,
+        buffer: &mut BytesMut,
         clock: u32,
         number: u32,
     ) -> Result<Done<S>, AllocError>
@@ -77,7 +80,7 @@ impl<T: GroupTable + Drop> NodeState<T> {
         ensures stays { Stays self.old self.new result }
         ensures fits { IfOk result (λ done. AreSendable (names_of self.old) (S.listed done.sends)) }
     {
-        let done = asked(self.alloc, clock, &self.opens, number)?;
+        let done = asked(self.alloc, buffer, clock, &self.opens, number)?;
         let granted = self.would_grant(number);
         let asks = self.opens.is_asked_by(number, Asked::All, 0) & granted;
         let name = update_under(&self.opens, number).name();
@@ -99,6 +102,7 @@ impl<T: GroupTable + Drop> NodeState<T> {
     /// table, and goes to every live peer. `number`: the one of the reference of its lock.
     pub(crate) fn begin<S: Outgoing + Drop>(
         &mut self,
+        buffer: &mut BytesMut,
         clock: u32,
         number: u32,
         op: OpId,
@@ -112,7 +116,7 @@ impl<T: GroupTable + Drop> NodeState<T> {
         ensures stays { Stays self.old self.new result }
         ensures fits { IfOk result (λ done. AreSendable (names_of self.old) (S.listed done.sends)) }
     {
-        let done = begun(self.alloc, clock, &self.opens, number, op)?;
+        let done = begun(self.alloc, buffer, clock, &self.opens, number, op)?;
         let granted = self.would_grant(number);
         let asks = self.opens.is_asked_by(number, Asked::All, 0) & granted;
         let update = update_under(&self.opens, number);
@@ -142,6 +146,7 @@ impl<T: GroupTable + Drop> NodeState<T> {
     /// the reference of its update; `lock`: the one of its lock.
     pub(crate) fn finish<S: Outgoing + Drop>(
         &mut self,
+        buffer: &mut BytesMut,
         clock: u32,
         number: u32,
         op: OpId,
@@ -157,7 +162,7 @@ impl<T: GroupTable + Drop> NodeState<T> {
         ensures fits { IfOk result (λ done. AreSendable (names_of self.old) (S.listed done.sends)) }
     {
         reserve_answer(&mut self.ports, op.port)?;
-        let done = ended(self.alloc, clock, &self.opens, number, lock)?;
+        let done = ended(self.alloc, buffer, clock, &self.opens, number, lock)?;
         keep_reserved(&mut self.ports, op, Reply::Ok);
         let name = update_under(&self.opens, number).name();
         let held = own_under(&self.opens, lock);
@@ -170,6 +175,7 @@ impl<T: GroupTable + Drop> NodeState<T> {
     /// Begins the update of a command that all have granted, at a node of which no peer counts: the command ends at once.
     fn begin_alone<S: Outgoing + Drop>(
         &mut self,
+        buffer: &mut BytesMut,
         clock: u32,
         number: u32,
         op: OpId,
@@ -185,7 +191,7 @@ impl<T: GroupTable + Drop> NodeState<T> {
         ensures fits { IfOk result (λ done. AreSendable (names_of self.old) (S.listed done.sends)) }
     {
         reserve_answer(&mut self.ports, op.port)?;
-        let done = begun(self.alloc, clock, &self.opens, number, op)?;
+        let done = begun(self.alloc, buffer, clock, &self.opens, number, op)?;
         let granted = self.would_grant(number);
         let changing = self.opens.references() + 1;
         let update = update_under(&self.opens, number);
@@ -211,6 +217,7 @@ impl<T: GroupTable + Drop> NodeState<T> {
     /// What follows once the answers to a request for the lock are in. `number`: the one of its reference.
     pub(crate) fn go_on<S: Outgoing + Drop>(
         &mut self,
+        buffer: &mut BytesMut,
         clock: u32,
         number: u32,
         op: OpId,
@@ -227,13 +234,13 @@ impl<T: GroupTable + Drop> NodeState<T> {
         let granted = self.would_grant(number);
         match self.opens.outlook(number, granted) {
             Outlook::Wait => Ok(self.wait(clock)),
-            Outlook::GiveUp => self.stop_asking(clock, number),
-            Outlook::Ask => self.ask_rest(clock, number),
+            Outlook::GiveUp => self.stop_asking(buffer, clock, number),
+            Outlook::Ask => self.ask_rest(buffer, clock, number),
             Outlook::Begin => {
                 if has_peer(&self.opens) {
-                    self.begin(clock, number, op)
+                    self.begin(buffer, clock, number, op)
                 } else {
-                    self.begin_alone(clock, number, op)
+                    self.begin_alone(buffer, clock, number, op)
                 }
             }
         }

@@ -8,14 +8,12 @@ ghost use Rattle.pg_step.specs.Commands.{change_of};
 
 use crate::state::NodeState;
 use crate::state::fresh::prepared;
+use bytes::BytesMut;
 use pg_group::GroupTable;
 use pg_ports::{count, next_op, uncount};
-use pg_sends::{Done, Outgoing};
+use pg_sends::{Done, Outgoing, is_busy};
 use pg_step::{Command, CommandFault, Reply};
 use std::alloc::AllocError;
-
-/// How many commands are open at most at one node.
-const OPEN_LIMIT: usize = 256;
 
 impl<T: GroupTable + Drop> NodeState<T> {
     ghost use Rattle.pg_step.specs.Attempts.{attempt};
@@ -32,6 +30,7 @@ impl<T: GroupTable + Drop> NodeState<T> {
     /// commands are open as can be, else it is opened, and its first attempt begins.
     pub(crate) fn undertake<S: Outgoing + Drop>(
         &mut self,
+        buffer: &mut BytesMut,
         clock: u32,
         port: u16,
         command: &Command,
@@ -46,15 +45,16 @@ impl<T: GroupTable + Drop> NodeState<T> {
         ensures stays { Stays self.old self.new result }
         ensures fits { IfOk result (λ done. AreSendable (names_of self.old) (S.listed done.sends)) }
     {
-        if self.opens.open_count() >= OPEN_LIMIT {
+        if is_busy(&self.opens) {
             return self.answer(clock, port, Reply::Refused(CommandFault::Busy.number()));
         }
-        self.open(clock, port, command)
+        self.open(buffer, clock, port, command)
     }
 
     /// Opens the next command of a port, and begins its first attempt.
     fn open<S: Outgoing + Drop>(
         &mut self,
+        buffer: &mut BytesMut,
         clock: u32,
         port: u16,
         command: &Command,
@@ -75,7 +75,7 @@ impl<T: GroupTable + Drop> NodeState<T> {
         count(&mut self.ports, port);
         self.opens.add(op, update);
         self.clock = clock;
-        match self.attempt(clock, op) {
+        match self.attempt(buffer, clock, op) {
             Ok(done) => Ok(done),
             Err(fault) => {
                 self.opens.take_back(op);

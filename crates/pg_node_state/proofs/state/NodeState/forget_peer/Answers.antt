@@ -1,7 +1,4 @@
 use Rattle.std.proofs.Common.{◌∙◌, ◌+◌, ◌*◌, ◌^◌, ◌≤◌, Bool, List, length, ap, sym, arith, subst}
-use Rattle.pg_group.specs.Ended.{ended_of, ended_with}
-use Rattle.pg_group.specs.Table.{without_node}
-use Rattle.pg_lock.specs.Locks.{locks_of, without_node as locks_without}
 use Rattle.pg_ends.specs.Processes.{made_of}
 use Rattle.pg_opens.specs.Places.{name_at}
 use Rattle.pg_opens.specs.Opens as opens
@@ -33,8 +30,8 @@ invariant_of-self-2 g c =
       made = subst (λ n. n ≤ 2 * c.args.clock) turned.references (omega (arith, old.made, c.requires.now.later));
       counted = λ port. omega (arith, old.counted port, c.requires.now.later);
       given = given_same turned.uses turned.stages (given_without name old.given);
-      few = few_without_node (2 ^ 32 + old.clock) (2 ^ 32 + c.args.clock) (contents old.table) (contents c.drop_node.new.self) c.name-name.result.now
-          (omega (arith, c.requires.now.later)) old.few c.drop_node.ensures;
+      few = few_without_node (2 ^ 32 + old.clock) (2 ^ 32 + c.args.clock) (contents old.table) (contents c.forget_node.new.table) name
+          (omega (arith, c.requires.now.later)) old.few c.in_ok-forget_node.ensures.table;
     }
 
 pub returns-clause-state : goal.returns-clause-state
@@ -43,9 +40,9 @@ returns-clause-state g c =
     let contents = g.T.GroupTable.contents in
     let names : List Node = names_of old in
     let turned = c.lose.ensures.turned (kept_by old) (shows old) in
-    let table = c.drop_node.ensures ∙ ap (without_node (contents old.table)) c.name-name.ensures in
-    let ended = c.in_ok-add_node.ensures.ok ∙ ap (ended_with (ended_of old.ended)) c.name-name.ensures in
-    let locks = c.free_node.ensures ∙ ap (locks_without (locks_of old.locks)) c.name-name.ensures in
+    let table = c.in_ok-forget_node.ensures.table in
+    let ended = c.in_ok-forget_node.ensures.ended in
+    let locks = c.in_ok-forget_node.ensures.locks in
     let merged = ap (λ (ns : List Node). merged_in ns c.forget.new.self) c.lose.ensures.nodes ∙ (ap (merged_in names) c.forget.ensures ∙ merged_set names old.formation c.args.peer old.opens.apart old.peers c.requires.place) in
     λ i. record {
       clock = c.args.clock;

@@ -4,15 +4,15 @@ use Rattle.pg_node_state.specs.States.{names_of}
 use Rattle.pg_node_state.proofs.Counts.{few_changed}
 use Rattle.pg_node_state.proofs.state.NodeState.serve_update.Goals as goal
 
-pub invariant_of-self-clause-few : goal.invariant_of-self-clause-few
-invariant_of-self-clause-few g c =
+pub invariant_of-self-2-clause-few : goal.invariant_of-self-2-clause-few
+invariant_of-self-2-clause-few g c =
     let old = c.args.self.now in
     let contents = g.T.GroupTable.contents in
-    few_changed (2 ^ 32 + old.clock) (2 ^ 32 + c.args.clock) (contents old.table) (contents c.apply.new.self) c.args.update.now (ended_of old.ended)
-    (omega (arith, c.requires.now.later)) old.few c.in-Ok.ensures.ok
+    few_changed (2 ^ 32 + old.clock) (2 ^ 32 + c.args.clock) (contents old.table) (contents c.change_for_peer.new.table) c.args.update.now (ended_of old.ended)
+    (omega (arith, c.requires.now.later)) old.few c.in_ok-done.ensures.table
 
-pub returns-in-Ok-clause-told : goal.returns-in-Ok-clause-told
-returns-in-Ok-clause-told g c = record {
+pub returns-clause-told : goal.returns-clause-told
+returns-clause-told g c = record {
   sends = c.in_ok-done.ensures.sends (names_of c.args.self.now);
   began = c.in_ok-done.ensures.began;
   odd = c.in_ok-done.ensures.odd;

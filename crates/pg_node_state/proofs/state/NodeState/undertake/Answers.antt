@@ -1,6 +1,5 @@
-use Rattle.std.proofs.Common.{◌≡◌, ◌≤◌, ◌<◌, ℕ, Bool, true, false, cond, nat_le, ap, sym, subst, arith}
+use Rattle.std.proofs.Common.{◌≡◌, ◌∙◌, Bool, true, false, cond, nat_le, ap, sym, subst}
 use Rattle.std.specs.Prelude.{IfOk}
-use Rattle.std.proofs.lemmas.Bool.Decides.{nat_tests}
 use Rattle.pg_step.specs.Attempts.{attempt}
 use Rattle.pg_step.specs.Commands.{OPEN_LIMIT, answer, open_command, refused}
 use Rattle.pg_step.specs.declared.answer.Reply.TheVariants.{Refused}
@@ -11,22 +10,16 @@ use Rattle.pg_node_state.specs.Issued.{op_issued}
 use Rattle.pg_node_state.specs.States.{names_of, live_of, kept_by, state_of, answers_of, Happens}
 use Rattle.pg_node_state.proofs.state.NodeState.undertake.Goals as goal
 
-is_at_limit : (n : ℕ) → OPEN_LIMIT ≤ n → nat_le OPEN_LIMIT n ≡ true
-is_at_limit n l = grind (arith, nat_tests)
-
-is_below_limit : (n : ℕ) → n < OPEN_LIMIT → nat_le OPEN_LIMIT n ≡ false
-is_below_limit n l = grind (arith, nat_tests)
-
-pub returns-then-open_count-ge-OPEN_LIMIT-clause-happens : goal.returns-then-open_count-ge-OPEN_LIMIT-clause-happens
-returns-then-open_count-ge-OPEN_LIMIT-clause-happens g c = λ update is.
+pub returns-then-is_busy-clause-happens : goal.returns-then-is_busy-clause-happens
+returns-then-is_busy-clause-happens g c = λ update is.
     let old = c.args.self.now in
-    let full : nat_le OPEN_LIMIT (kept_by old).opened ≡ true = is_at_limit (kept_by old).opened (omega (arith, c.open_count.ensures, c.if-open_count-ge-OPEN_LIMIT.true)) in
+    let full : nat_le OPEN_LIMIT (kept_by old).opened ≡ true = sym c.is_busy.ensures ∙ c.if-is_busy.true in
     subst (λ (b : Bool). IfOk c.answer.result (λ done. Happens (names_of old) (at_clock c.args.clock (op_issued c.args.port (λ op s. cond b (answer op (refused Busy) s) (and_then (open_command op update s) (attempt (live_of old) op update))) (kept_by old)))
     done (state_of c.answer.new.self) (answers_of old) (answers_of c.answer.new.self))) (sym full) (c.answer.ensures.happens (refused Busy) (ap Refused c.number.ensures))
 
 pub returns-clause-happens : goal.returns-clause-happens
 returns-clause-happens g c = λ update is.
     let old = c.args.self.now in
-    let room : nat_le OPEN_LIMIT (kept_by old).opened ≡ false = is_below_limit (kept_by old).opened (omega (arith, c.open_count.ensures, c.if-open_count-ge-OPEN_LIMIT.false)) in
+    let room : nat_le OPEN_LIMIT (kept_by old).opened ≡ false = sym c.is_busy.ensures ∙ c.if-is_busy.false in
     subst (λ (b : Bool). IfOk c.open.result (λ done. Happens (names_of old) (at_clock c.args.clock (op_issued c.args.port (λ op s. cond b (answer op (refused Busy) s) (and_then (open_command op update s) (attempt (live_of old) op update))) (kept_by old)))
     done (state_of c.open.new.self) (answers_of old) (answers_of c.open.new.self))) (sym room) (c.open.ensures.happens update is)

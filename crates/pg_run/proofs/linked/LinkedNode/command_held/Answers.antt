@@ -19,8 +19,8 @@ returns-in-Ok-clause-acted g c =
     let came = subst
     (λ (command : Command). ComesInRoom (names_of (held_by n)) (step_act (nodes_of (held_by n)) (ports_of (held_by n)) (Issue c.args.port command) (state_of (held_by n))) (Ok c.in-Ok.done)
     (state_of (held_by m)) (answers_of (held_by n)) (answers_of (held_by m))) c.get.ensures c.in-Ok.ensures.event in
-    action_acts g.L.Link.accepts g.I.Inlet.gives g.met.L.Link.rests g.met.I.Inlet.rests c.args.self.now c.keep.new.self c.command.new.self (Issue c.args.port c.args.command) _
-    came c.in-Ok.ensures.fits c.in-Ok.ensures.small c.in-Ok.ensures.sent c.command.ensures.stays.names c.command.ensures.stays.ports c.keep.ensures.node
+    action_acts g.L.Link.accepts g.I.Inlet.gives g.met.L.Link.rests g.met.I.Inlet.rests c.args.self.now c.keep.new.self c.command.new.self c.reuse.new.self (Issue c.args.port c.args.command) _
+    came c.in-Ok.ensures.fits c.in-Ok.ensures.small c.in-Ok.ensures.sent c.command.ensures.stays.names c.command.ensures.stays.ports c.keep.ensures.node c.reuse.ensures.held c.reuse.ensures.links
     (log_after _ _ _ _ c.keep.ensures.log c.reserve.ensures.items) c.keep.ensures.peers
 
 pub returns-in-Err-clause-acted : goal.returns-in-Err-clause-acted

@@ -13,8 +13,8 @@ returns-then-is_err-clause-acted g c =
 
 pub returns-in-Ok-clause-acted : goal.returns-in-Ok-clause-acted
 returns-in-Ok-clause-acted g c =
-    action_acts g.L.Link.accepts g.I.Inlet.gives g.met.L.Link.rests g.met.I.Inlet.rests c.args.self.now c.keep.new.self c.retry.new.self (Retry c.args.op) _
-    c.in-Ok.ensures.event c.in-Ok.ensures.fits c.in-Ok.ensures.small c.in-Ok.ensures.sent c.retry.ensures.stays.names c.retry.ensures.stays.ports c.keep.ensures.node
+    action_acts g.L.Link.accepts g.I.Inlet.gives g.met.L.Link.rests g.met.I.Inlet.rests c.args.self.now c.keep.new.self c.retry.new.self c.reuse.new.self (Retry c.args.op) _
+    c.in-Ok.ensures.event c.in-Ok.ensures.fits c.in-Ok.ensures.small c.in-Ok.ensures.sent c.retry.ensures.stays.names c.retry.ensures.stays.ports c.keep.ensures.node c.reuse.ensures.held c.reuse.ensures.links
     (log_after _ _ _ _ c.keep.ensures.log c.reserve.ensures.items) c.keep.ensures.peers
 
 pub returns-in-Err-clause-acted : goal.returns-in-Err-clause-acted

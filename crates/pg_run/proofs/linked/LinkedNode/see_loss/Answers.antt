@@ -12,8 +12,8 @@ returns-then-is_err-clause-acted g c =
 
 pub returns-in-Ok-clause-acted : goal.returns-in-Ok-clause-acted
 returns-in-Ok-clause-acted g c =
-    loss_acts g.L.Link.accepts g.I.Inlet.gives g.met.L.Link.rests g.met.I.Inlet.rests c.args.self.now c.keep.new.self c.see_loss.new.self c.args.peer c.args.last _
-    (omega (arith, c.requires.place, c.args.self.now.linked)) c.in-Ok.ensures.event c.in-Ok.ensures.closed c.see_loss.ensures.stays.names c.see_loss.ensures.stays.ports c.keep.ensures.node
+    loss_acts g.L.Link.accepts g.I.Inlet.gives g.met.L.Link.rests g.met.I.Inlet.rests c.args.self.now c.keep.new.self c.see_loss.new.self c.reuse.new.self c.args.peer c.args.last _
+    (omega (arith, c.requires.place, c.args.self.now.linked)) c.in-Ok.ensures.event c.in-Ok.ensures.closed c.see_loss.ensures.stays.names c.see_loss.ensures.stays.ports c.keep.ensures.node c.reuse.ensures.held c.reuse.ensures.links
     (log_after _ _ _ _ c.keep.ensures.log c.reserve.ensures.items) c.keep.ensures.peers
 
 pub returns-in-Err-clause-acted : goal.returns-in-Err-clause-acted

@@ -29,10 +29,10 @@ returns-in-Ok-Some-clause-took g c =
     let p = name_at (names_of (held_by n)) (c.args.peer + 1) in
     let took = took_packet (names_of (held_by n)) (nodes_of (held_by n)) p (links_of n c.args.peer) (state_of (held_by n)) (state_of (held_by m)) (answers_of (held_by n)) (answers_of (held_by m)) c.in-Ok-Some.done (subst (λ (o : Option FramedDone). TakesNext (names_of (held_by n)) (told_of_peer n c.args.peer) (Ok o) (state_of (held_by n)) (state_of (held_by m)) (answers_of (held_by n)) (answers_of (held_by m)))
     c.in-Ok-Some.field-0-is c.in-Ok-Some.ensures.event) in
-    take_acts g.L.Link.accepts g.I.Inlet.gives g.met.L.Link.rests g.met.I.Inlet.rests c.args.self.now c.keep.new.self m c.args.peer took.packet c.in-Ok-Some.done
+    take_acts g.L.Link.accepts g.I.Inlet.gives g.met.L.Link.rests g.met.I.Inlet.rests c.args.self.now c.keep.new.self m c.reuse.new.self c.args.peer took.packet c.in-Ok-Some.done
     (omega (arith, c.requires.place, c.args.self.now.linked)) took.next took.came
     (c.in-Ok-Some.ensures.fits c.in-Ok-Some.done (ap (λ o. Ok o) c.in-Ok-Some.field-0-is)) (c.in-Ok-Some.ensures.small c.in-Ok-Some.done (ap (λ o. Ok o) c.in-Ok-Some.field-0-is)) (c.in-Ok-Some.ensures.sent c.in-Ok-Some.done (ap (λ o. Ok o) c.in-Ok-Some.field-0-is)) c.take.ensures.stays.names c.take.ensures.stays.ports
-    c.keep.ensures.node (log_after _ _ _ _ c.keep.ensures.log c.reserve.ensures.items) c.keep.ensures.peers
+    c.keep.ensures.node c.reuse.ensures.held c.reuse.ensures.links (log_after _ _ _ _ c.keep.ensures.log c.reserve.ensures.items) c.keep.ensures.peers
 
 pub returns-in-Ok-None-clause-took : goal.returns-in-Ok-None-clause-took
 returns-in-Ok-None-clause-took g c =

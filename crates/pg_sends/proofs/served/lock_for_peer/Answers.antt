@@ -1,0 +1,14 @@
+use Rattle.std.proofs.Common.{ap, ◌∙◌, ◌+◌, List}
+use Rattle.pg_machine.specs.Clocked.{Stamped, stamped}
+use Rattle.pg_message.specs.declared.message.Message.{Message}
+use Rattle.pg_message.specs.declared.message.Message.TheVariants.{Reply}
+use Rattle.pg_message.specs.declared.message.Said.{Said}
+use Rattle.pg_opens.specs.Places.{name_at}
+use Rattle.pg_step.specs.Nodes.{Node, to_one}
+use Rattle.pg_step.specs.Peers.{verdict}
+use Rattle.pg_sends.proofs.served.lock_for_peer.Goals as goal
+
+pub returns-in-Ok-clause-sends : goal.returns-in-Ok-clause-sends
+returns-in-Ok-clause-sends g c = λ names.
+    let replied : Said → Node → List (Stamped Message) = λ s q. stamped c.args.clock (to_one (name_at names (c.args.peer + 1)) (Reply c.args.reference.now s) q) in
+    c.in_ok-done.ensures.sends names ∙ ap replied (c.verdict.ensures ∙ ap verdict c.grants-granted.ensures)
