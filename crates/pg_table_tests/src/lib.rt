@@ -1,4 +1,4 @@
-//! What is only run of tables of groups: groups, tables, queries, exchanges and ends.
+//! What is only run of tables of groups: updates, tables, members and queries.
 #![tactic(auto)]
 
 #[cfg(test)]
@@ -6,11 +6,7 @@ mod answers;
 #[cfg(test)]
 mod change;
 #[cfg(test)]
-mod ends;
-#[cfg(test)]
 mod examples;
-#[cfg(test)]
-mod exchanges;
 #[cfg(test)]
 mod groups;
 #[cfg(test)]

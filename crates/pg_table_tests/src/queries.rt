@@ -116,7 +116,7 @@ fn is_read<T: GroupTable>(
 }
 
 /// Whether these are the pids from one place up to another.
-pub fn is_range(listed: Items<Pid>, pids: &[Pid], (from, to): (usize, usize)) -> bool {
+fn is_range(listed: Items<Pid>, pids: &[Pid], (from, to): (usize, usize)) -> bool {
     let is_range = pids.get(from..to) == Some(listed.as_slice());
     drop(listed);
     is_range

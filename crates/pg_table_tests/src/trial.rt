@@ -1,9 +1,8 @@
 //! What a table of either kind is put to.
 
 use crate::examples::Example;
-use crate::exchanges::Forming;
 use crate::many::tables::Groups;
-use crate::{ends, examples, exchanges, histories, many, memory, queries};
+use crate::{examples, histories, many, memory, queries};
 use pg_group::{GroupTable, RowTable};
 use pg_index::IndexTable;
 use std::alloc::Global;
@@ -16,9 +15,6 @@ pub enum Trial {
     SameTables,
     Example(&'static Example),
     NamesInOrder,
-    /// The processes that a node has made, and up to which it makes more, which end.
-    Ends(u32, u32),
-    Forming(&'static Forming),
     ManyGroups(&'static Groups),
     ManyMembers,
     LongGroup,
@@ -44,8 +40,6 @@ fn put_to<T: GroupTable + Drop>(rt: &impl Abort, alloc: Global, table: &mut T, t
         Trial::SameTables => queries::compares(rt, alloc, table),
         Trial::Example(example) => examples::is_so(rt, alloc, table, example),
         Trial::NamesInOrder => queries::names_in_order(rt, alloc, table),
-        Trial::Ends(before, last) => ends::all_end(rt, alloc, table, before, last),
-        Trial::Forming(forming) => exchanges::forms(rt, alloc, table, forming),
         Trial::ManyGroups(groups) => many::tables::keeps_groups(rt, alloc, table, groups),
         Trial::ManyMembers => many::tables::keeps_members(rt, alloc, table),
         Trial::LongGroup => many::queries::lists_all(rt, alloc, table),

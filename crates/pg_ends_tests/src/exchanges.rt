@@ -1,11 +1,12 @@
 //! How a node forms. Each test passes wherever an allocation is refused: it looks at what the refusal left, and makes the call
 //! again.
 
-use crate::samples::{either, holds, pid, push, row_holds};
-use crate::trial::{Trial, on_both};
+use crate::pids::put;
+use crate::verdicts::holds;
 use How::*;
 use pg_exchange::{ExchangeFault, Formation, snapshot};
-use pg_group::{Ended, GroupTable};
+use pg_group::{Ended, GroupTable, RowTable};
+use pg_index::IndexTable;
 use pg_term::{Items, Pid, Term};
 use std::alloc::Global;
 use std::process::Abort;
@@ -26,37 +27,43 @@ pub type Turn = (How, usize, (u32, u32), bool);
 /// How many peers a node has, how often a pid is in each group that they tell, and how it forms.
 pub type Forming = (usize, u32, &'static [Turn]);
 
-/// A peer that is lost tells nothing more, and is not waited for.
-const LOST: Forming = (
-    2,
-    0,
-    &[
-        (IsLost, 1, (0, 0), false),
-        (IsLost, 1, (0, 0), false),
-        (IsLost, 0, (0, 0), true),
-    ],
-);
-
-/// An exchange takes the greater count of both.
-const ANNOUNCED: Forming = (
-    2,
-    2,
-    &[(Announces, 0, (7, 8), false), (Announces, 1, (7, 8), true)],
-);
-
-/// Each of two peers gives its groups: three that are absent, and then three more beside them.
-const GIVEN: Forming = (2, 2, &[(Gives, 0, (0, 3), false), (Gives, 1, (0, 6), true)]);
-
-const FORMINGS: &[Trial] = &[
-    Trial::Forming(&LOST),
-    Trial::Forming(&ANNOUNCED),
-    Trial::Forming(&GIVEN),
+const FORMINGS: &[Forming] = &[
+    // A peer that is lost tells nothing more, and is not waited for.
+    (
+        2,
+        0,
+        &[
+            (IsLost, 1, (0, 0), false),
+            (IsLost, 1, (0, 0), false),
+            (IsLost, 0, (0, 0), true),
+        ],
+    ),
+    // An exchange takes the greater count of both.
+    (
+        2,
+        2,
+        &[(Announces, 0, (7, 8), false), (Announces, 1, (7, 8), true)],
+    ),
+    // Each of two peers gives its groups: three that are absent, and then three more beside them.
+    (2, 2, &[(Gives, 0, (0, 3), false), (Gives, 1, (0, 6), true)]),
 ];
 
 #[test]
 fn nodes_form(rt: HostRuntime) {
-    on_both(&rt, rt.alloc(), FORMINGS);
-    holds(&rt, ExchangeFault::NotAMessage.number() == 12, "number");
+    all_form(&rt, rt.alloc(), FORMINGS);
+    holds(&rt, ExchangeFault::NotAMessage.number() == 12, "number", 12);
+}
+
+/// A node forms in each of these ways, whichever of the tables it has.
+pub fn all_form(rt: &impl Abort, alloc: Global, formings: &[Forming]) {
+    for forming in formings {
+        let mut rows = RowTable::new(alloc);
+        forms(rt, alloc, &mut rows, forming);
+        drop(rows);
+        let mut index = IndexTable::new(alloc);
+        forms(rt, alloc, &mut index, forming);
+        drop(index);
+    }
 }
 
 /// A node that forms, at which nobody has ended.
@@ -73,7 +80,7 @@ impl Node {
     fn told(&self, rt: &impl Abort, (from, to): (u32, u32)) -> Vec<(Term, Items<Pid>)> {
         let mut told = Vec::new(self.alloc);
         for number in from..to {
-            either(rt, told.reserve(1), told.reserve(1));
+            told.reserve(1).or(told.reserve(1)).expect(rt, "room");
             let group = (Term::Int(i64::from(number)), self.pids(rt, number));
             told.push(group).expect(rt, "room");
         }
@@ -83,7 +90,12 @@ impl Node {
     fn pids(&self, rt: &impl Abort, number: u32) -> Items<Pid> {
         let mut pids = Vec::new(self.alloc);
         for _ in 0..self.times {
-            push(rt, &mut pids, pid(rt, self.alloc, "a", number));
+            put(
+                rt,
+                self.alloc,
+                &mut pids,
+                ("a", number, number.saturating_add(1)),
+            );
         }
         Items::from_vec(pids)
     }
@@ -95,7 +107,7 @@ impl Node {
         table: &mut T,
         (how, peer, groups): (How, usize, (u32, u32)),
     ) -> Result<(), ExchangeFault> {
-        holds(rt, peer < self.formation.peers(), "peer");
+        holds(rt, peer < self.formation.peers(), "peer", peer);
         let told = self.told(rt, groups);
         match how {
             Gives => self.formation.take_owned(peer, told, table, &self.ended),
@@ -115,8 +127,8 @@ impl Node {
     /// Whether a table says what is told.
     fn is_said<T: GroupTable>(&self, rt: &impl Abort, table: &T, groups: (u32, u32)) -> bool {
         let told = self.told(rt, groups);
-        let first = snapshot(self.alloc, table);
-        let said = either(rt, first, snapshot(self.alloc, table));
+        let said = snapshot(self.alloc, table).or(snapshot(self.alloc, table));
+        let said = said.expect(rt, "what it says");
         let is_said = said.as_slice() == told.as_slice();
         drop(told);
         drop(said);
@@ -125,7 +137,7 @@ impl Node {
 }
 
 /// The node forms when the last of its peers is merged, and says no more than they told.
-pub fn forms<T: GroupTable>(
+fn forms<T: GroupTable>(
     rt: &impl Abort,
     alloc: Global,
     table: &mut T,
@@ -137,12 +149,12 @@ pub fn forms<T: GroupTable>(
         ended: Ended::new(alloc),
         times: *times,
     };
-    holds(rt, node.formation.peers() == *peers, "peers");
-    holds(rt, !node.formation.formed(), "not formed");
+    holds(rt, node.formation.peers() == *peers, "peers", *peers);
+    holds(rt, !node.formation.formed(), "not formed of", *peers);
     let mut before = (0, 0);
     for (place, turn) in turns.iter().enumerate() {
         take_turn(rt, table, &mut node, before, turn);
-        row_holds(rt, is_refused(rt, table, &mut node, turn), place);
+        holds(rt, is_refused(rt, table, &mut node, turn), "turn", place);
         before = turn.2;
     }
     drop(node);
@@ -157,13 +169,18 @@ fn take_turn<T: GroupTable>(
     (how, peer, groups, has_formed): &Turn,
 ) {
     if node.hear(rt, table, (*how, *peer, *groups)).is_err() {
-        holds(rt, node.is_said(rt, table, before), "as before");
-        holds(rt, !node.formation.formed(), "not formed");
+        holds(rt, node.is_said(rt, table, before), "as before", *peer);
+        holds(rt, !node.formation.formed(), "not formed by", *peer);
         node.hear(rt, table, (*how, *peer, *groups))
             .expect(rt, "again");
     }
-    holds(rt, node.is_said(rt, table, *groups), "told");
-    holds(rt, node.formation.formed() == *has_formed, "formed");
+    holds(rt, node.is_said(rt, table, *groups), "told by", *peer);
+    holds(
+        rt,
+        node.formation.formed() == *has_formed,
+        "formed by",
+        *peer,
+    );
 }
 
 /// Whether a peer that is merged, or lost, can't announce its groups, or give them.
@@ -179,13 +196,13 @@ fn is_refused<T: GroupTable>(rt: &impl Abort, table: &mut T, node: &mut Node, tu
 
 /// The formation of so many peers.
 pub fn formation(rt: &impl Abort, alloc: Global, peers: usize) -> Formation {
-    let first = Formation::new(alloc, peers);
-    either(rt, first, Formation::new(alloc, peers))
+    let formation = Formation::new(alloc, peers).or(Formation::new(alloc, peers));
+    formation.expect(rt, "a formation")
 }
 
 /// A peer is lost.
 pub fn forget(rt: &impl Abort, formation: &mut Formation, peer: usize) {
-    holds(rt, peer < formation.peers(), "peer");
+    holds(rt, peer < formation.peers(), "peer", peer);
     formation.forget(peer);
 }
 
@@ -207,7 +224,7 @@ fn same_peers_are_merged(rt: HostRuntime) {
         drop(one);
         drop(other);
         drop(of_three);
-        row_holds(&rt, same == (*is_same, false), lost.len());
+        holds(&rt, same == (*is_same, false), "lost", lost.len());
     }
 }
 
