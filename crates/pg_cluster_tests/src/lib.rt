@@ -35,6 +35,4 @@ mod setting;
 #[cfg(test)]
 mod told;
 #[cfg(test)]
-mod turns;
-#[cfg(test)]
 mod verdicts;

@@ -12,10 +12,6 @@ pub alone : (own : Node) (peers : List Node) → peers ≡ [] → IsDistinct sam
 unfolding IsDistinct
 alone own peers e = subst (λ (ns : List Node). IsDistinct same_atom (own ∷ ns)) (sym e) (tt, tt)
 
-pub two_apart : (a b : Node) (peers : List Node) → peers ≡ b ∷ [] → same_atom a b ≡ false → IsDistinct same_atom (a ∷ peers)
-unfolding IsDistinct
-two_apart a b peers e ab = subst (λ (ns : List Node). IsDistinct same_atom (a ∷ ns)) (sym e) ((ab, tt), (tt, tt))
-
 pub three_apart : (a b c : Node) (peers : List Node) → peers ≡ b ∷ c ∷ [] → same_atom a b ≡ false → same_atom a c ≡ false → same_atom b c ≡ false → IsDistinct same_atom (a ∷ peers)
 unfolding IsDistinct
 three_apart a b c peers e ab ac bc = subst (λ (ns : List Node). IsDistinct same_atom (a ∷ ns)) (sym e) ((ab, (ac, tt)), ((bc, tt), (tt, tt)))

@@ -1,4 +1,4 @@
-//! What is only run of a node: its commands, what its peers make of them, and nodes over bytes.
+//! What is only run of a node: its commands, and what its peers make of them.
 #![tactic(auto)]
 
 /// What is told of the value of a call, which is let go then, or else another thing.
@@ -17,11 +17,7 @@ macro_rules! with {
 }
 
 #[cfg(test)]
-mod bytes;
-#[cfg(test)]
 mod changes;
-#[cfg(test)]
-mod links;
 #[cfg(test)]
 mod memory;
 #[cfg(test)]

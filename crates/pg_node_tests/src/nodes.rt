@@ -72,8 +72,8 @@ pub fn either<V: Drop>(
     }
 }
 
-/// A node's name.
-pub fn atom(rt: &impl Abort, alloc: Global, text: &str) -> Atom {
+// A node's name.
+fn atom(rt: &impl Abort, alloc: Global, text: &str) -> Atom {
     match Atom::new(alloc, text) {
         Ok(atom) => atom,
         Err(_) => Atom::new(alloc, text).ok().expect(rt, "memory"),
@@ -135,8 +135,8 @@ fn node_of_three(
     begun(alloc, config)
 }
 
-/// A node with two peers, which is not formed.
-pub fn new_node(rt: &impl Abort, alloc: Global, who: Who) -> Result<State, AllocError> {
+// A node with two peers, which is not formed.
+fn new_node(rt: &impl Abort, alloc: Global, who: Who) -> Result<State, AllocError> {
     let (own, [one, two], _) = who.names();
     let own = atom(rt, alloc, own);
     let one = atom(rt, alloc, one);

@@ -30,8 +30,8 @@ pub fn command_of(alloc: Global, line: &str) -> Option<Command> {
     }
 }
 
-/// The body of the packet `{Stamp, Message}` of this text.
-pub fn body_of(alloc: Global, text: &str) -> Option<Vec<u8>> {
+// The body of the packet `{Stamp, Message}` of this text.
+fn body_of(alloc: Global, text: &str) -> Option<Vec<u8>> {
     with!(read_term(alloc, text), Ok term => encode(alloc, &term).ok(), else None)
 }
 

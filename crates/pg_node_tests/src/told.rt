@@ -106,8 +106,8 @@ fn taken(node: &mut State, peer: usize, packet: &Packet) -> Result<Done, NodeFau
     }
 }
 
-/// What an event did, which was not refused.
-pub fn told(done: Result<Done, NodeFault>) -> Result<Did, NodeFault> {
+// What an event did, which was not refused.
+fn told(done: Result<Done, NodeFault>) -> Result<Did, NodeFault> {
     let done = done?;
     let did = seen(&done);
     drop(done);

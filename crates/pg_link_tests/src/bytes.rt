@@ -1,11 +1,14 @@
 //! Nodes over bytes: what moves between two of them, and what damages a link.
 
 use crate::links::{Pair, link_to, lose, read, take, two_alone, two_of_three};
-use crate::nodes::Sight::{self, Clock, Formed, Group, Locked, Lost, Open};
-use crate::nodes::sees;
-use crate::texts::{body_of, command_of, has_answered};
+use crate::sights::Sight::{self, *};
+use crate::sights::sees;
 use crate::verdicts::holds;
 use Part::*;
+use pg_step::Command;
+use pg_term::Term;
+use pg_term_writer::encode;
+use pg_text::read_term;
 use std::alloc::Global;
 use std::process::Abort;
 
@@ -32,8 +35,6 @@ enum Part<'a> {
     Damaged(usize, bool),
     /// The first node is told to make the group.
     Create,
-    /// The first node has answered so at last.
-    Answered(&'a str),
     /// Bytes of the first node go out to its first peer.
     GoesOut,
     /// So many bytes wait at the first node, or at the second, to go to its first peer.
@@ -41,7 +42,7 @@ enum Part<'a> {
     /// The first node has put so often.
     Puts(u32),
     /// What is seen at the first node, or at the second.
-    Seen(bool, Sight<'a>),
+    Seen(bool, Sight),
 }
 
 /// A row, and others of what it leaves.
@@ -49,6 +50,18 @@ type Turn<'a> = &'a [Part<'a>];
 
 /// Bytes that are looked at, and the number of their fault.
 type Case<'a> = (u8, &'a [u8]);
+
+// The body of the packet `{Stamp, Message}` of this text.
+fn body_of(alloc: Global, text: &str) -> Option<Vec<u8>> {
+    match read_term(alloc, text) {
+        Ok(term) => {
+            let body = encode(alloc, &term).ok();
+            drop(term);
+            body
+        }
+        Err(_) => None,
+    }
+}
 
 // The number of the fault by which the frame of a packet is refused, if it is.
 fn feed_packet(alloc: Global, pair: &mut Pair, peer: usize, text: &str) -> Option<u8> {
@@ -64,8 +77,11 @@ fn feed_packet(alloc: Global, pair: &mut Pair, peer: usize, text: &str) -> Optio
     }
 }
 
-fn gives(alloc: Global, pair: &mut Pair, line: &str) -> bool {
-    with!(command_of(alloc, line), Some command => pair.is_given(&command), else false)
+fn creates(pair: &mut Pair) -> bool {
+    let command = Command::Create(Term::Int(7));
+    let is_given = pair.is_given(&command);
+    drop(command);
+    is_given
 }
 
 fn moves_often(pair: &mut Pair, ways: &[bool], max: usize, times: u32) -> bool {
@@ -91,12 +107,11 @@ fn is_part(alloc: Global, pair: &mut Pair, part: &Part<'_>, case: Case<'_>) -> b
         Part::Lose(peer, last, fault) => lose(&mut pair.one, *peer, *last) == *fault,
         Part::Heard(peer, text, fault) => feed_packet(alloc, pair, *peer, text) == *fault,
         Part::Damaged(peer, is) => link_to(&pair.one, *peer).1 == *is,
-        Part::Create => gives(alloc, pair, "create a 7"),
-        Part::Answered(line) => has_answered(alloc, pair.one.state(), line),
+        Part::Create => creates(pair),
         Part::GoesOut => pair.goes_out(),
         Part::Waits(is_first, len) => link_to(pair.node(*is_first), 0).0 == *len,
         Part::Puts(puts) => pair.puts() == *puts,
-        Part::Seen(is_first, sight) => sees(alloc, pair.node(*is_first).state(), *sight),
+        Part::Seen(is_first, sight) => sees(pair.node(*is_first).state(), *sight),
     }
 }
 
@@ -126,7 +141,7 @@ static AGREE: &[Turn<'static>] = &[
     &[Seen(false, Formed(true)), Seen(true, Group(false))],
     &[Seen(false, Group(false))],
     &[Create],
-    &[Settle(60), Answered("a 1 ok"), Seen(true, Group(true))],
+    &[Settle(60), Seen(true, Answered(1)), Seen(true, Group(true))],
     &[Seen(false, Group(true)), Seen(true, Locked(false))],
     &[Seen(false, Locked(false)), Waits(true, 0)],
     &[Waits(false, 0), Puts(120)],

@@ -1,19 +1,17 @@
 //! Two nodes over bytes, and rings between them.
 
 ghost use Rattle.std.proofs.Math.Nat.{le_refl};
-ghost use Rattle.std.specs.Prelude.{◌≡◌, ◌≤◌, ◌∷◌, [], false, IfOk};
-ghost use Rattle.pg_term.specs.Same.{same_atom};
+ghost use Rattle.std.specs.Prelude.{◌≤◌};
 ghost use Rattle.pg_ring.specs.MemRing.{Grows};
 ghost use Rattle.pg_ring.specs.MemRingLaws.{Grows-rests, Grows-composes, Grows-agrees};
 
-use crate::nodes::{Who, atom, new_node};
-use crate::told::told;
 use pg_index::IndexTable;
-use pg_node::{Node, NodeConfig, NodeFault, Outgoing};
+use pg_node::{Node, NodeFault, Outgoing};
 use pg_ring::{Link, MemRing};
+use pg_script::read_script;
 use pg_step::Command;
-use pg_term::Atom;
-use std::alloc::{AllocError, Global};
+use pg_world::starting_nodes;
+use std::alloc::Global;
 use std::process::Abort;
 
 /// A node over bytes.
@@ -203,37 +201,14 @@ impl Pair {
     }
 }
 
-fn one_peer(alloc: Global, peer: Atom) -> Result<Vec<Atom>, AllocError>
-    ensures { IfOk result (λ peers. peers.items ≡ peer ∷ []) }
-{
-    Ok(Vec::from_array(alloc, [peer])?)
-}
-
-// A node of one port with one peer, at time 0.
-fn linked_node(alloc: Global, own: Atom, peer: Atom) -> Result<Node<IndexTable>, NodeFault>
-    requires { same_atom own peer ≡ false }
-{
-    let peers = one_peer(alloc, peer)?;
-    let table = IndexTable::new(alloc);
-    let config = NodeConfig {
-        own,
-        peers,
-        made: 0,
-        ports: 1,
-    };
-    Node::new(alloc, config, table)
-}
-
-fn new_linked_node(rt: &impl Abort, alloc: Global, own: &str, peer: &str) -> Linked {
-    let own = atom(rt, alloc, own);
-    let peer = atom(rt, alloc, peer);
-    assert!(rt; own != peer);
-    linked_node(alloc, own, peer).ok().expect(rt, "memory")
-}
-
-fn over_bytes(rt: &impl Abort, alloc: Global, who: Who) -> Linked {
-    let state = new_node(rt, alloc, who).expect(rt, "memory");
-    Node::opened(alloc, state).ok().expect(rt, "memory")
+/// The nodes of these declarations, by their places, which have told each other nothing yet.
+pub fn nodes_of(rt: &impl Abort, alloc: Global, declared: &str) -> Vec<Linked> {
+    let script = read_script(alloc, declared).ok().expect(rt, "memory");
+    let nodes = starting_nodes(alloc, &script.config)
+        .ok()
+        .expect(rt, "memory");
+    drop(script);
+    nodes
 }
 
 fn new_ring(rt: &impl Abort, alloc: Global) -> MemRing {
@@ -269,17 +244,21 @@ fn linked(
     }
 }
 
-/// The nodes `a` and `b`, of which each is the other's only peer, and which have told each other nothing yet. This put of each moves
-/// nothing; each does by 0.
+/// The nodes `a` and `b`, of which each is the other's only peer. This put of each moves nothing; each does by 0.
 pub fn two_alone(rt: &impl Abort, alloc: Global, skipped: u32) -> Pair {
-    let one = new_linked_node(rt, alloc, "a", "b");
-    let other = new_linked_node(rt, alloc, "b", "a");
-    linked(rt, alloc, one, other, 0, skipped)
+    let mut nodes = nodes_of(rt, alloc, "node a\nnode b");
+    let b = nodes.pop().expect(rt, "b");
+    let a = nodes.pop().expect(rt, "a");
+    drop(nodes);
+    linked(rt, alloc, a, b, 0, skipped)
 }
 
-/// The nodes `a` and `c`, which have told each other nothing yet. The test plays `b`, the first peer of `a`.
+/// The nodes `a` and `c` of three. The test plays `b`, the first peer of `a`.
 pub fn two_of_three(rt: &impl Abort, alloc: Global) -> Pair {
-    let one = over_bytes(rt, alloc, Who::A);
-    let other = over_bytes(rt, alloc, Who::C);
-    linked(rt, alloc, one, other, 1, 0)
+    let mut nodes = nodes_of(rt, alloc, "node a\nnode b\nnode c");
+    let c = nodes.pop().expect(rt, "c");
+    drop(nodes.pop());
+    let a = nodes.pop().expect(rt, "a");
+    drop(nodes);
+    linked(rt, alloc, a, c, 1, 0)
 }
