@@ -1,4 +1,4 @@
-//! What is only run of worlds of nodes: examples as steps, random schedules, and the headline by a slow reading of it.
+//! What is only run of worlds of nodes: examples as steps, their prefixes, and random schedules, of which the headline is read slowly.
 #![tactic(auto)]
 
 #[cfg(test)]
@@ -11,7 +11,5 @@ mod prefixes;
 mod random;
 #[cfg(test)]
 mod schedules;
-#[cfg(test)]
-mod slow;
 #[cfg(test)]
 mod verdicts;

@@ -6,10 +6,11 @@ use crate::examples::{
     INITIAL_TABLES, JOIN_TWICE_LEAVE_ONCE, LOSS_DROPS_MEMBERS, LOSS_FREES_LOCK, LOSS_LEAVES_OUT,
     NEW_GREATEST, TWO_CREATORS,
 };
-use crate::schedules::{World, are_same_worlds, schedule_of, state_of};
+use crate::schedules::{are_same_worlds, schedule_of};
 use crate::verdicts::holds;
 use pg_lines::print_answer;
 use pg_node::NodeFault;
+use pg_slow_reading::{World, state_of};
 use pg_world::{Config, Step};
 use std::alloc::{AllocError, Global};
 use std::process::Abort;

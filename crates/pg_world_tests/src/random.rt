@@ -1,10 +1,10 @@
 //! Random schedules of worlds over bytes, cut at random. Whatever moved when, packets that cross whole lead to the same nodes.
 
-use crate::schedules::{Schedule, World, are_same, are_same_worlds, schedule_of, state_of};
-use crate::slow::{GROUPS, Scene, are_answered, first_pids, len_of, scene_of};
+use crate::schedules::{Schedule, are_same, are_same_worlds, first_pids, scene_of, schedule_of};
 use crate::verdicts::holds;
 use pg_node::NodeFault;
 use pg_random::Random;
+use pg_slow_reading::{GROUPS, Scene, World, are_answered, len_of, state_of};
 use pg_step::{Command, OpId};
 use pg_term::{Pid, Term};
 use pg_world::{Config, Effect, FrameStep, Step, Stepped, run, run_frames};

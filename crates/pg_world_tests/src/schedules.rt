@@ -1,15 +1,12 @@
 //! Schedules: how the nodes of a world start, and steps.
 
-use pg_index::IndexTable;
-use pg_node::NodeState;
 use pg_script::{Act, Script, ScriptLine, read_script};
+use pg_slow_reading::{Scene, State, World, state_of};
+use pg_step::Start;
+use pg_term::Pid;
 use pg_world::{Config, FrameStep, Step};
 use std::alloc::{AllocError, Global};
-
-/// A world over bytes, and a node of one.
-pub type World = pg_world::World<IndexTable>;
-
-pub type State = NodeState<IndexTable>;
+use std::process::Abort;
 
 /// A schedule.
 #[derive(Drop)]
@@ -79,14 +76,6 @@ pub fn schedule_of(alloc: Global, script: &str, rounds: usize) -> Option<Schedul
     }
 }
 
-/// The node at a place.
-pub fn state_of(world: &World, place: usize) -> Option<&State> {
-    match world.node(place) {
-        Some(node) => Some(node.state()),
-        None => None,
-    }
-}
-
 /// Whether both nodes are there, and are the same. It is asked a second time where memory was refused.
 pub fn are_same(one: Option<&State>, other: Option<&State>) -> bool {
     match (one, other) {
@@ -106,4 +95,39 @@ pub fn are_same_worlds(one: &World, other: &World, nodes: usize) -> bool {
         }
     }
     true
+}
+
+/// The first so many processes of each node.
+pub fn first_pids(rt: &impl Abort, alloc: Global, starts: &[Start], count: u32) -> Vec<Pid> {
+    let mut pids = Vec::new(alloc);
+    for start in starts {
+        for id in 1..count.saturating_add(1) {
+            let node = start.name.copy().expect(rt, "memory");
+            let (serial, creation) = (0, 1);
+            let pid = Pid {
+                node,
+                serial,
+                id,
+                creation,
+            };
+            pids.push(pid).ok().expect(rt, "memory");
+        }
+    }
+    pids
+}
+
+/// A world of a schedule, in which the test speaks of these processes.
+pub fn scene_of<'a>(
+    alloc: Global,
+    schedule: &'a Schedule,
+    world: &'a World,
+    pids: &'a [Pid],
+) -> Scene<'a> {
+    let starts = schedule.config.starts.as_slice();
+    Scene {
+        alloc,
+        world,
+        starts,
+        pids,
+    }
 }

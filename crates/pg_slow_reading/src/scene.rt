@@ -1,27 +1,39 @@
 //! The headline, read slowly off a world: what each node's table should be, by the history of each group.
 
-mod answered;
-mod held;
-mod kept;
-
-use crate::schedules::{Schedule, State, World, state_of};
-pub use answered::are_answered;
-use held::{Held, count_in};
-use kept::{LeftOut, lost_to};
+use crate::held::{Held, count_in};
+use crate::kept::{LeftOut, lost_to};
 use pg_group::{GroupTable, Scope};
+use pg_index::IndexTable;
+use pg_node::NodeState;
 use pg_step::Start;
 use pg_term::{Pid, Term};
 use pg_world::Entry;
 use std::alloc::{AllocError, Global};
-use std::process::Abort;
+
+/// A world over bytes, and a node of one.
+pub type World = pg_world::World<IndexTable>;
+
+pub type State = NodeState<IndexTable>;
+
+/// The node at a place.
+///
+/// Cost: no memory; O(1).
+pub fn state_of(world: &World, place: usize) -> Option<&State> {
+    match world.node(place) {
+        Some(node) => Some(node.state()),
+        None => None,
+    }
+}
 
 /// The history of a group: a slice, and one more behind it, where the last event began it.
 pub type History<'a> = (&'a [Entry], Option<&'a Entry>);
 
-/// The groups of the tests.
+/// The groups that tests speak of.
 pub const GROUPS: [i64; 4] = [1, 2, 3, 4];
 
 /// How many updates there are.
+///
+/// Cost: no memory; O(1).
 pub fn len_of(history: History<'_>) -> usize {
     match history.1 {
         Some(_) => history.0.len().saturating_add(1),
@@ -30,31 +42,12 @@ pub fn len_of(history: History<'_>) -> usize {
 }
 
 /// The update at a place.
-pub fn entry_at(history: History<'_>, place: usize) -> Option<&Entry> {
+pub(crate) fn entry_at(history: History<'_>, place: usize) -> Option<&Entry> {
     if place == history.0.len() {
         history.1
     } else {
         history.0.get(place)
     }
-}
-
-/// The first so many processes of each node.
-pub fn first_pids(rt: &impl Abort, alloc: Global, starts: &[Start], count: u32) -> Vec<Pid> {
-    let mut pids = Vec::new(alloc);
-    for start in starts {
-        for id in 1..count.saturating_add(1) {
-            let node = start.name.copy().expect(rt, "memory");
-            let (serial, creation) = (0, 1);
-            let pid = Pid {
-                node,
-                serial,
-                id,
-                creation,
-            };
-            pids.push(pid).ok().expect(rt, "memory");
-        }
-    }
-    pids
 }
 
 /// A world that is looked at.
@@ -64,24 +57,8 @@ pub struct Scene<'a> {
     pub world: &'a World,
     /// How its nodes began.
     pub starts: &'a [Start],
-    /// The processes that the test speaks of.
+    /// The processes that a test speaks of.
     pub pids: &'a [Pid],
-}
-
-/// A world of a schedule, in which the test speaks of these processes.
-pub fn scene_of<'a>(
-    alloc: Global,
-    schedule: &'a Schedule,
-    world: &'a World,
-    pids: &'a [Pid],
-) -> Scene<'a> {
-    let starts = schedule.config.starts.as_slice();
-    Scene {
-        alloc,
-        world,
-        starts,
-        pids,
-    }
 }
 
 /// What the table of a node should hold.
@@ -256,6 +233,8 @@ impl<'a> Scene<'a> {
     }
 
     /// Whether each live node has seen each loss.
+    ///
+    /// Cost: no memory; O(n²) in the nodes.
     pub fn all_saw(&self) -> bool {
         for place in 0..self.starts.len() {
             match self.left_at(place) {
@@ -266,7 +245,10 @@ impl<'a> Scene<'a> {
         true
     }
 
-    /// What does not hold of the headline, of some group at some node, or of what survives where nodes are lost.
+    /// What does not hold of the headline, of some group at some node, or of what survives where nodes are lost. `memory` where
+    /// that was refused.
+    ///
+    /// Cost: memory for lists of members; a node's table is made of each history as often as there are sets of lost nodes.
     pub fn fault(&self) -> Option<&'static str> {
         let none_pending = self.none_pending();
         match self.world.pending_ends() {

@@ -6,13 +6,13 @@ use pg_term::{Pid, Term};
 
 /// Whether a group is there, and how often a process is in it.
 #[derive(Clone, Copy)]
-pub struct Held {
+pub(crate) struct Held {
     pub is_there: bool,
     pub count: u64,
 }
 
 /// How often a process is in a list.
-pub fn count_in(pids: &[Pid], pid: &Pid) -> u64 {
+pub(crate) fn count_in(pids: &[Pid], pid: &Pid) -> u64 {
     let mut count = 0u64;
     for other in pids {
         if other == pid {
@@ -24,7 +24,7 @@ pub fn count_in(pids: &[Pid], pid: &Pid) -> u64 {
 
 impl Held {
     /// What all nodes begin with: the process is there as often as at the node where it is most often.
-    pub fn begun(starts: &[Start], name: &Term, pid: &Pid) -> Held {
+    pub(crate) fn begun(starts: &[Start], name: &Term, pid: &Pid) -> Held {
         let mut held = Held {
             is_there: false,
             count: 0,
@@ -41,7 +41,7 @@ impl Held {
     }
 
     /// Changes it as an update does.
-    pub fn apply(&mut self, update: &Update, pid: &Pid) {
+    pub(crate) fn apply(&mut self, update: &Update, pid: &Pid) {
         match update {
             Update::Create(_) => self.is_there = true,
             Update::Delete(_) => {

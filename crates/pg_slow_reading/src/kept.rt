@@ -1,14 +1,14 @@
 //! Which updates of a history a node has applied.
 
-use super::{Held, History, Scene, entry_at, len_of};
-use crate::schedules::{State, state_of};
+use crate::held::Held;
+use crate::scene::{History, Scene, State, entry_at, len_of, state_of};
 use pg_step::Answer;
 use pg_term::{Pid, Reference};
 use pg_world::Entry;
 
 /// What a node leaves out of a history.
 #[derive(Clone, Copy)]
-pub struct LeftOut {
+pub(crate) struct LeftOut {
     /// Of the nodes at these places, a bit for each, the one update that is not answered.
     pub of_lost: u32,
     /// The last update.
@@ -32,7 +32,7 @@ fn bit_of(place: usize) -> u32 {
 }
 
 /// The places of the nodes whose loss the node at a place saw, a bit for each.
-pub fn lost_to(place: usize, node: &State) -> u32 {
+pub(crate) fn lost_to(place: usize, node: &State) -> u32 {
     let mut seen = 0;
     for peer in 0..node.peer_count() {
         if node.is_lost(peer) {
@@ -49,7 +49,7 @@ pub fn lost_to(place: usize, node: &State) -> u32 {
 
 impl Scene<'_> {
     /// The places of the nodes that are lost, a bit for each.
-    pub fn lost(&self) -> u32 {
+    pub(crate) fn lost(&self) -> u32 {
         let mut lost = 0;
         for place in 0..self.starts.len() {
             if self.world.is_lost(place) {
@@ -60,7 +60,7 @@ impl Scene<'_> {
     }
 
     /// Whether a lock is held for one of these nodes.
-    pub fn is_of_lost(&self, holder: Option<&Reference>, lost: u32) -> bool {
+    pub(crate) fn is_of_lost(&self, holder: Option<&Reference>, lost: u32) -> bool {
         let Some(holder) = holder else {
             return false;
         };
@@ -92,7 +92,7 @@ impl Scene<'_> {
     }
 
     /// How many updates of a history are left, if just one is left out of each of the nodes.
-    pub fn kept(&self, history: History<'_>, out: LeftOut) -> Option<u128> {
+    pub(crate) fn kept(&self, history: History<'_>, out: LeftOut) -> Option<u128> {
         let (mut kept, mut all) = (0u128, 0u32);
         for place in 0..len_of(history).saturating_sub(usize::from(out.is_short)) {
             let missed = match entry_at(history, place) {
@@ -113,7 +113,7 @@ impl Scene<'_> {
     }
 
     /// Changes what is held of a process as the updates do that are left.
-    pub fn replay(&self, held: &mut Held, history: History<'_>, out: LeftOut, pid: &Pid) {
+    pub(crate) fn replay(&self, held: &mut Held, history: History<'_>, out: LeftOut, pid: &Pid) {
         for place in 0..len_of(history).saturating_sub(usize::from(out.is_short)) {
             match entry_at(history, place) {
                 Some(entry) if self.missed(entry, out) == 0 => held.apply(&entry.update, pid),
