@@ -21,18 +21,12 @@ mod conversation;
 #[cfg(test)]
 mod gates;
 #[cfg(test)]
-mod judges;
-#[cfg(test)]
 mod losses;
 #[cfg(test)]
 mod memory;
 #[cfg(test)]
-mod merges;
-#[cfg(test)]
 mod rows;
 #[cfg(test)]
 mod setting;
-#[cfg(test)]
-mod told;
 #[cfg(test)]
 mod verdicts;

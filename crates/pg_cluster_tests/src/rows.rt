@@ -1,8 +1,8 @@
 //! Tables of what happens in clusters, and how they end then.
 
-use crate::setting::{End, Open, Setting, Started, end_of, start};
+use crate::setting::{End, Setting, Started, end_of, start};
 use crate::verdicts::{holds, holds_at};
-use pg_cluster::StartFault;
+use pg_cluster::{OpenGate, StartFault};
 use pg_node::NodeFault;
 use pg_step::Refusal;
 use std::alloc::Global;
@@ -36,8 +36,8 @@ fn start_again<R: Threads>(
     setting: Setting<'_>,
     refused: &[StartFault],
 ) -> Result<Started, StartFault> {
-    match start(rt, alloc, setting, Open) {
-        Err(fault) if refused.contains(&fault) => start(rt, alloc, setting, Open),
+    match start(rt, alloc, setting, OpenGate) {
+        Err(fault) if refused.contains(&fault) => start(rt, alloc, setting, OpenGate),
         started => started,
     }
 }
@@ -60,8 +60,8 @@ fn holds_in(
     }
 }
 
-/// Each row holds, one after another.
-pub fn play(
+// Each row holds, one after another.
+fn play(
     rt: &(impl Threads + Wait + Abort),
     alloc: Global,
     started: &mut Started,

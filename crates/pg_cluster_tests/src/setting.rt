@@ -11,14 +11,6 @@ use std::sync::Wait;
 use std::thread;
 use std::thread::Threads;
 
-/// A gate that lets everyone in.
-#[derive(Drop)]
-pub struct Open;
-
-impl Gate for Open {
-    fn pass(&self, _node: usize, _turn: u64) {}
-}
-
 /// What a cluster begins with: nodes of these names, of which each has so many ports, rings of so many bytes, the seed of its pauses,
 /// and at most so many turns of each node.
 #[derive(Clone, Copy)]
@@ -65,8 +57,8 @@ fn is_put(alloc: Global, starts: &mut Vec<Start>, name: &str, ports: u16) -> boo
     }
 }
 
-/// The configuration of a setting; none where memory was refused.
-pub fn config(alloc: Global, setting: Setting<'_>) -> Option<Config> {
+// The configuration of a setting; none where memory was refused.
+fn config(alloc: Global, setting: Setting<'_>) -> Option<Config> {
     let mut starts = Vec::new(alloc);
     let mut are_put = true;
     for name in setting.names {
@@ -110,8 +102,8 @@ pub fn command_of(alloc: Global, line: &str) -> Option<Command> {
     }
 }
 
-/// Whether the text of a reply begins so. It is asked a second time where memory was refused.
-pub fn is_reply(alloc: Global, answer: &Answer, begin: &str) -> bool {
+// Whether the text of a reply begins so. It is asked a second time where memory was refused.
+fn is_reply(alloc: Global, answer: &Answer, begin: &str) -> bool {
     let mut out = String::new(alloc);
     let mut told = print_reply(&mut out, &answer.reply);
     if told.is_err() {
@@ -123,8 +115,8 @@ pub fn is_reply(alloc: Global, answer: &Answer, begin: &str) -> bool {
     is_reply
 }
 
-/// Whether a command was submitted, and not handed back.
-pub fn is_taken(submitted: Result<(), Command>) -> bool {
+// Whether a command was submitted, and not handed back.
+fn is_taken(submitted: Result<(), Command>) -> bool {
     match submitted {
         Ok(()) => true,
         Err(command) => {
@@ -225,8 +217,6 @@ pub struct End {
     pub agrees: bool,
     pub survivors_agree: bool,
     pub replays: bool,
-    /// Whether those that were not lost have the same.
-    pub are_same: bool,
 }
 
 impl End {
@@ -263,8 +253,8 @@ macro_rules! asked {
     };
 }
 
-/// How a cluster ended that is closed.
-pub fn end_of_closed(alloc: Global, closed: &Closed, config: &Config) -> End {
+// How a cluster ended that is closed.
+fn end_of_closed(alloc: Global, closed: &Closed, config: &Config) -> End {
     let (events, losses) = match step_counts(alloc, closed) {
         Ok(counts) => counts,
         Err(AllocError) => step_counts(alloc, closed).unwrap_or((0, 0)),
@@ -276,7 +266,6 @@ pub fn end_of_closed(alloc: Global, closed: &Closed, config: &Config) -> End {
         agrees: asked!(closed.agrees(alloc)),
         survivors_agree: asked!(closed.survivors_agree(alloc)),
         replays: asked!(closed.replays(alloc, config)),
-        are_same: asked!(closed.same_after_loss(alloc)),
     }
 }
 

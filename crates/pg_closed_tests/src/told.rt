@@ -1,15 +1,15 @@
 //! What a closed cluster tells of its nodes and of its groups.
 
-use crate::judges::{Judged, SURVIVING, closed_after};
-use crate::setting::{THREE, command_of};
+use crate::closed::{Judged, closed_after};
+use crate::judges::SURVIVING;
 use crate::verdicts::holds;
-use pg_step::Command;
-use pg_term::Term;
+use pg_term::{Atom, Term};
 use pg_world::Entry;
 use std::alloc::{AllocError, Global};
+use std::process::Abort;
 
 // Which node makes which group.
-const MAKING: [(usize, &str); 3] = [(0, "create a k"), (1, "create b g"), (2, "create c h")];
+const MAKING: [(usize, &str); 3] = [(0, "k"), (1, "g"), (2, "h")];
 
 // The node of an entry, if it is the only one of a history.
 fn only_node(entries: &[Entry]) -> Option<usize> {
@@ -22,26 +22,31 @@ fn only_node(entries: &[Entry]) -> Option<usize> {
 // The node that made a group, if nothing else was done to that.
 fn maker_of(alloc: Global, cluster: &Judged, name: &Term) -> Option<usize> {
     match cluster.closed.history(alloc, &cluster.config, name) {
-        Ok(found) => with!(found, Some entries => only_node(entries.as_slice()), else None),
+        Ok(Some(entries)) => {
+            let node = only_node(entries.as_slice());
+            drop(entries);
+            node
+        }
+        Ok(None) => None,
         Err(AllocError) => None,
     }
 }
 
-// The node that made the group which a line makes.
-fn maker(alloc: Global, cluster: &Judged, line: &str) -> Option<usize> {
-    with!(command_of(alloc, line), Some command => match &command {
-        Command::Create(name) => maker_of(alloc, cluster, name),
-        _ => None,
-    }, else None)
+// The node that made the group of this name.
+fn maker(rt: &impl Abort, alloc: Global, cluster: &Judged, name: &str) -> Option<usize> {
+    let name = Term::Atom(Atom::new(alloc, name).ok().expect(rt, "memory"));
+    let maker = maker_of(alloc, cluster, &name);
+    drop(name);
+    maker
 }
 
 // `c` makes `h` and is lost, and then `a` makes `k` and `b` makes `g`.
 #[test]
 fn of_nodes_and_groups(rt: HostRuntime) {
-    let cluster = closed_after(&rt, rt.alloc(), THREE, SURVIVING, "create b g");
+    let cluster = closed_after(&rt, rt.alloc(), SURVIVING);
     let closed = &cluster.closed;
-    for (node, line) in MAKING {
-        let made = maker(rt.alloc(), &cluster, line);
+    for (node, name) in MAKING {
+        let made = maker(&rt, rt.alloc(), &cluster, name);
         let short = closed.short_turns(node);
         holds(&rt, made == Some(node), "its node made it");
         holds(&rt, closed.is_lost(node) == (node == 2), "only c is lost");
