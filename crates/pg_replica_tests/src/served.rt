@@ -12,7 +12,8 @@ pub fn holds_at(rt: &impl Abort, holds: bool, what: &str, at: usize) {
     assert!(rt; holds, "{what} {at}");
 }
 
-/// Serves as the node `own` with the peer `peer`; the number of the fault, 0 where there is none.
+/// Serves as the node `own` with the peer `peer`; the number of the fault, 0 where there is none, and 10 where there is no memory for the
+/// names.
 pub fn served<R: Source, W: Sink>(
     alloc: Global,
     own: &str,
@@ -20,32 +21,14 @@ pub fn served<R: Source, W: Sink>(
     reader: &mut R,
     writer: &mut W,
 ) -> u8 {
-    match Atom::new(alloc, own) {
-        Ok(own) => {
-            let number = served_by(alloc, &own, peer, reader, writer);
-            drop(own);
-            number
-        }
-        Err(fault) => fault.number(),
-    }
-}
-
-fn served_by<R: Source, W: Sink>(
-    alloc: Global,
-    own: &Atom,
-    peer: &str,
-    reader: &mut R,
-    writer: &mut W,
-) -> u8 {
-    match Atom::new(alloc, peer) {
-        Ok(peer) => {
-            let served = serve(alloc, own, &peer, reader, writer);
-            drop(peer);
-            match served {
-                Ok(()) => 0,
-                Err(fault) => fault.number(),
-            }
-        }
+    let (Ok(own), Ok(peer)) = (Atom::new(alloc, own), Atom::new(alloc, peer)) else {
+        return 10;
+    };
+    let served = serve(alloc, &own, &peer, reader, writer);
+    drop(own);
+    drop(peer);
+    match served {
+        Ok(()) => 0,
         Err(fault) => fault.number(),
     }
 }
