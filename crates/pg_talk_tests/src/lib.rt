@@ -7,5 +7,3 @@ mod conversation;
 mod members;
 #[cfg(test)]
 mod service;
-#[cfg(test)]
-mod verdicts;

@@ -1,6 +1,5 @@
 //! What nodes know as they start.
 
-use crate::verdicts::holds_at;
 use pg_talk::{ServiceFault, config_of, node_names};
 use pg_world::Config;
 use std::alloc::Global;
@@ -53,6 +52,6 @@ fn members_are_read(rt: HostRuntime) {
             Some(count) => told(rt.alloc(), text) == Ok(count),
             None => told(rt.alloc(), text) == Err(ServiceFault::BadText),
         };
-        holds_at(&rt, is_so, "members of row", place as u64);
+        assert!(&rt; is_so, "members of row {place}");
     }
 }
