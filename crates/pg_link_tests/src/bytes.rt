@@ -2,8 +2,7 @@
 
 use crate::links::{Pair, link_to, lose, read, take, two_alone, two_of_three};
 use crate::sights::Sight::{self, *};
-use crate::sights::sees;
-use crate::verdicts::holds;
+use crate::sights::{holds, sees};
 use Part::*;
 use pg_step::Command;
 use pg_term::Term;
@@ -53,28 +52,22 @@ type Case<'a> = (u8, &'a [u8]);
 
 // The body of the packet `{Stamp, Message}` of this text.
 fn body_of(alloc: Global, text: &str) -> Option<Vec<u8>> {
-    match read_term(alloc, text) {
-        Ok(term) => {
-            let body = encode(alloc, &term).ok();
-            drop(term);
-            body
-        }
-        Err(_) => None,
-    }
+    let term = read_term(alloc, text).ok()?;
+    let body = encode(alloc, &term).ok();
+    drop(term);
+    body
 }
 
 // The number of the fault by which the frame of a packet is refused, if it is.
 fn feed_packet(alloc: Global, pair: &mut Pair, peer: usize, text: &str) -> Option<u8> {
-    match body_of(alloc, text) {
-        Some(body) => {
-            let len = u32::try_from(body.len()).unwrap_or(0);
-            let head = pair.feed(peer, &len.to_be_bytes());
-            let fault = pair.feed(peer, body.as_slice());
-            drop(body);
-            head.or(fault)
-        }
-        None => Some(10),
-    }
+    let Some(body) = body_of(alloc, text) else {
+        return Some(10);
+    };
+    let len = u32::try_from(body.len()).unwrap_or(0);
+    let head = pair.feed(peer, &len.to_be_bytes());
+    let fault = pair.feed(peer, body.as_slice());
+    drop(body);
+    head.or(fault)
 }
 
 fn creates(pair: &mut Pair) -> bool {

@@ -9,5 +9,3 @@ mod links;
 mod sights;
 #[cfg(test)]
 mod turns;
-#[cfg(test)]
-mod verdicts;

@@ -185,14 +185,12 @@ impl Pair {
         if self.one.state().port_count() != 1 {
             return false;
         }
-        match self.one.command(0, command) {
-            Ok(done) => {
-                let sends = done.sends.count() > 0;
-                drop(done);
-                sends
-            }
-            Err(_) => false,
-        }
+        let Ok(done) = self.one.command(0, command) else {
+            return false;
+        };
+        let sends = done.sends.count() > 0;
+        drop(done);
+        sends
     }
 
     /// How often the first node has put.

@@ -5,6 +5,12 @@ use pg_index::IndexTable;
 use pg_node::NodeState;
 use pg_step::{Answer, Reply};
 use pg_term::Term;
+use std::process::Abort;
+
+/// Ends the test where something does not hold, and tells of it, and of its turn.
+pub fn holds(rt: &impl Abort, holds: bool, said: &str, turn: usize) {
+    assert!(rt; holds, "{said} {turn}");
+}
 
 /// A node over packets.
 pub type State = NodeState<IndexTable>;

@@ -1,8 +1,7 @@
 //! A node that one thread runs over rings in memory: none of its turns is short.
 
 use crate::links::nodes_of;
-use crate::sights::is_ok;
-use crate::verdicts::holds;
+use crate::sights::{holds, is_ok};
 use pg_index::IndexTable;
 use pg_ring::{MemRing, SlotIn, slot_pair};
 use pg_run::{Client, Gate, LinkedNode, NOTICE_PLACES, NodeRun, Notice, Port, port_pair, run_node};
@@ -46,21 +45,11 @@ fn run_with(rt: &impl Abort, alloc: Global, port: Port) -> Run {
     NodeRun::new(alloc, linked, ports, stop, notices, Pcg32::new(1, 2))
 }
 
-// Whether the client asks for a group.
-fn asks_for_group(client: &mut Client) -> bool {
-    match client.submit(Command::Create(Term::Int(7))) {
-        Ok(()) => true,
-        Err(command) => {
-            drop(command);
-            false
-        }
-    }
-}
-
-// Whether the command is answered, and each turn is whole.
-fn goes_on_whole(run: Run, client: Client) -> bool {
-    let mut client = client;
-    let is_asked = asks_for_group(&mut client);
+// Whether the client asks for a group and is answered, and each turn is whole.
+fn goes_on_whole(run: Run, mut client: Client) -> bool {
+    let asked = client.submit(Command::Create(Term::Int(7)));
+    let is_asked = asked.is_ok();
+    drop(asked);
     let ran = run_node(0, run, &Open, TURNS);
     let is_whole = ran.turns == TURNS && ran.short == 0;
     drop(ran);
