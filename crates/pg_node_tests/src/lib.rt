@@ -28,5 +28,3 @@ mod rows;
 mod texts;
 #[cfg(test)]
 mod told;
-#[cfg(test)]
-mod verdicts;

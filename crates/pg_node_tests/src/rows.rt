@@ -4,7 +4,6 @@
 use crate::nodes::{Kind, Sight, State, either, made, sees};
 use crate::texts::has_answered;
 use crate::told::{Did, Event, NOTHING, happens};
-use crate::verdicts::holds;
 use pg_message::Said;
 use pg_node::NodeFault;
 use pg_step::{Odd, Refusal};
@@ -194,7 +193,7 @@ pub fn check(rt: &impl Abort, alloc: Global, of: &str, kind: Kind, turns: &[Turn
     };
     for (place, turn) in turns.iter().enumerate() {
         for row in *turn {
-            holds(rt, twins.holds(rt, alloc, row), of, place);
+            assert!(rt; twins.holds(rt, alloc, row), "{of} {place}");
         }
     }
     drop(twins);

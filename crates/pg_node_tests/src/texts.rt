@@ -12,21 +12,19 @@ use std::alloc::{AllocError, Global};
 /// The command of a line of a script.
 pub fn command_of(alloc: Global, line: &str) -> Option<Command> {
     match read_line(alloc, line) {
-        Ok(Line::At { node, form }) => {
+        Ok(
+            Line::At {
+                node,
+                form: NodeForm::Command(command),
+            },
+        ) => {
             drop(node);
-            match form {
-                NodeForm::Command(command) => Some(command),
-                other => {
-                    drop(other);
-                    None
-                }
-            }
+            Some(command)
         }
-        Ok(other) => {
+        other => {
             drop(other);
             None
         }
-        Err(_) => None,
     }
 }
 
