@@ -1,13 +1,17 @@
 //! Configurations that are refused, each by its number, and how many bytes find room on a ring.
 
-use crate::verdicts::holds;
 use pg_script::{Act, ScriptLine, read_script};
-use pg_step::Start;
 use pg_term::{Atom, Fields, Items, Pid, Term, TermFault};
 use pg_world::{Config, FrameWorld, Stepped, World, WorldFault};
 use std::alloc::{AllocError, Global};
 use std::mem;
+use std::process::Abort;
 use std::test::*;
+
+/// Ends the test where something does not hold, and tells of it, and of its place: a node, a row or a step.
+pub fn holds(rt: &impl Abort, holds: bool, said: &str, place: usize) {
+    assert!(rt; holds, "{said} {place}");
+}
 
 /// How a configuration is changed that declarations name.
 #[derive(Clone, Copy)]
@@ -137,18 +141,14 @@ fn number_of<W: Drop>(begun: Result<W, WorldFault>) -> u8 {
     }
 }
 
-fn give_ports(starts: &mut [Start], ports: u16) {
-    for start in starts {
-        start.ports = ports;
-    }
-}
-
 // Whether a configuration is changed so.
 fn is_changed(alloc: Global, config: &mut Config, edit: Edit) -> bool {
     match edit {
         Edit::Nothing => true,
         Edit::Ports(ports) => {
-            give_ports(config.starts.as_mut_slice(), ports);
+            for start in config.starts.as_mut_slice() {
+                start.ports = ports;
+            }
             true
         }
         Edit::Twice => names_twice(config),
@@ -160,8 +160,7 @@ fn is_changed(alloc: Global, config: &mut Config, edit: Edit) -> bool {
 fn is_so(alloc: Global, row: &Row) -> bool {
     let (declared, edit, number) = *row;
     match read_script(alloc, declared) {
-        Ok(script) => {
-            let mut script = script;
+        Ok(mut script) => {
             let is_so = is_changed(alloc, &mut script.config, edit)
                 && has_fault(alloc, &script.config, edit, number);
             drop(script);
@@ -186,10 +185,9 @@ const MOVED: [usize; 6] = [3, 0, 2, 2, 3, 2];
 
 // Whether each line moves as many bytes.
 fn do_move(alloc: Global, config: &Config, lines: &[ScriptLine]) -> bool {
-    let Ok(begun) = World::new(alloc, config) else {
+    let Ok(mut world) = World::new(alloc, config) else {
         return false;
     };
-    let mut world = begun;
     let mut do_move = lines.len() == MOVED.len();
     for (line, count) in lines.iter().zip(&MOVED) {
         do_move = do_move

@@ -19,6 +19,4 @@ macro_rules! with {
 #[cfg(test)]
 mod configs;
 #[cfg(test)]
-mod verdicts;
-#[cfg(test)]
 mod worlds;

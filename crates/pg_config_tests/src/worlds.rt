@@ -1,6 +1,6 @@
 //! Three nodes and the packets between them: what one does reaches the others, and what a world tells of it.
 
-use crate::verdicts::holds;
+use crate::configs::holds;
 use Row::*;
 use pg_group::GroupTable;
 use pg_index::IndexTable;
@@ -60,24 +60,18 @@ enum Row<'a> {
 /// Rows, one after another: events, and what is seen then.
 type Turn<'a> = &'a [Row<'a>];
 
-// What an event sends, where it reports nothing.
-const QUIET: Told = Ok(Stepped::Happened(Effect {
+const NOTHING: Effect = Effect {
     sent: 0,
     began: None,
     odd: None,
-}));
+};
 
-const SENDS_1: Told = Ok(Stepped::Happened(Effect {
-    sent: 1,
-    began: None,
-    odd: None,
-}));
+// What an event sends, where it reports nothing.
+const QUIET: Told = Ok(Stepped::Happened(NOTHING));
 
-const SENDS_2: Told = Ok(Stepped::Happened(Effect {
-    sent: 2,
-    began: None,
-    odd: None,
-}));
+const SENDS_1: Told = Ok(Stepped::Happened(Effect { sent: 1, ..NOTHING }));
+
+const SENDS_2: Told = Ok(Stepped::Happened(Effect { sent: 2, ..NOTHING }));
 
 // The first command of a node.
 const FIRST: OpId = OpId { port: 0, number: 1 };
@@ -110,21 +104,19 @@ const GONE: Told = Ok(Stepped::Gone);
 
 fn command_of(alloc: Global, line: &str) -> Option<Command> {
     match read_line(alloc, line) {
-        Ok(Line::At { node, form }) => {
+        Ok(
+            Line::At {
+                node,
+                form: NodeForm::Command(command),
+            },
+        ) => {
             drop(node);
-            match form {
-                NodeForm::Command(command) => Some(command),
-                other => {
-                    drop(other);
-                    None
-                }
-            }
+            Some(command)
         }
-        Ok(other) => {
+        other => {
             drop(other);
             None
         }
-        Err(_) => None,
     }
 }
 
@@ -138,15 +130,12 @@ fn step(world: &mut World, step: FrameStep) -> Told {
 fn given(alloc: Global, world: &mut World, node: usize, line: &str) -> Told {
     match command_of(alloc, line) {
         Some(command) => {
-            let port = 0;
-            step(
-                world,
-                FrameStep::Command {
-                    node,
-                    port,
-                    command,
-                },
-            )
+            let asked = FrameStep::Command {
+                node,
+                port: 0,
+                command,
+            };
+            step(world, asked)
         }
         None => Err(NodeFault::OutOfMemory),
     }
@@ -202,12 +191,7 @@ fn are_entries(history: (&[Entry], Option<&Entry>), wanted: &[(usize, u32)]) -> 
     let (first, last) = history;
     let mut are_same = wanted.len() == first.len().saturating_add(usize::from(last.is_some()));
     for (place, wanted) in wanted.iter().enumerate() {
-        let entry = if place < first.len() {
-            first.get(place)
-        } else {
-            last
-        };
-        are_same = are_same && is_entry(entry, *wanted);
+        are_same = are_same && is_entry(first.get(place).or(last), *wanted);
     }
     are_same
 }
@@ -243,29 +227,22 @@ fn has_answered(world: &World, number: u32) -> bool {
 
 // Whether a row holds.
 fn is_row(alloc: Global, world: &mut World, row: &Row<'_>) -> bool {
-    match row {
+    match *row {
         Row::Given(line) => matches!(given(alloc, world, 0, line), Ok(Stepped::Happened(_))),
-        Row::At(node, line, told) => given(alloc, world, *node, line) == *told,
-        Row::Take(node, peer, told) => {
-            let (node, peer) = (*node, *peer);
-            step(world, FrameStep::Take { node, peer }) == *told
-        }
+        Row::At(node, line, told) => given(alloc, world, node, line) == told,
+        Row::Take(node, peer, told) => step(world, FrameStep::Take { node, peer }) == told,
         Row::Retry(node, port, told) => {
-            let (node, port) = (*node, *port);
             let op = OpId { port, number: 1 };
-            step(world, FrameStep::Retry { node, op }) == *told
+            step(world, FrameStep::Retry { node, op }) == told
         }
-        Row::See(node, peer, told) => {
-            let (node, peer) = (*node, *peer);
-            step(world, FrameStep::SeeLoss { node, peer }) == *told
-        }
-        Row::Settle(count) => settle(world) == *count,
-        Row::Lose(node, told) => lose(alloc, world, *node) == *told,
-        Row::Answered(number) => has_answered(world, *number),
+        Row::See(node, peer, told) => step(world, FrameStep::SeeLoss { node, peer }) == told,
+        Row::Settle(count) => settle(world) == count,
+        Row::Lose(node, told) => lose(alloc, world, node) == told,
+        Row::Answered(number) => has_answered(world, number),
         Row::Pending(numbers) => are_pending(world, numbers),
-        told => {
+        _ => {
             let name = Term::Int(7);
-            let is_told = is_told(world, &name, told);
+            let is_told = is_told(world, &name, row);
             drop(name);
             is_told
         }
@@ -304,12 +281,9 @@ impl Twins {
 // A world in which one step was made and which was copied then.
 fn twins_of(alloc: Global, config: &Config) -> Option<Twins> {
     match World::new(alloc, config) {
-        Ok(begun) => {
-            let mut world = begun;
+        Ok(mut world) => {
             let (node, peer) = (2, 0);
-            let step = FrameStep::Take { node, peer };
-            let stepped = world.step(&step);
-            drop(step);
+            let stepped = step(&mut world, FrameStep::Take { node, peer });
             match world.copy(config) {
                 Ok(copy) if stepped == QUIET => Some(Twins { world, copy }),
                 _ => None,
