@@ -11,13 +11,7 @@ fn command_of(steps: &[Step], place: usize, number: u32) -> Option<&Command> {
     let mut count = 0u32;
     for step in steps {
         match step {
-            Step::Event(
-                FrameStep::Command {
-                    node,
-                    port: _,
-                    command,
-                },
-            ) if *node == place => {
+            Step::Event(FrameStep::Command { node, command, .. }) if *node == place => {
                 count = count.saturating_add(1);
                 if count == number {
                     return Some(command);

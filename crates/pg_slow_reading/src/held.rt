@@ -48,16 +48,13 @@ impl Held {
                 self.is_there = false;
                 self.count = 0;
             }
-            Update::Join(_, other) => {
-                if self.is_there && other == pid {
-                    self.count = self.count.saturating_add(1);
-                }
+            Update::Join(_, other) if self.is_there && other == pid => {
+                self.count = self.count.saturating_add(1);
             }
-            Update::Leave(_, other) => {
-                if other == pid {
-                    self.count = self.count.saturating_sub(1);
-                }
+            Update::Leave(_, other) if other == pid => {
+                self.count = self.count.saturating_sub(1);
             }
+            _ => {}
         }
     }
 }

@@ -36,12 +36,7 @@ pub(crate) fn lost_to(place: usize, node: &State) -> u32 {
     let mut seen = 0;
     for peer in 0..node.peer_count() {
         if node.is_lost(peer) {
-            let at = if peer < place {
-                peer
-            } else {
-                peer.saturating_add(1)
-            };
-            seen |= bit_of(at);
+            seen |= bit_of(peer.saturating_add(usize::from(peer >= place)));
         }
     }
     seen

@@ -19,10 +19,7 @@ pub type State = NodeState<IndexTable>;
 ///
 /// Cost: no memory; O(1).
 pub fn state_of(world: &World, place: usize) -> Option<&State> {
-    match world.node(place) {
-        Some(node) => Some(node.state()),
-        None => None,
-    }
+    Some(world.node(place)?.state())
 }
 
 /// The history of a group: a slice, and one more behind it, where the last event began it.
@@ -35,10 +32,10 @@ pub const GROUPS: [i64; 4] = [1, 2, 3, 4];
 ///
 /// Cost: no memory; O(1).
 pub fn len_of(history: History<'_>) -> usize {
-    match history.1 {
-        Some(_) => history.0.len().saturating_add(1),
-        None => history.0.len(),
-    }
+    history
+        .0
+        .len()
+        .saturating_add(usize::from(history.1.is_some()))
 }
 
 /// The update at a place.
@@ -251,15 +248,13 @@ impl<'a> Scene<'a> {
     /// Cost: memory for lists of members; a node's table is made of each history as often as there are sets of lost nodes.
     pub fn fault(&self) -> Option<&'static str> {
         let none_pending = self.none_pending();
-        match self.world.pending_ends() {
-            Ok(pids) => {
-                let is_told = pids.is_empty() == none_pending;
-                drop(pids);
-                if !is_told {
-                    return Some("other ends are pending");
-                }
-            }
-            Err(AllocError) => return Some("memory"),
+        let Ok(pids) = self.world.pending_ends() else {
+            return Some("memory");
+        };
+        let is_told = pids.is_empty() == none_pending;
+        drop(pids);
+        if !is_told {
+            return Some("other ends are pending");
         }
         for group in GROUPS {
             let name = Term::Int(group);
