@@ -11,5 +11,3 @@ mod prefixes;
 mod random;
 #[cfg(test)]
 mod schedules;
-#[cfg(test)]
-mod verdicts;

@@ -6,8 +6,7 @@ use crate::examples::{
     INITIAL_TABLES, JOIN_TWICE_LEAVE_ONCE, LOSS_DROPS_MEMBERS, LOSS_FREES_LOCK, LOSS_LEAVES_OUT,
     NEW_GREATEST, TWO_CREATORS,
 };
-use crate::schedules::{are_same_worlds, schedule_of};
-use crate::verdicts::holds;
+use crate::schedules::{are_same_worlds, holds, schedule_of};
 use pg_lines::print_answer;
 use pg_node::NodeFault;
 use pg_slow_reading::{World, state_of};
@@ -84,41 +83,34 @@ fn check(rt: &impl Abort, alloc: Global, example: &Example<'_>) {
     drop(schedule);
 }
 
-fn check_all(rt: &impl Abort, alloc: Global, examples: &[Example<'_>]) {
-    for example in examples {
-        check(rt, alloc, example);
+#[test]
+fn two_nodes(rt: HostRuntime) {
+    for example in [
+        JOIN_TWICE_LEAVE_ONCE,
+        DELETE_BETWEEN_LOOK_AND_LOCK,
+        TWO_CREATORS,
+    ] {
+        check(&rt, rt.alloc(), &example);
     }
 }
 
 #[test]
-fn two_nodes(rt: HostRuntime) {
-    let examples = [
-        JOIN_TWICE_LEAVE_ONCE,
-        DELETE_BETWEEN_LOOK_AND_LOCK,
-        TWO_CREATORS,
-    ];
-    check_all(&rt, rt.alloc(), &examples);
-}
-
-#[test]
 fn nodes_that_start_with_groups(rt: HostRuntime) {
-    check_all(
-        &rt,
-        rt.alloc(),
-        &[INITIAL_TABLES, END_BEATS_LATE_JOIN, CLOSEST_MEMBER],
-    );
+    for example in [INITIAL_TABLES, END_BEATS_LATE_JOIN, CLOSEST_MEMBER] {
+        check(&rt, rt.alloc(), &example);
+    }
 }
 
 #[test]
 fn three_nodes(rt: HostRuntime) {
-    check_all(&rt, rt.alloc(), &[FORMATION, NEW_GREATEST]);
+    for example in [FORMATION, NEW_GREATEST] {
+        check(&rt, rt.alloc(), &example);
+    }
 }
 
 #[test]
 fn losses(rt: HostRuntime) {
-    check_all(
-        &rt,
-        rt.alloc(),
-        &[LOSS_DROPS_MEMBERS, LOSS_FREES_LOCK, LOSS_LEAVES_OUT],
-    );
+    for example in [LOSS_DROPS_MEMBERS, LOSS_FREES_LOCK, LOSS_LEAVES_OUT] {
+        check(&rt, rt.alloc(), &example);
+    }
 }

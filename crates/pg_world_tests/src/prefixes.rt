@@ -4,8 +4,7 @@ use crate::examples::{
     DELETE_BETWEEN_LOOK_AND_LOCK, END_BEATS_LATE_JOIN, Example, INITIAL_TABLES,
     JOIN_TWICE_LEAVE_ONCE, LOSS_DROPS_MEMBERS, LOSS_LEAVES_OUT, TWO_CREATORS,
 };
-use crate::schedules::{Schedule, first_pids, scene_of, schedule_of};
-use crate::verdicts::holds;
+use crate::schedules::{Schedule, first_pids, holds, scene_of, schedule_of};
 use pg_slow_reading::are_answered;
 use pg_term::Pid;
 use pg_world::{Step, run};

@@ -1,7 +1,8 @@
 //! Random schedules of worlds over bytes, cut at random. Whatever moved when, packets that cross whole lead to the same nodes.
 
-use crate::schedules::{Schedule, are_same, are_same_worlds, first_pids, scene_of, schedule_of};
-use crate::verdicts::holds;
+use crate::schedules::{
+    Schedule, are_same, are_same_worlds, first_pids, holds, scene_of, schedule_of,
+};
 use pg_node::NodeFault;
 use pg_random::Random;
 use pg_slow_reading::{GROUPS, Scene, World, are_answered, len_of, state_of};
@@ -13,9 +14,6 @@ use std::process::Abort;
 
 /// How many steps a schedule has.
 const STEPS: usize = 10_000;
-
-/// The steps at which nodes are lost where any is, all formed by then: the last of four nodes or five, and then the second.
-const LOSSES: [usize; 2] = [4_000, 7_000];
 
 // How nodes start, of which the first so many are taken: two of them with groups.
 const BEGUN: &str = "ring 150
@@ -132,15 +130,12 @@ impl Chance {
         }
     }
 
-    // The node that is lost at a step, if one is.
+    // The node that is lost at a step, if one is, all formed by then: the last of four nodes or five, and then the second.
     fn lost_at(&self, step: usize) -> Option<usize> {
-        let [first, second] = LOSSES;
-        if self.is_lossy && step == first {
-            Some((self.nodes as usize).saturating_sub(1))
-        } else if self.is_lossy && step == second {
-            Some(1)
-        } else {
-            None
+        match step {
+            4_000 if self.is_lossy => Some((self.nodes as usize).saturating_sub(1)),
+            7_000 if self.is_lossy => Some(1),
+            _ => None,
         }
     }
 }
@@ -238,12 +233,8 @@ fn is_run(alloc: Global, schedule: &Schedule, world: &World, notes: &[Noted]) ->
 fn put_events(rt: &impl Abort, events: &mut Vec<FrameStep>, steps: Vec<Step>, notes: &[Noted]) {
     for (step, noted) in steps.into_iter().zip(notes) {
         match step {
-            Step::Event(event) => {
-                if noted.0.is_some() {
-                    events.push(event).ok().expect(rt, "memory");
-                } else {
-                    drop(event);
-                }
+            Step::Event(event) if noted.0.is_some() => {
+                events.push(event).ok().expect(rt, "memory");
             }
             other => drop(other),
         }
@@ -351,31 +342,23 @@ fn check_notes(rt: &impl Abort, world: &World, notes: &[Noted]) {
     holds(rt, is_noted, "as noted, updates begun:", begun);
 }
 
-fn check_all(rt: &impl Abort, alloc: Global, draws: &[Draw]) {
-    for draw in draws {
-        check(rt, alloc, *draw);
+#[test]
+fn two_and_three_nodes(rt: HostRuntime) {
+    for draw in [(2, false, 20_261_125), (3, false, 20_261_126)] {
+        check(&rt, rt.alloc(), draw);
     }
 }
 
 #[test]
-fn two_and_three_nodes(rt: HostRuntime) {
-    check_all(
-        &rt,
-        rt.alloc(),
-        &[(2, false, 20_261_125), (3, false, 20_261_126)],
-    );
-}
-
-#[test]
 fn four_and_five_nodes(rt: HostRuntime) {
-    check_all(
-        &rt,
-        rt.alloc(),
-        &[(4, false, 20_261_127), (5, false, 20_261_128)],
-    );
+    for draw in [(4, false, 20_261_127), (5, false, 20_261_128)] {
+        check(&rt, rt.alloc(), draw);
+    }
 }
 
 #[test]
 fn nodes_are_lost(rt: HostRuntime) {
-    check_all(&rt, rt.alloc(), &[(4, true, 12), (5, true, 3)]);
+    for draw in [(4, true, 12), (5, true, 3)] {
+        check(&rt, rt.alloc(), draw);
+    }
 }

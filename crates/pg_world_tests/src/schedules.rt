@@ -8,6 +8,11 @@ use pg_world::{Config, FrameStep, Step};
 use std::alloc::{AllocError, Global};
 use std::process::Abort;
 
+/// Ends the test where something does not hold, and tells of it, and of its place: a node, a row or a step.
+pub fn holds(rt: &impl Abort, holds: bool, said: &str, place: usize) {
+    assert!(rt; holds, "{said} {place}");
+}
+
 /// A schedule.
 #[derive(Drop)]
 pub struct Schedule {
@@ -102,13 +107,11 @@ pub fn first_pids(rt: &impl Abort, alloc: Global, starts: &[Start], count: u32) 
     let mut pids = Vec::new(alloc);
     for start in starts {
         for id in 1..count.saturating_add(1) {
-            let node = start.name.copy().expect(rt, "memory");
-            let (serial, creation) = (0, 1);
             let pid = Pid {
-                node,
-                serial,
+                node: start.name.copy().expect(rt, "memory"),
+                serial: 0,
                 id,
-                creation,
+                creation: 1,
             };
             pids.push(pid).ok().expect(rt, "memory");
         }

@@ -1,8 +1,0 @@
-//! How a test ends that finds another thing than it should.
-
-use std::process::Abort;
-
-/// Ends the test where something does not hold, and tells of it, and of its place: a node, a row or a step.
-pub fn holds(rt: &impl Abort, holds: bool, said: &str, place: usize) {
-    assert!(rt; holds, "{said} {place}");
-}
