@@ -1,6 +1,5 @@
 //! Clusters that are closed once the lines of a script have happened in them.
 
-use crate::verdicts::holds;
 use pg_cluster::{Closed, OpenGate, Running};
 use pg_script::{Act, Script, ScriptLine, read_script};
 use pg_step::{Command, Reply};
@@ -9,6 +8,11 @@ use std::alloc::Global;
 use std::process::Abort;
 use std::thread;
 use std::thread::Threads;
+
+/// Ends the test where something does not hold, and tells of it.
+pub fn holds(rt: &impl Abort, holds: bool, said: &str) {
+    assert!(rt; holds, "{said}");
+}
 
 /// A cluster that is closed, and what it began with.
 #[derive(Drop)]
@@ -32,32 +36,13 @@ pub fn closed_after(rt: &(impl Threads + Abort), alloc: Global, script: &str) ->
     Judged { closed, config }
 }
 
-// Whether a command is answered `ok`, or a node is lost.
+// Whether a node is lost, or a command is answered `ok`. The client of a node has its place.
 fn happens(rt: &impl Threads, running: &mut Running, act: Act) -> bool {
     match act {
-        Act::Step(step) => match step {
-            Step::Lose { node } => running.lose(rt, node).is_ok(),
-            Step::Event(event) => is_done(running, event),
-            other => {
-                drop(other);
-                false
-            }
-        },
-        other => {
-            drop(other);
-            false
+        Act::Step(Step::Lose { node }) => running.lose(rt, node).is_ok(),
+        Act::Step(Step::Event(FrameStep::Command { node, command, .. })) => {
+            is_taken(running, node, command) && is_answered(running, node)
         }
-    }
-}
-
-// Whether an event is a command that is answered `ok`. The client of a node has its place.
-fn is_done(running: &mut Running, event: FrameStep) -> bool {
-    match event {
-        FrameStep::Command {
-            node,
-            port: _,
-            command,
-        } => is_taken(running, node, command) && is_answered(running, node),
         other => {
             drop(other);
             false
@@ -70,13 +55,10 @@ fn is_taken(running: &mut Running, place: usize, command: Command) -> bool {
         drop(command);
         return false;
     }
-    match running.submit(place, command) {
-        Ok(()) => true,
-        Err(command) => {
-            drop(command);
-            false
-        }
-    }
+    let submitted = running.submit(place, command);
+    let is_taken = submitted.is_ok();
+    drop(submitted);
+    is_taken
 }
 
 // Whether the next answer at a place is `ok`, if it comes before very many looks.

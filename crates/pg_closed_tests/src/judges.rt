@@ -1,7 +1,6 @@
 //! What the judges of a cluster say of one that was tampered with after it was closed.
 
-use crate::closed::{Judged, closed_after};
-use crate::verdicts::holds;
+use crate::closed::{Judged, closed_after, holds};
 use Saying::*;
 use pg_world::FrameStep;
 use std::alloc::{AllocError, Global};

@@ -10,5 +10,3 @@ mod judges;
 mod merges;
 #[cfg(test)]
 mod told;
-#[cfg(test)]
-mod verdicts;

@@ -1,6 +1,6 @@
 //! The order in which logs are merged: by clock, and at one clock by the place of the log.
 
-use crate::verdicts::holds;
+use crate::closed::holds;
 use pg_joining::order_of_logs;
 use std::alloc::{AllocError, Global};
 use std::test::*;

@@ -1,34 +1,26 @@
 //! What a closed cluster tells of its nodes and of its groups.
 
-use crate::closed::{Judged, closed_after};
+use crate::closed::{Judged, closed_after, holds};
 use crate::judges::SURVIVING;
-use crate::verdicts::holds;
 use pg_term::{Atom, Term};
-use pg_world::Entry;
-use std::alloc::{AllocError, Global};
+use std::alloc::Global;
 use std::process::Abort;
 
 // Which node makes which group.
 const MAKING: [(usize, &str); 3] = [(0, "k"), (1, "g"), (2, "h")];
 
-// The node of an entry, if it is the only one of a history.
-fn only_node(entries: &[Entry]) -> Option<usize> {
-    match entries {
-        [entry] => Some(entry.node),
-        _ => None,
-    }
-}
-
 // The node that made a group, if nothing else was done to that.
 fn maker_of(alloc: Global, cluster: &Judged, name: &Term) -> Option<usize> {
     match cluster.closed.history(alloc, &cluster.config, name) {
         Ok(Some(entries)) => {
-            let node = only_node(entries.as_slice());
+            let node = match entries.as_slice() {
+                [entry] => Some(entry.node),
+                _ => None,
+            };
             drop(entries);
             node
         }
-        Ok(None) => None,
-        Err(AllocError) => None,
+        _ => None,
     }
 }
 
