@@ -1,7 +1,6 @@
 //! Gates that hold nodes, and what is seen through them.
 
-use crate::setting::{ONE, Setting, Started, THREE, TWO, command_of, end_of, start};
-use crate::verdicts::holds;
+use crate::setting::{ONE, Setting, Started, THREE, TWO, command_of, end_of, holds, start};
 use pg_cluster::Gate;
 use pg_step::Command;
 use std::alloc::Global;
@@ -149,7 +148,7 @@ fn check<R: Threads + Wait + Abort>(rt: &R, alloc: Global, setting: Setting<'_>,
         "what is seen at a gate",
     );
     let end = end_of(rt, alloc, started).expect(rt, "an end");
-    holds(rt, end.is_well(), "all is well");
+    holds(rt, end.agrees && end.replays, "all is well");
     let missed = board.second.load(Ordering::SeqCst);
     drop(board);
     holds(

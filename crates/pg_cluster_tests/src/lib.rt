@@ -28,5 +28,3 @@ mod memory;
 mod rows;
 #[cfg(test)]
 mod setting;
-#[cfg(test)]
-mod verdicts;

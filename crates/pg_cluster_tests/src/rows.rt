@@ -1,7 +1,6 @@
 //! Tables of what happens in clusters, and how they end then.
 
-use crate::setting::{End, Setting, Started, end_of, start};
-use crate::verdicts::{holds, holds_at};
+use crate::setting::{End, Setting, Started, end_of, holds, start};
 use pg_cluster::{OpenGate, StartFault};
 use pg_node::NodeFault;
 use pg_step::Refusal;
@@ -68,7 +67,7 @@ fn play(
     rows: &[Row<'_>],
 ) {
     for (place, row) in rows.iter().enumerate() {
-        holds_at(rt, holds_in(rt, alloc, started, row), "row", place as u64);
+        assert!(rt; holds_in(rt, alloc, started, row), "row {place}");
     }
 }
 
@@ -108,7 +107,7 @@ pub fn check(
     let mut started = begun.ok().expect(rt, "it starts");
     play_all(rt, alloc, &mut started, parts);
     let end = end_of(rt, alloc, started).expect(rt, "an end");
-    holds(rt, is_end(end, setting.names.len(), *losses), "the end");
+    holds(rt, is_end(end, setting.nodes, *losses), "the end");
 }
 
 /// The same of each case.

@@ -3,19 +3,26 @@
 use pg_cluster::{Closed, Gate, Running, StartFault, Stopped};
 use pg_lines::{Line, NodeForm, print_reply, read_line};
 use pg_node::NodeFault;
-use pg_step::{Answer, Command, Start};
-use pg_term::{Atom, Items};
+use pg_script::{Script, read_script};
+use pg_step::{Answer, Command};
 use pg_world::{Config, FrameStep, WorldFault};
 use std::alloc::{AllocError, Global};
+use std::process::Abort;
 use std::sync::Wait;
 use std::thread;
 use std::thread::Threads;
 
-/// What a cluster begins with: nodes of these names, of which each has so many ports, rings of so many bytes, the seed of its pauses,
-/// and at most so many turns of each node.
+/// Ends the test where something does not hold, and tells of it.
+pub fn holds(rt: &impl Abort, holds: bool, said: &str) {
+    assert!(rt; holds, "{said}");
+}
+
+/// What a cluster begins with: so many nodes, which are declared, of which each has so many ports, rings of so many bytes, the seed of its
+/// pauses, and at most so many turns of each node.
 #[derive(Clone, Copy)]
 pub struct Setting<'a> {
-    pub names: &'a [&'a str],
+    pub nodes: usize,
+    pub declared: &'a str,
     pub ports: u16,
     pub ring: usize,
     pub seed: u64,
@@ -23,7 +30,8 @@ pub struct Setting<'a> {
 }
 
 pub const ONE: Setting = Setting {
-    names: &["a"],
+    nodes: 1,
+    declared: "node a",
     ports: 1,
     ring: 65536,
     seed: 0,
@@ -31,66 +39,43 @@ pub const ONE: Setting = Setting {
 };
 
 pub const TWO: Setting = Setting {
-    names: &["a", "b"],
+    nodes: 2,
+    declared: "node a\nnode b",
     ..ONE
 };
 
 pub const THREE: Setting = Setting {
-    names: &["a", "b", "c"],
+    nodes: 3,
+    declared: "node a\nnode b\nnode c",
     ..ONE
 };
 
-// Whether a node of this name that has no group comes behind the others.
-fn is_put(alloc: Global, starts: &mut Vec<Start>, name: &str, ports: u16) -> bool {
-    match Atom::new(alloc, name) {
-        Ok(name) => {
-            let groups = Items::from_vec(Vec::new(alloc));
-            let start = Start {
-                name,
-                made: 0,
-                ports,
-                groups,
-            };
-            starts.push(start).is_ok()
-        }
-        Err(_) => false,
-    }
-}
-
 // The configuration of a setting; none where memory was refused.
 fn config(alloc: Global, setting: Setting<'_>) -> Option<Config> {
-    let mut starts = Vec::new(alloc);
-    let mut are_put = true;
-    for name in setting.names {
-        are_put = are_put && is_put(alloc, &mut starts, name, setting.ports);
+    let Script { mut config, lines } = read_script(alloc, setting.declared).ok()?;
+    drop(lines);
+    config.ring = setting.ring;
+    for start in config.starts.as_mut_slice() {
+        start.ports = setting.ports;
     }
-    let ring = setting.ring;
-    let config = Config { ring, starts };
-    if are_put {
-        Some(config)
-    } else {
-        drop(config);
-        None
-    }
+    Some(config)
 }
 
 fn read(alloc: Global, line: &str) -> Option<Command> {
     match read_line(alloc, line) {
-        Ok(Line::At { node, form }) => {
+        Ok(
+            Line::At {
+                node,
+                form: NodeForm::Command(command),
+            },
+        ) => {
             drop(node);
-            match form {
-                NodeForm::Command(command) => Some(command),
-                other => {
-                    drop(other);
-                    None
-                }
-            }
+            Some(command)
         }
-        Ok(other) => {
+        other => {
             drop(other);
             None
         }
-        Err(_) => None,
     }
 }
 
@@ -117,13 +102,9 @@ fn is_reply(alloc: Global, answer: &Answer, begin: &str) -> bool {
 
 // Whether a command was submitted, and not handed back.
 fn is_taken(submitted: Result<(), Command>) -> bool {
-    match submitted {
-        Ok(()) => true,
-        Err(command) => {
-            drop(command);
-            false
-        }
-    }
+    let is_taken = submitted.is_ok();
+    drop(submitted);
+    is_taken
 }
 
 /// A cluster that runs. A client that is not there hands back, and gives nothing.
@@ -183,11 +164,6 @@ impl Started {
     pub fn lose<R: Threads>(&mut self, rt: &R, node: usize) -> Result<(), NodeFault> {
         self.running.lose(rt, node)
     }
-
-    /// Closes the cluster: what it ended as, and what it began with.
-    pub fn close<R: Threads>(self, rt: &R) -> (Result<Closed, Stopped>, Config) {
-        self.running.close(rt)
-    }
 }
 
 /// The nodes of a setting as a cluster.
@@ -217,13 +193,6 @@ pub struct End {
     pub agrees: bool,
     pub survivors_agree: bool,
     pub replays: bool,
-}
-
-impl End {
-    /// Whether the nodes agree, and the steps lead to them.
-    pub fn is_well(self) -> bool {
-        self.agrees && self.replays
-    }
 }
 
 /// How many losses of nodes are among these steps.
@@ -273,19 +242,13 @@ fn end_of_closed(alloc: Global, closed: &Closed, config: &Config) -> End {
 fn finished(closed: Result<Closed, Stopped>) -> Option<Closed> {
     match closed {
         Ok(closed) => Some(closed),
-        Err(stopped) => match stopped.finish() {
-            Ok(closed) => Some(closed),
-            Err(stopped) => {
-                drop(stopped);
-                None
-            }
-        },
+        Err(stopped) => stopped.finish().ok(),
     }
 }
 
 /// Closes the cluster: how it ended; none where its logs have no order.
 pub fn end_of<R: Threads>(rt: &R, alloc: Global, started: Started) -> Option<End> {
-    let (closed, config) = started.close(rt);
+    let (closed, config) = started.running.close(rt);
     let end = with!(
         finished(closed),
         Some closed => Some(end_of_closed(alloc, &closed, &config)),
