@@ -104,14 +104,15 @@ const GONE: Told = Ok(Stepped::Gone);
 
 fn command_of(alloc: Global, line: &str) -> Option<Command> {
     match read_line(alloc, line) {
-        Ok(
-            Line::At {
-                node,
-                form: NodeForm::Command(command),
-            },
-        ) => {
+        Ok(Line::At { node, form }) => {
             drop(node);
-            Some(command)
+            match form {
+                NodeForm::Command(command) => Some(command),
+                other => {
+                    drop(other);
+                    None
+                }
+            }
         }
         other => {
             drop(other);

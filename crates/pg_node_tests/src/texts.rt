@@ -12,14 +12,15 @@ use std::alloc::{AllocError, Global};
 /// The command of a line of a script.
 pub fn command_of(alloc: Global, line: &str) -> Option<Command> {
     match read_line(alloc, line) {
-        Ok(
-            Line::At {
-                node,
-                form: NodeForm::Command(command),
-            },
-        ) => {
+        Ok(Line::At { node, form }) => {
             drop(node);
-            Some(command)
+            match form {
+                NodeForm::Command(command) => Some(command),
+                other => {
+                    drop(other);
+                    None
+                }
+            }
         }
         other => {
             drop(other);
