@@ -69,7 +69,13 @@ node_send T g s = declared_send (Node.the_type T g) (
     search (sendable, crosses, as_row_send, deframer_send, bytes_send, heap_send, heap_sync, frees) depth 30,
     (
       search (sendable, crosses, as_row_send) depth 30,
-      (search (sendable, crosses, as_row_send) depth 30, (search (sendable, crosses, as_row_send, heap_send) depth 30, tt)),
+      (
+        search (sendable, crosses, as_row_send) depth 30,
+        (
+          search (sendable, crosses, as_row_send, bytes_send, heap_send, heap_sync, frees) depth 30,
+          (search (sendable, crosses, as_row_send, heap_send) depth 30, tt),
+        ),
+      ),
     ),
   ),
 )
