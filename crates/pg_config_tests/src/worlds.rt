@@ -284,7 +284,9 @@ fn twins_of(alloc: Global, config: &Config) -> Option<Twins> {
     match World::new(alloc, config) {
         Ok(mut world) => {
             let (node, peer) = (2, 0);
-            let stepped = step(&mut world, FrameStep::Take { node, peer });
+            let step = FrameStep::Take { node, peer };
+            let stepped = world.step(&step);
+            drop(step);
             match world.copy(config) {
                 Ok(copy) if stepped == QUIET => Some(Twins { world, copy }),
                 _ => None,
