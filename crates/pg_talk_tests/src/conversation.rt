@@ -1,5 +1,6 @@
 //! The conversation of the program.
 
+use crate::verdicts::holds_at;
 use pg_talk::{Conversation, Outcome, Quiet, run_threads};
 use std::alloc::Global;
 use std::thread::Threads;
@@ -43,6 +44,6 @@ fn goes(rt: &impl Threads, alloc: Global, row: &Row) -> bool {
 fn clients_are_answered(rt: HostRuntime) {
     for place in 0..ROWS.len() {
         let goes = goes(&rt, rt.alloc(), &ROWS[place]);
-        assert!(&rt; goes, "a conversation of row {place}");
+        holds_at(&rt, goes, "a conversation of row", place as u64);
     }
 }

@@ -7,3 +7,5 @@ mod conversation;
 mod members;
 #[cfg(test)]
 mod service;
+#[cfg(test)]
+mod verdicts;

@@ -1,5 +1,6 @@
 //! What nodes know as they start.
 
+use crate::verdicts::holds_at;
 use pg_talk::{ServiceFault, config_of, node_names};
 use pg_world::Config;
 use std::alloc::Global;
@@ -52,6 +53,6 @@ fn members_are_read(rt: HostRuntime) {
             Some(count) => told(rt.alloc(), text) == Ok(count),
             None => told(rt.alloc(), text) == Err(ServiceFault::BadText),
         };
-        assert!(&rt; is_so, "members of row {place}");
+        holds_at(&rt, is_so, "members of row", place as u64);
     }
 }

@@ -1,5 +1,6 @@
 //! What a service replies, and how it ends.
 
+use crate::verdicts::holds_at;
 use pg_frame::write_frame;
 use pg_node::Source;
 use pg_talk::{Served, Service, ServiceFault, config_of, node_names, serve_cluster};
@@ -8,6 +9,7 @@ use pg_text::read_term;
 use std::alloc::Global;
 use std::io;
 use std::io::ErrorKind;
+use std::process::Abort;
 use std::thread::Threads;
 
 /// Gives these bytes in pieces of so many, and then fails, or ends.
@@ -169,6 +171,6 @@ fn goes(rt: &impl Threads, alloc: Global, row: Row<'_>) -> Option<bool> {
 fn requests_are_replied_to(rt: HostRuntime) {
     for place in 0..ROWS.len() {
         let went = goes(&rt, rt.alloc(), ROWS[place]) == Some(true);
-        assert!(&rt; went, "a service of row {place}");
+        holds_at(&rt, went, "a service of row", place as u64);
     }
 }
