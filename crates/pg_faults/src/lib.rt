@@ -33,7 +33,7 @@ pub const TRAILING_BYTES: u8 = 9;
 /// A growth of memory was refused.
 pub const OUT_OF_MEMORY: u8 = 10;
 
-/// A frame or a term takes more than 16,777,216 bytes.
+/// A frame, a term or a script takes more than 16,777,216 bytes, or a graph of more than 60 worlds is asked for.
 pub const TOO_LONG: u8 = 11;
 
 /// A term is none of the messages between nodes, or is one that may not come then.
@@ -42,13 +42,13 @@ pub const NOT_A_MESSAGE: u8 = 12;
 /// A packet's stamp is above 1,073,741,824.
 pub const STAMP_TOO_LARGE: u8 = 13;
 
-/// A fault was told of a link before.
+/// A link had a fault before.
 pub const DAMAGED: u8 = 14;
 
-/// A configuration is none.
+/// A configuration is faulty, as where it has no node or two of one name.
 pub const BAD_CONFIG: u8 = 15;
 
-/// A step names a node, a port or a peer that is not there.
+/// A node, a port or a peer that is named is not there.
 pub const NO_SUCH_PLACE: u8 = 16;
 
 /// A retry of a command that does not wait.
@@ -102,7 +102,7 @@ pub const WRITE_FAULT: u8 = 32;
 /// The loss of a peer that is not lost.
 pub const NOT_LOST: u8 = 33;
 
-/// A thread of a cluster can't be started.
+/// A thread of a cluster, or one that reads for it, can't be started.
 pub const NO_THREAD: u8 = 34;
 
 /// A line of a script has no form, or a text is that of no such value.

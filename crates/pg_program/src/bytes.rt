@@ -5,6 +5,7 @@ ghost use Rattle.std.specs.Str.{chars};
 ghost use Rattle.pg_replica.specs.Causes.{AllAnswered, FailedAt, Unread};
 ghost use Rattle.pg_program.specs.Bytes.{BytesCause, NameFault, NamesFault, ServesAs, pair_of_texts};
 
+use pg_faults::BAD_CONFIG;
 use pg_message::MessageFault;
 use pg_node::{ServeFault, Sink, Source, serve};
 use pg_term::{Atom, TermFault};
@@ -18,9 +19,6 @@ pub(crate) enum BytesFault {
     /// The run was refused.
     Serve(ServeFault),
 }
-
-/// The number of equal names.
-const SAME_NAMES: u8 = 15;
 
 /// Serves the input as a node of this name with one peer.
 pub(crate) fn serve_input<R: Source, W: Sink>(
@@ -54,7 +52,7 @@ fn names_of(alloc: Global, own: &str, peer: &str) -> Result<(Atom, Atom), BytesF
     let first = name_of(alloc, own)?;
     let second = name_of(alloc, peer)?;
     if first == second {
-        return Err(BytesFault::Names(SAME_NAMES));
+        return Err(BytesFault::Names(BAD_CONFIG));
     }
     Ok((first, second))
 }

@@ -13,14 +13,13 @@ ghost use Rattle.pg_program.specs.Inputs.{IsInput, IsUnread};
 
 use crate::fault::Fault;
 use crate::input::{read_input, text_of};
-use crate::run::OUT_OF_MEMORY;
 use crate::script::script_fault;
 use crate::system::System;
 use crate::threads::print;
 use crate::words::Quest;
 use pg_diagram::graph_svg;
 use pg_explore::{ExploreFault, Limits};
-use pg_faults::{NO_SUCH_PLACE, TOO_LONG};
+use pg_faults::{NO_SUCH_PLACE, OUT_OF_MEMORY, TOO_LONG};
 use pg_node::{Sink, Source};
 use pg_script::RunFault;
 use pg_survey::{Findings, Observer, Scenario, read_scenario, survey};

@@ -7,16 +7,9 @@ ghost use Rattle.pg_program.specs.declared.fault.Fault.TheVariants.{Given};
 ghost use Rattle.pg_program.specs.declared.input.TheConstants.{MAX_SCRIPT_LEN};
 
 use crate::fault::Fault;
-use crate::run::OUT_OF_MEMORY;
+use pg_faults::{BAD_LINE, OUT_OF_MEMORY, READ_FAULT, TOO_LONG};
 use pg_node::Source;
 use std::alloc::Global;
-
-// Numbers of faults of an input.
-const TOO_LONG: u8 = 11;
-
-const READ_FAULT: u8 = 31;
-
-const BAD_TEXT: u8 = 40;
 
 /// How many bytes a script has at most.
 pub const MAX_SCRIPT_LEN: usize = 16_777_216;
@@ -61,6 +54,6 @@ pub(crate) fn text_of(bytes: &[u8]) -> Result<&str, Fault>
 {
     match str::from_utf8(bytes) {
         Ok(text) => Ok(text),
-        Err(_) => Err(Fault::Given(BAD_TEXT)),
+        Err(_) => Err(Fault::Given(BAD_LINE)),
     }
 }

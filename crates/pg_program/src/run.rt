@@ -28,14 +28,12 @@ use crate::threads::converse;
 use crate::words::{Aids, Offer, Quest, Talk, Task, read_words};
 use clap::Error;
 use clap::error::ErrorKind;
+use pg_faults::OUT_OF_MEMORY;
 use pg_node::{Sink, Source};
 use pg_script::put_whole;
 use pg_talk::Served;
 use std::alloc::Global;
 use std::io;
-
-// The number of the fault where memory runs out.
-pub(crate) const OUT_OF_MEMORY: u8 = 10;
 
 const DONE: u8 = 0;
 

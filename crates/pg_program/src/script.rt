@@ -11,10 +11,10 @@ ghost use Rattle.pg_program.specs.declared.input.TheConstants.{MAX_SCRIPT_LEN};
 
 use crate::fault::Fault;
 use crate::input::{read_input, text_of};
-use crate::run::OUT_OF_MEMORY;
 use crate::system::System;
 use crate::words::Aids;
 use pg_diagram::write_svg;
+use pg_faults::OUT_OF_MEMORY;
 use pg_node::{Sink, Source};
 use pg_script::{LineFault, RunFault, Script, ScriptFault, read_script, run_script, watch_script};
 use pg_trace::{Watch, diagram_of};

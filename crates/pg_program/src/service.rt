@@ -6,11 +6,10 @@ ghost use Rattle.pg_program.specs.Told.{WritesOut};
 
 use crate::fault::Fault;
 use crate::input::text_of;
-use crate::run::OUT_OF_MEMORY;
 use crate::system::System;
 use crate::words::Offer;
 use pg_cluster::StartFault;
-use pg_faults::{BAD_CONFIG, READ_FAULT};
+use pg_faults::{BAD_CONFIG, OUT_OF_MEMORY, READ_FAULT};
 use pg_node::Sink;
 use pg_script::{RunFault, put_whole};
 use pg_talk::{Served, Service, ServiceFault, Verdict, config_of, node_names};

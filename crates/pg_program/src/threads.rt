@@ -6,9 +6,9 @@ ghost use Rattle.pg_replica.specs.Causes.{FailedAt};
 ghost use Rattle.pg_program.specs.Talks.{Printed, TalkEnd, json_line, outcome_text};
 
 use crate::fault::Fault;
-use crate::run::OUT_OF_MEMORY;
 use crate::system::System;
 use crate::words::Talk;
+use pg_faults::OUT_OF_MEMORY;
 use pg_node::Sink;
 use pg_script::{RunFault, put_whole};
 use pg_talk::Outcome;
