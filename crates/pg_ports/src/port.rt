@@ -20,11 +20,12 @@ ghost use Rattle.pg_ports.specs.Ports.{port_commands, answers_in};
 
 /// So many ports, at which no command came in.
 ///
-/// Errors: `AllocError`.
+/// Errors: `AllocError`, where there is a port.
 pub fn idle_ports(alloc: Global, ports: u16) -> Result<Vec<Port>, AllocError>
     ensures len { IfOk result (λ made. length made.items ≡ ports) }
     ensures counts { IfOk result (λ made. port_commands made.items ≡ (λ port. 0)) }
     ensures answers { IfOk result (λ made. answers_in made.items ≡ (λ port. [])) }
+    ensures none { ports ≡ 0 → IsOk result }
 {
     let mut made = Vec::with_capacity(alloc, usize::from(ports))?;
     for port in 0..ports {
