@@ -15,6 +15,7 @@ ghost use Rattle.pg_opens.specs.Opens.{names_of, live_of, uses_of};
 ghost use Rattle.pg_opens.specs.Places.{name_at};
 ghost use Rattle.pg_opens.specs.Readings.{is_locking};
 ghost use Rattle.pg_sends.specs.Marked.{is_marked, marks_of, sent_below};
+ghost use Rattle.pg_sends.specs.Opening.{GoToPeers};
 ghost use Rattle.pg_sends.specs.Orders.{message_of};
 ghost use Rattle.pg_sends.specs.Sent.{sends_in};
 ghost use Rattle.pg_sends.specs.Sendable.{AreSendable};
@@ -59,8 +60,9 @@ pub fn copies_to_live(
     packet: &Packet,
     opens: &Opens,
 ) -> Result<Vec<(usize, Packet)>, AllocError>
-    ensures { IfOk result (λ sends. sends_in (names_of opens.now) sends.items
+    ensures sends { IfOk result (λ sends. sends_in (names_of opens.now) sends.items
         ≡ (λ q. stamped packet.now.stamp (to_peers (live_of opens.now) (λ q. true) packet.now.message q))) }
+    ensures place { IfOk result (λ sends. GoToPeers (names_of opens.now) sends.items) }
 {
     let goes = live_peers(opens);
     copies_to_marked(alloc, packet, goes, peer_count(opens))
@@ -244,9 +246,10 @@ fn copies_to_marked(
     goes: Places,
     peers: usize,
 ) -> Result<Vec<(usize, Packet)>, AllocError>
-    ensures { (names : List Node) → IsDistinct same_atom names → peers + 1 ≡ length names
+    ensures sends { (names : List Node) → IsDistinct same_atom names → peers + 1 ≡ length names
         → IfOk result (λ sends. sends_in names sends.items
         ≡ (λ q. stamped packet.now.stamp (cond (is_marked names (marks_of goes peers) q) (packet.now.message ∷ []) []))) }
+    ensures place { (names : List Node) → peers + 1 ≡ length names → IfOk result (λ sends. GoToPeers names sends.items) }
 {
     let mut sends = room_for(alloc, goes, peers)?;
     for peer in 0..peers {
