@@ -1,5 +1,5 @@
 -- A port where a command is counted, or answered.
-use Rattle.std.proofs.Common.{◌≡◌, ◌<◌, ◌+◌, ◌-◌, ◌∙◌, ℕ, zero, suc, cond, nat_eq}
+use Rattle.std.proofs.Common.{◌≡◌, ◌≢◌, ◌<◌, ◌+◌, ◌-◌, ◌∙◌, ℕ, zero, suc, cond, nat_eq}
 use Rattle.std.proofs.Common.{List, [], ◌∷◌, ◌++◌, get_or, length, Some, refl, sym, ap, arith, subst}
 use Rattle.std.specs.Prelude.{slice_get, slice_set, vec_len, vec_capacity}
 use Rattle.std.proofs.Math.Path.{fun_ext}
@@ -62,6 +62,25 @@ at_place [] k p within e = absurd (omega arith)
 at_place (q ∷ ports) zero p within e = ap Some (sym e)
 at_place (q ∷ ports) (suc k) p within e = at_place ports k p (omega arith) e
 
+-- ---- where there is room
+
+-- one port changes, and has room if it had
+room_kept : (ports : List Port) (k : ℕ) (p q : Port) → slice_get ports k ≡ Some p → (vec_len p.answers < vec_capacity p.answers → vec_len q.answers < vec_capacity q.answers)
+    → (other : ℕ) → HasRoomAt ports other → HasRoomAt (slice_set ports k q) other
+room_kept [] k p q here kept other room x e = absurd (cc)
+room_kept (r ∷ ports) zero p q here kept zero room x e = subst (λ (y : Port). vec_len y.answers < vec_capacity y.answers) (one_port q x e) (kept (room p here))
+room_kept (r ∷ ports) zero p q here kept (suc n) room x e = room x e
+room_kept (r ∷ ports) (suc k) p q here kept zero room x e = room x e
+room_kept (r ∷ ports) (suc k) p q here kept (suc n) room x e = room_kept ports k p q here kept n room x e
+
+-- the others have the room that they had
+room_apart : (ports : List Port) (k : ℕ) (q : Port) (other : ℕ) → other ≢ k → HasRoomAt ports other → HasRoomAt (slice_set ports k q) other
+room_apart [] k q other apart room x e = room x e
+room_apart (r ∷ ports) zero q zero apart room x e = absurd (apart refl)
+room_apart (r ∷ ports) zero q (suc n) apart room x e = room x e
+room_apart (r ∷ ports) (suc k) q zero apart room x e = room x e
+room_apart (r ∷ ports) (suc k) q (suc n) apart room x e = room_apart ports k q n (λ same. apart (ap suc same)) room x e
+
 -- a port counts one command more, and answers as it did
 module _ (ports : List Port) (port k : ℕ) (p q : Port) (same : k ≡ port) (within : port < length ports) (here : p ≡ get_or ports k p) where
   pub there : slice_get ports port ≡ Some p
@@ -104,6 +123,12 @@ module _ (ports : List Port) (port k : ℕ) (p q : Port) (same : k ≡ port) (wi
     where
       set : slice_get (slice_set ports k q) port ≡ Some q
       set = ap (λ i. slice_get (slice_set ports i q) port) same ∙ set_here ports port p q there
+
+  pub rooms_kept : (vec_len p.answers < vec_capacity p.answers → vec_len q.answers < vec_capacity q.answers) → (other : ℕ) → HasRoomAt ports other → HasRoomAt (slice_set ports k q) other
+  rooms_kept kept other room = subst (λ i. HasRoomAt (slice_set ports i q) other) (sym same) (room_kept ports port p q there kept other room)
+
+  pub rooms_apart : (other : ℕ) → other ≢ port → HasRoomAt ports other → HasRoomAt (slice_set ports k q) other
+  rooms_apart other apart room = subst (λ i. HasRoomAt (slice_set ports i q) other) (sym same) (room_apart ports port q other apart room)
 
 -- the answer of the next command, where room was made for it before
 pub answered_on : (before between after : ℕ → List Answer) (port : ℕ) (counts later : ℕ → ℕ) (reply : Reply) → between ≡ before → later ≡ counts

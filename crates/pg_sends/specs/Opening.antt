@@ -1,5 +1,6 @@
 -- What a node sends as it begins.
-use Rattle.std.specs.Prelude.{◌≡◌, true, List}
+use Rattle.std.specs.Prelude.{◌≡◌, ◌<◌, ◌+◌, ℕ, true, List, length}
+use Rattle.std.specs.List.{AllByRecursion}
 use Rattle.pg_group.specs.Table.{Table}
 use Rattle.pg_exchange.specs.GroupList.{GroupList, IsSnapshot}
 use Rattle.pg_machine.specs.Clocked.{Stamped, stamped}
@@ -11,6 +12,10 @@ use Rattle.pg_step.specs.Nodes.{Node, Nodes, to_peers}
 -- to each peer one packet at time 0, which tells all groups of a table
 abbrev pub Announces : Table → Nodes → (Node → List (Stamped Message)) → Type 0
 Announces table m sends = (groups : GroupList) × IsSnapshot table groups × (sends ≡ (λ q. stamped 0 (to_peers m (λ q. true) (Exchange m.own groups) q)))
+
+-- each goes to the place of a peer
+abbrev pub GoToPeers : List Node → List (ℕ × Packet) → Type 0
+GoToPeers names sends = AllByRecursion (λ sent. sent.0 + 1 < length names) sends
 
 -- what a node tells each peer as it begins: all groups of a table, at time 0
 abbrev pub IsAnnouncement : Table → Node → Packet → Type 0

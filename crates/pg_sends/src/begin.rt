@@ -3,7 +3,7 @@
 ghost use Rattle.std.specs.Prelude.{IfOk};
 ghost use Rattle.pg_opens.specs.Opens.{names_of, live_of};
 ghost use Rattle.pg_opens.specs.Places.{name_at};
-ghost use Rattle.pg_sends.specs.Opening.{Announces, IsAnnouncement};
+ghost use Rattle.pg_sends.specs.Opening.{Announces, GoToPeers, IsAnnouncement};
 ghost use Rattle.pg_sends.specs.Sent.{sends_in};
 
 use crate::sends::copies_to_live;
@@ -13,7 +13,7 @@ use pg_message::{Message, Packet};
 use pg_opens::Opens;
 use std::alloc::{AllocError, Global};
 
-/// The groups of a table to each live peer, at time 0.
+/// The groups of a table to each live peer, by its place, at time 0.
 ///
 /// Errors: `AllocError`.
 pub fn opening<T: GroupTable>(
@@ -21,7 +21,8 @@ pub fn opening<T: GroupTable>(
     opens: &Opens,
     table: &T,
 ) -> Result<Vec<(usize, Packet)>, AllocError>
-    ensures { IfOk result (λ sends. Announces (T.contents table.now) (live_of opens.now) (sends_in (names_of opens.now) sends.items)) }
+    ensures announces { IfOk result (λ sends. Announces (T.contents table.now) (live_of opens.now) (sends_in (names_of opens.now) sends.items)) }
+    ensures place { IfOk result (λ sends. GoToPeers (names_of opens.now) sends.items) }
 {
     let packet = announced(alloc, opens, table)?;
     let sends = copies_to_live(alloc, &packet, opens);

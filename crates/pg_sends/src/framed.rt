@@ -1,6 +1,6 @@
 //! One frame, and the peers that it goes to.
 
-ghost use Rattle.std.specs.Prelude.{◌≡◌, ◌≤◌, ◌+◌, true, length, Ok, IsOk};
+ghost use Rattle.std.specs.Prelude.{◌≡◌, ◌≤◌, ◌+◌, [], true, false, length, Ok, IsOk};
 ghost use Rattle.pg_message.specs.declared.packet.Packet.{Packet};
 ghost use Rattle.pg_writer.specs.declared.size.TheConstants.{MAX_SMALL_LEN};
 ghost use Rattle.pg_writer.specs.Frames.{frame_of};
@@ -18,10 +18,10 @@ pub struct Framed {
     ghost read: { goes_out goes ≡ true → IsOk (read_in frame.items) },
     ghost whole: { (packet : Packet) → goes_out goes ≡ true → read_in frame.items ≡ Ok packet → frame.items ≡ frame_of packet },
     ghost short: { goes_out goes ≡ true → length frame.items ≤ 4 + MAX_SMALL_LEN },
+    ghost quiet: { goes_out goes ≡ false → frame.items ≡ [] },
 }
 
 impl Framed {
-    ghost use Rattle.std.specs.Prelude.{[]};
     ghost use Rattle.pg_sends.specs.Framed.{listed_of};
     ghost use Rattle.pg_sends.specs.Going.{HasFrame, going_framed};
 
@@ -33,11 +33,14 @@ impl Framed {
         Framed::new(frame, Goes::Nobody)
     }
 
-    /// A frame to peers. It takes no memory.
-    pub(crate) fn new(frame: BytesMut, goes: Goes) -> Framed
+    /// A frame to peers; nothing is left of it where it goes to nobody. It takes no memory.
+    pub(crate) fn new(mut frame: BytesMut, goes: Goes) -> Framed
         requires { HasFrame goes frame.items }
         ensures { listed_of result ≡ going_framed goes frame.items }
     {
+        if let Goes::Nobody = goes {
+            frame.clear();
+        }
         Framed { frame, goes }
     }
 
@@ -48,9 +51,10 @@ impl Framed {
         self.frame.as_slice()
     }
 
-    /// The frame, which is taken out; none, where it goes to nobody. It takes no memory.
+    /// The frame, which is taken out with its memory; none, where it goes to nobody. It takes no memory.
     pub fn into_frame(self) -> BytesMut
-        ensures { result.items ≡ self.frame.items }
+        ensures items { result.items ≡ self.frame.items }
+        ensures whole { result ≡ self.frame }
     {
         self.frame
     }

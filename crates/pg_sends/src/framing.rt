@@ -52,7 +52,7 @@ impl Outgoing for Framed {
         goes: Places,
         peers: usize,
     ) -> Result<Framed, AllocError> {
-        if goes == Places::none() {
+        if goes.are_within(Places::none()) {
             return Ok(Framed::nobody(alloc));
         }
         let frame = order_frame(alloc, buffer, stamp, order)?;

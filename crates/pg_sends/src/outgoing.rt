@@ -1,9 +1,10 @@
 //! The forms in which an event sends packets.
 
-ghost use Rattle.std.specs.Prelude.{◌≡◌, ◌≤◌, ℕ, List, [], ◌∷◌, length, true, IfOk};
+ghost use Rattle.std.specs.Prelude.{◌≡◌, ◌≤◌, ℕ, List, [], ◌∷◌, length, true, false, IfOk, IsOk};
 ghost use Rattle.pg_message.specs.declared.packet.Packet.{Packet};
 ghost use Rattle.pg_message.specs.declared.packet.TheConstants.{MAX_STAMP};
 ghost use Rattle.pg_message.specs.Writing.{is_sayable};
+ghost use Rattle.pg_multicall.specs.Places.{has_of};
 ghost use Rattle.pg_sends.specs.Marked.{marks_of, sent_below};
 ghost use Rattle.pg_sends.specs.Orders.{message_of, ordered};
 
@@ -42,7 +43,7 @@ pub trait Outgoing {
     /// An order to each peer that is marked, in the order of the peers. `goes`: who is marked, by the places of so many
     /// peers.
     ///
-    /// Errors: `AllocError`.
+    /// Errors: `AllocError`, not where nobody is marked.
     fn to_marked(
         alloc: Global,
         buffer: &mut BytesMut,
@@ -53,7 +54,8 @@ pub trait Outgoing {
     ) -> Result<Self, AllocError>
         requires within { stamp ≤ MAX_STAMP }
         requires named { is_sayable (message_of order) ≡ true }
-        ensures { IfOk result (λ sends. listed sends ≡ sent_below stamp (message_of order.entry) (marks_of goes peers) peers) };
+        ensures sends { IfOk result (λ sends. listed sends ≡ sent_below stamp (message_of order.entry) (marks_of goes peers) peers) }
+        ensures none { ((place : ℕ) → has_of goes place ≡ false) → IsOk result };
 
     /// How many packets there are.
     ///

@@ -1,8 +1,8 @@
 //! What an own command does to the node's own lock and table.
 
-ghost use Rattle.std.specs.Prelude.{◌≡◌, ◌&&◌, true, OnOk, OnErr};
+ghost use Rattle.std.specs.Prelude.{◌≡◌, ◌&&◌, ◌⊎◌, true, false, IsOk, OnOk, OnErr};
 ghost use Rattle.pg_group.specs.Ended.{ended_of};
-ghost use Rattle.pg_group.specs.Table.{HasRoom, changed};
+ghost use Rattle.pg_group.specs.Table.{Adds, HasRoom, Overfills, changed};
 ghost use Rattle.pg_group.specs.Value.{name_of};
 ghost use Rattle.pg_lock.specs.Locks.{locks_of, grants, after_ask, given_up, is_holder};
 ghost use Rattle.pg_sends.specs.Orders.{reference_in};
@@ -34,7 +34,7 @@ pub fn free_own(locks: &mut LockTable, granted: bool, name: &Term, reference: Nu
 
 /// The own node's lock of a name goes to the reference, where it is granted.
 ///
-/// Errors: `AllocError`, which changes nothing.
+/// Errors: `AllocError`, which changes nothing, only for a lock that is granted.
 pub fn ask_own(
     locks: &mut LockTable,
     granted: bool,
@@ -44,6 +44,7 @@ pub fn ask_own(
     requires free { granted ≡ true → grants true (locks_of locks.old) name.now ≡ true }
     ensures ok { OnOk result (locks_of locks.new ≡ after_ask granted (locks_of locks.old) name.now (reference_in reference.entry)) }
     ensures err { OnErr result (locks_of locks.new ≡ locks_of locks.old) }
+    ensures light { granted ≡ false → IsOk result }
 {
     if granted {
         let reference = reference.made()?;
@@ -54,7 +55,8 @@ pub fn ask_own(
 
 /// The own node applies an update, and its lock of the group goes to the reference, where it is granted.
 ///
-/// Errors: `AllocError`, which changes nothing.
+/// Errors: `AllocError`, which changes nothing, only where the lock is granted, a group or a member is added, or the members of
+/// the group would pass 64 bits.
 pub fn apply_own<T: GroupTable + Drop>(
     locks: &mut LockTable,
     table: &mut T,
@@ -69,6 +71,8 @@ pub fn apply_own<T: GroupTable + Drop>(
     ensures table { OnOk result (T.contents table.new ≡ changed (T.contents table.old) update.now (ended_of ended.now)) }
     ensures err_locks { OnErr result (locks_of locks.new ≡ locks_of locks.old) }
     ensures err_table { OnErr result (T.contents table.new ≡ T.contents table.old) }
+    ensures memory { OnErr result ((granted ≡ true) ⊎ (Adds (T.contents table.old) update.now (ended_of ended.now)
+        ⊎ Overfills (T.contents table.old) update.now)) }
 {
     ask_own(locks, granted, update.name(), lock)?;
     match table.apply(update, ended) {

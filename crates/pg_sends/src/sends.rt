@@ -1,10 +1,11 @@
 //! The packets of a turn, one to each peer that it sends to.
 
-ghost use Rattle.std.specs.Prelude.{◌≡◌, ◌≤◌, ◌<◌, ◌+◌, ◌&&◌, ℕ, List, [], ◌∷◌, true, cond, length, IfOk};
+ghost use Rattle.std.specs.Prelude.{◌≡◌, ◌≤◌, ◌<◌, ◌+◌, ◌&&◌, ℕ, List, [], ◌∷◌, true, false, cond, length, IfOk, IsOk};
 ghost use Rattle.std.specs.List.{IsDistinct};
 ghost use Rattle.pg_term.specs.Same.{same_atom};
 ghost use Rattle.pg_group.specs.declared.update.Update.{Update};
 ghost use Rattle.pg_machine.specs.Clocked.{stamped};
+ghost use Rattle.pg_multicall.specs.Places.{has_of};
 ghost use Rattle.pg_step.specs.declared.command.OpId.{OpId};
 ghost use Rattle.pg_step.specs.Nodes.{Node, is_peer, to_one, to_peers};
 ghost use Rattle.pg_step.specs.State.{Status};
@@ -14,6 +15,7 @@ ghost use Rattle.pg_opens.specs.Opens.{names_of, live_of, uses_of};
 ghost use Rattle.pg_opens.specs.Places.{name_at};
 ghost use Rattle.pg_opens.specs.Readings.{is_locking};
 ghost use Rattle.pg_sends.specs.Marked.{is_marked, marks_of, sent_below};
+ghost use Rattle.pg_sends.specs.Opening.{GoToPeers};
 ghost use Rattle.pg_sends.specs.Orders.{message_of};
 ghost use Rattle.pg_sends.specs.Sent.{sends_in};
 ghost use Rattle.pg_sends.specs.Sendable.{AreSendable};
@@ -31,7 +33,7 @@ use std::alloc::{AllocError, Global};
 
 /// An order to each live peer. Its cost grows with the peers and the names.
 ///
-/// Errors: `AllocError`.
+/// Errors: `AllocError`, where a peer is live.
 pub fn to_live<S: Outgoing>(
     alloc: Global,
     buffer: &mut BytesMut,
@@ -44,6 +46,7 @@ pub fn to_live<S: Outgoing>(
     ensures sends { IfOk result (λ sends. sends_in (names_of opens.now) (S.listed sends)
         ≡ (λ q. stamped clock (to_peers (live_of opens.now) (λ q. true) (message_of order.entry) q))) }
     ensures fits { IfOk result (λ sends. AreSendable (names_of opens.now) (S.listed sends)) }
+    ensures alone { ((q : Node) → is_peer (live_of opens.now) q ≡ false) → IsOk result }
 {
     let goes = live_peers(opens);
     send_marked(alloc, buffer, clock, order, goes, peer_count(opens))
@@ -57,8 +60,9 @@ pub fn copies_to_live(
     packet: &Packet,
     opens: &Opens,
 ) -> Result<Vec<(usize, Packet)>, AllocError>
-    ensures { IfOk result (λ sends. sends_in (names_of opens.now) sends.items
+    ensures sends { IfOk result (λ sends. sends_in (names_of opens.now) sends.items
         ≡ (λ q. stamped packet.now.stamp (to_peers (live_of opens.now) (λ q. true) packet.now.message q))) }
+    ensures place { IfOk result (λ sends. GoToPeers (names_of opens.now) sends.items) }
 {
     let goes = live_peers(opens);
     copies_to_marked(alloc, packet, goes, peer_count(opens))
@@ -167,6 +171,7 @@ fn send_marked<S: Outgoing>(
         → IfOk result (λ sends. sends_in names (S.listed sends)
         ≡ (λ q. stamped clock (cond (is_marked names (marks_of goes peers) q) (message_of order.entry ∷ []) []))) }
     ensures fits { (names : List Node) → peers + 1 ≡ length names → IfOk result (λ sends. AreSendable names (S.listed sends)) }
+    ensures none { ((place : ℕ) → has_of goes place ≡ false) → IsOk result }
 {
     S::to_marked(alloc, buffer, clock, order, goes, peers)
 }
@@ -216,7 +221,8 @@ fn list_marked(
     goes: Places,
     peers: usize,
 ) -> Result<Vec<(usize, Packet)>, AllocError>
-    ensures { IfOk result (λ sends. sends.items ≡ sent_below clock (message_of order.entry) (marks_of goes peers) peers) }
+    ensures sends { IfOk result (λ sends. sends.items ≡ sent_below clock (message_of order.entry) (marks_of goes peers) peers) }
+    ensures none { ((place : ℕ) → has_of goes place ≡ false) → IsOk result }
 {
     let mut sends = room_for(alloc, goes, peers)?;
     for peer in 0..peers {
@@ -240,9 +246,10 @@ fn copies_to_marked(
     goes: Places,
     peers: usize,
 ) -> Result<Vec<(usize, Packet)>, AllocError>
-    ensures { (names : List Node) → IsDistinct same_atom names → peers + 1 ≡ length names
+    ensures sends { (names : List Node) → IsDistinct same_atom names → peers + 1 ≡ length names
         → IfOk result (λ sends. sends_in names sends.items
         ≡ (λ q. stamped packet.now.stamp (cond (is_marked names (marks_of goes peers) q) (packet.now.message ∷ []) []))) }
+    ensures place { (names : List Node) → peers + 1 ≡ length names → IfOk result (λ sends. GoToPeers names sends.items) }
 {
     let mut sends = room_for(alloc, goes, peers)?;
     for peer in 0..peers {
@@ -255,9 +262,10 @@ fn copies_to_marked(
 
 /// An empty list: with room for a packet to each peer, where one is marked.
 fn room_for(alloc: Global, goes: Places, peers: usize) -> Result<Vec<(usize, Packet)>, AllocError>
-    ensures { IfOk result (λ sends. sends.items ≡ []) }
+    ensures items { IfOk result (λ sends. sends.items ≡ []) }
+    ensures none { ((place : ℕ) → has_of goes place ≡ false) → IsOk result }
 {
-    if goes == Places::none() {
+    if goes.are_within(Places::none()) {
         return Ok(Vec::new(alloc));
     }
     Vec::with_capacity(alloc, peers)
@@ -272,9 +280,10 @@ fn peer_count(opens: &Opens) -> usize
 
 /// The peers that count, by their places among the peers. It takes no memory.
 fn live_peers(opens: &Opens) -> Places
-    ensures { (peers : ℕ) → peers + 1 ≡ length (names_of opens.now)
+    ensures marks { (peers : ℕ) → peers + 1 ≡ length (names_of opens.now)
         → (q : Node) → is_marked (names_of opens.now) (marks_of result peers) q
         ≡ (is_peer (live_of opens.now) q && true) }
+    ensures alone { ((q : Node) → is_peer (live_of opens.now) q ≡ false) → (place : ℕ) → has_of result place ≡ false }
 {
     let mut goes = Places::none();
     for place in 1..opens.node_count() {

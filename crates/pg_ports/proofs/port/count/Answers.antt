@@ -1,5 +1,5 @@
 use Rattle.std.proofs.Common.{refl, arith}
-use Rattle.pg_ports.proofs.Answered.{count_there, one_counted, none_answered}
+use Rattle.pg_ports.proofs.Answered.{count_there, one_counted, none_answered, rooms_kept}
 use Rattle.pg_ports.proofs.port.count.Goals as goal
 
 pub overflow_add-entry : goal.overflow_add-entry
@@ -12,3 +12,6 @@ returns-clause-counts c = one_counted c.args.ports.now.items c.args.port c.from.
 
 pub returns-clause-answers : goal.returns-clause-answers
 returns-clause-answers c = none_answered c.args.ports.now.items c.args.port c.from.result c.index_mut-entry.result.now _ c.from.ensures c.requires.place c.index_mut-entry.ensures.value refl
+
+pub returns-clause-rooms : goal.returns-clause-rooms
+returns-clause-rooms c = rooms_kept c.args.ports.now.items c.args.port c.from.result c.index_mut-entry.result.now _ c.from.ensures c.requires.place c.index_mut-entry.ensures.value (λ room. room)

@@ -1,5 +1,5 @@
 use Rattle.std.proofs.Common.{◌∙◌, ◌+◌, ◌++◌, ◌∷◌, [], ℕ, sym, ap, arith}
-use Rattle.pg_ports.proofs.Answered.{there, count_there, one_counted, one_answered}
+use Rattle.pg_ports.proofs.Answered.{there, count_there, one_counted, one_answered, rooms_apart}
 use Rattle.pg_ports.proofs.port.give.Goals as goal
 
 pub overflow_add-entry : goal.overflow_add-entry
@@ -18,3 +18,6 @@ returns-clause-answers c =
     let counted = count_there c.args.ports.now.items c.args.port c.from.result c.index_mut-entry.result.now c.index_mut-entry.result.now c.from.ensures c.requires.place c.index_mut-entry.ensures.value in
     one_answered c.args.ports.now.items c.args.port c.from.result c.index_mut-entry.result.now c.answer.new.self c.from.ensures c.requires.place c.index_mut-entry.ensures.value _
     (c.answer.ensures.answers ∙ ap (λ (n : ℕ). c.index_mut-entry.result.now.answers.items ++ record { number = n + 1; reply = c.args.reply } ∷ []) (sym counted))
+
+pub returns-clause-rooms : goal.returns-clause-rooms
+returns-clause-rooms c = rooms_apart c.args.ports.now.items c.args.port c.from.result c.index_mut-entry.result.now c.answer.new.self c.from.ensures c.requires.place c.index_mut-entry.ensures.value

@@ -1,4 +1,4 @@
-use Rattle.pg_ports.proofs.Answered.{there, none_counted, one_answered}
+use Rattle.pg_ports.proofs.Answered.{there, none_counted, one_answered, rooms_apart}
 use Rattle.pg_ports.proofs.port.keep_reserved.Goals as goal
 
 pub answer-requires : goal.answer-requires
@@ -9,3 +9,6 @@ returns-clause-kept c = one_answered c.args.ports.now.items c.args.op.port c.fro
 
 pub returns-clause-counts : goal.returns-clause-counts
 returns-clause-counts c = none_counted c.args.ports.now.items c.args.op.port c.from.result c.index_mut-port.result.now c.answer.new.self c.from.ensures c.requires.place c.index_mut-port.ensures.value c.answer.ensures.count
+
+pub returns-clause-rooms : goal.returns-clause-rooms
+returns-clause-rooms c = rooms_apart c.args.ports.now.items c.args.op.port c.from.result c.index_mut-port.result.now c.answer.new.self c.from.ensures c.requires.place c.index_mut-port.ensures.value

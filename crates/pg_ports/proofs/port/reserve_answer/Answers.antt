@@ -1,6 +1,6 @@
 use Rattle.std.proofs.Common.{Result, Ok, Err}
 use Rattle.std.specs.Prelude.{OnOk}
-use Rattle.pg_ports.proofs.Answered.{none_counted, none_answered, room_there}
+use Rattle.pg_ports.proofs.Answered.{there, none_counted, none_answered, room_there, rooms_kept}
 use Rattle.pg_ports.proofs.port.reserve_answer.Goals as goal
 
 pub returns-clause-counts : goal.returns-clause-counts
@@ -15,3 +15,9 @@ on_ok (Err e) P Q f p = tt
 
 pub returns-clause-ok : goal.returns-clause-ok
 returns-clause-ok c = on_ok c.reserve.result _ _ (room_there c.args.ports.now.items c.args.port c.from.result c.index_mut-entry.result.now c.reserve.new.self c.from.ensures c.requires.place c.index_mut-entry.ensures.value) c.reserve.ensures.ok
+
+pub returns-clause-succeeds : goal.returns-clause-succeeds
+returns-clause-succeeds c = λ room. c.reserve.ensures.succeeds (room c.index_mut-entry.result.now (there c.args.ports.now.items c.args.port c.from.result c.index_mut-entry.result.now c.index_mut-entry.result.now c.from.ensures c.requires.place c.index_mut-entry.ensures.value))
+
+pub returns-clause-rooms : goal.returns-clause-rooms
+returns-clause-rooms c = rooms_kept c.args.ports.now.items c.args.port c.from.result c.index_mut-entry.result.now c.reserve.new.self c.from.ensures c.requires.place c.index_mut-entry.ensures.value c.reserve.ensures.room

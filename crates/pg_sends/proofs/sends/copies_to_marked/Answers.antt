@@ -1,18 +1,27 @@
-use Rattle.std.proofs.Common.{ap, sym, ◌∙◌, ◌+◌, ◌≡◌, ◌++◌, ◌∷◌, [], Bool, true, false, arith}
+use Rattle.std.proofs.Common.{ap, sym, subst, ◌∙◌, ◌+◌, ◌≡◌, ◌≤◌, ◌++◌, ◌∷◌, [], Bool, true, false, length, arith}
+use Rattle.pg_sends.proofs.Announcing.{places_below}
 use Rattle.pg_sends.proofs.Sent.{all_sent, length_marks, sent_more, and_nothing}
+use Rattle.pg_sends.specs.Opening.{GoToPeers}
 use Rattle.pg_sends.specs.Sent.{sends_in}
 use Rattle.pg_multicall.specs.Places.{has_of}
 use Rattle.pg_sends.specs.Marked.{marks_of, sent_below}
 use Rattle.pg_sends.proofs.sends.copies_to_marked.Goals as goal
 use Rattle.pg_sends.proofs.sends.copies_to_marked.Goals.{then-has+in_ok-copy+in_ok-push, else-has}
 
-pub returns : goal.returns
-returns c = λ names apart same.
+pub returns-clause-sends : goal.returns-clause-sends
+returns-clause-sends c = λ names apart same.
     let packet = c.args.packet.now in
     let marks = marks_of c.args.goes c.args.peers in
     let last : c.loop-peer.peer ≡ c.args.peers = omega (arith, c.loop-peer.auto.peer-end, c.loop-peer-test.false) in
     ap (sends_in names) (c.loop-peer.invariant ∙ ap (sent_below packet.stamp packet.message marks) (last ∙ sym (length_marks c.args.goes c.args.peers)))
     ∙ all_sent names packet.stamp packet.message marks apart (ap (λ n. n + 1) (length_marks c.args.goes c.args.peers) ∙ same)
+
+pub returns-clause-place : goal.returns-clause-place
+returns-clause-place c = λ names same.
+    let packet = c.args.packet.now in
+    let marks = marks_of c.args.goes c.args.peers in
+    let within : c.loop-peer.peer + 1 ≤ length names = omega (arith, c.loop-peer.auto.peer-end, same) in
+    subst (GoToPeers names) (sym c.loop-peer.invariant) (places_below names packet.stamp packet.message marks c.loop-peer.peer within)
 
 pub loop-peer-preserved : goal.loop-peer-preserved
 loop-peer-preserved c =

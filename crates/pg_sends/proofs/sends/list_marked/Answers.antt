@@ -6,8 +6,8 @@ use Rattle.pg_sends.proofs.Sent.{sent_more, and_nothing}
 use Rattle.pg_sends.proofs.sends.list_marked.Goals as goal
 use Rattle.pg_sends.proofs.sends.list_marked.Goals.{then-has+in_ok-message+in_ok-push, else-has}
 
-pub returns : goal.returns
-returns c =
+pub returns-clause-sends : goal.returns-clause-sends
+returns-clause-sends c =
     let last : c.loop-peer.peer ≡ c.args.peers = omega (arith, c.loop-peer.auto.peer-end, c.loop-peer-test.false) in
     c.loop-peer.invariant ∙ ap (sent_below c.args.clock (message_of c.args.order) (marks_of c.args.goes c.args.peers)) last
 

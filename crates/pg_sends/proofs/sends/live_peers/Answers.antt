@@ -3,8 +3,8 @@ use Rattle.pg_opens.specs.Opens.{names_of}
 use Rattle.pg_sends.proofs.Sent.{marks_say}
 use Rattle.pg_sends.proofs.sends.live_peers.Goals as goal
 
-pub returns : goal.returns
-returns c =
+pub returns-clause-marks : goal.returns-clause-marks
+returns-clause-marks c =
     let opens = c.args.opens.now in
     let within : length (names_of opens) ≤ c.loop-place.place = omega (arith, c.node_count-place-end.ensures, c.loop-place-test.false) in
-    marks_say (names_of opens) opens.lost.items (λ q. true) c.loop-place.goes c.loop-place.place opens.apart within c.loop-place.invariant
+    marks_say (names_of opens) opens.lost.items (λ q. true) c.loop-place.goes c.loop-place.place opens.apart within c.loop-place.invariant.marks

@@ -15,7 +15,7 @@ returns-clause-sends g c = λ names apart same.
     let marks = marks_of c.args.goes c.args.peers in
     IfOk-weaker c.to_marked.result (λ sends. g.S.Outgoing.listed sends ≡ sent_below c.args.clock message marks c.args.peers)
     (λ sends. sends_in names (g.S.Outgoing.listed sends) ≡ (λ q. stamped c.args.clock (cond (is_marked names marks q) (message ∷ []) [])))
-    (λ sends e. ap (sends_in names) e ∙ marked_sent_below names c.args.clock message c.args.goes c.args.peers apart same) c.to_marked.ensures
+    (λ sends e. ap (sends_in names) e ∙ marked_sent_below names c.args.clock message c.args.goes c.args.peers apart same) c.to_marked.ensures.sends
 
 pub returns-clause-fits : goal.returns-clause-fits
 returns-clause-fits g c = λ names same.
@@ -24,4 +24,4 @@ returns-clause-fits g c = λ names same.
     let within : c.args.peers + 1 ≤ length names = omega (arith, same) in
     IfOk-weaker c.to_marked.result (λ sends. g.S.Outgoing.listed sends ≡ sent_below c.args.clock message marks c.args.peers) (λ sends. AreSendable names (g.S.Outgoing.listed sends))
     (λ sends e. subst (AreSendable names) (sym e)
-    (sendable_below names c.args.clock message marks c.requires.named c.requires.within (order_small c.args.order) c.args.peers within)) c.to_marked.ensures
+    (sendable_below names c.args.clock message marks c.requires.named c.requires.within (order_small c.args.order) c.args.peers within)) c.to_marked.ensures.sends

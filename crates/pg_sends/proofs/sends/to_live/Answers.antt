@@ -17,5 +17,5 @@ returns-clause-sends g c =
     let goes = c.live_peers-goes.result in
     IfOk-weaker c.send_marked.result (λ sends. sends_in names (g.S.Outgoing.listed sends) ≡ (λ q. stamped clock (cond (is_marked names (marks_of goes peers) q) (message ∷ []) [])))
     (λ sends. sends_in names (g.S.Outgoing.listed sends) ≡ (λ q. stamped clock (to_peers (live_of c.args.opens.now) (λ q. true) message q)))
-    (λ sends e. e ∙ (λ i q. stamped clock (cond (c.live_peers-goes.ensures peers c.peer_count.ensures q i) (message ∷ []) [])))
+    (λ sends e. e ∙ (λ i q. stamped clock (cond (c.live_peers-goes.ensures.marks peers c.peer_count.ensures q i) (message ∷ []) [])))
     (c.send_marked.ensures.sends names c.args.opens.now.apart c.peer_count.ensures)

@@ -13,11 +13,11 @@ returns-in-Some-clause-happens g c update is =
     let old = c.args.self.now in
     subst (λ (looked : Option Reply). IfOk c.answer.result (λ done. Happens (names_of old) (at_clock c.args.clock (op_issued c.args.port (λ op s. change_by looked (live_of old) op update s) (kept_by old)))
     done (state_of c.answer.new.self) (answers_of old) (answers_of c.answer.new.self)))
-    (sym c.in-Some.is ∙ c.in_ok-reply.ensures update is) (c.answer.ensures.happens (Given c.in-Some.reply) refl)
+    (sym c.in-Some.is ∙ c.in_ok-reply.ensures.change update is) (c.answer.ensures.happens (Given c.in-Some.reply) refl)
 
 pub returns-in-None-clause-happens : goal.returns-in-None-clause-happens
 returns-in-None-clause-happens g c update is =
     let old = c.args.self.now in
     subst (λ (looked : Option Reply). IfOk c.undertake.result (λ done. Happens (names_of old) (at_clock c.args.clock (op_issued c.args.port (λ op s. change_by looked (live_of old) op update s) (kept_by old)))
     done (state_of c.undertake.new.self) (answers_of old) (answers_of c.undertake.new.self)))
-    (sym c.in-None.is ∙ c.in_ok-reply.ensures update is) (c.undertake.ensures.happens update is)
+    (sym c.in-None.is ∙ c.in_ok-reply.ensures.change update is) (c.undertake.ensures.happens update is)

@@ -15,4 +15,4 @@ returns-in-Ok-clause-sends g c =
     let sends = sends_in (names_of node) c.in-Ok.sends.items in
     let started = c.in_ok-node.ensures.state in
     subst (λ (table : Table). Announces table (nodes_of node) sends) (ap (λ (s : Timed State). s.state.table) started)
-    (subst (λ (m : Nodes). Announces (g.T.GroupTable.contents node.table) m sends) (none_lost node.opens (ap (λ (s : Timed State). s.state.lost) started)) c.in-Ok.ensures)
+    (subst (λ (m : Nodes). Announces (g.T.GroupTable.contents node.table) m sends) (none_lost node.opens (ap (λ (s : Timed State). s.state.lost) started)) c.in-Ok.ensures.announces)
