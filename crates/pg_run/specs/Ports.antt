@@ -92,12 +92,14 @@ pub record PortRests (a b : Port) : Type 0 where
   pub handed : handed b ≡ handed a
   pub count : handed_count b ≡ handed_count a
 
--- nothing ever came, and nothing was handed over
+-- Nothing ever came, and nothing was handed over: it knows all 64 places to be free, and of no command.
 pub record IsUnused (port : Port) : Type 0 where
   pub asked : asked port ≡ []
   pub kept : asked_kept port ≡ []
   pub handed : handed port ≡ []
   pub count : handed_count port ≡ 0
+  pub free : answers_free port ≡ 64
+  pub left : commands_left port ≡ []
 
 -- what was handed over is the first of these answers
 pub record HandedOver (answers : List Answer) (port : Port) : Type 0 where
