@@ -222,11 +222,20 @@ module _ {T L I K : Type 0} {g : Ghosts T} (accepts : L → List ℕ → L → T
   abbrev pub HasWanted : NodeRun T L I K g → NodeRun T L I K g → Type 0
   HasWanted a b = WasWanting accepts gives a.linked b.linked ⊎ LeavesAnswer (answers_of (held_by (node_of b.linked))) b.ports.items
 
-  -- a whole turn has done what was there to be done, and in a short one something was wanting
+  -- It did nothing: but for where the stop byte came all is as it was.
+  pub record DidNothing (a b : NodeRun T L I K g) : Type 0 where
+    pub linked : b.linked ≡ a.linked
+    pub ports : b.ports ≡ a.ports
+    pub notices : b.notices ≡ a.notices
+    pub generator : b.generator ≡ a.generator
+    pub pauses : b.pauses ≡ a.pauses
+    pub busy : b.busy ≡ a.busy
+
+  -- a whole turn has done what was there to be done, in a short one something was wanting, and one that is stopped did nothing
   abbrev pub TurnDid : Turned → NodeRun T L I K g → NodeRun T L I K g → Type 0
   TurnDid Whole a b = HasDone a b
   TurnDid Short a b = HasWanted a b
-  TurnDid Stopped a b = Unit {0}
+  TurnDid Stopped a b = DidNothing a b
 
   -- How commands fared that wait: after the packets and commands that it took, and the loss that it saw if any, the turn looked at which
   -- wait. Of these a whole turn tried each that was due: ready, or its pause over. A turn passed for each of them that was not ready, and
