@@ -10,7 +10,7 @@ use Rattle.pg_run.specs.declared.run.NodeRun.{NodeRun}
 use Rattle.pg_run.specs.Follows.{log_of, node_of}
 use Rattle.pg_run.specs.Logs.{IsCommand, IsDueRetry, IsTake, LogsLoss, LogsOnly}
 use Rattle.pg_run.specs.Pauses.{Waits, is_due, wait_of}
-use Rattle.pg_run.specs.Ports.{was_handed}
+use Rattle.pg_run.specs.Ports.{HandsMore, was_handed}
 use Rattle.pg_run.specs.Runs.{TurnedTo}
 use Rattle.pg_run.specs.Tries.{ComesTo, HasDone, HasRetried, HasRetriedDue, HasWanted}
 use Rattle.pg_run.specs.Tries.{RetriedBy, SawDrained, TurnDid, is_ready_at, waits_at}
@@ -35,8 +35,9 @@ module _ {T L I K : Type 0} {g : Ghosts T} (accepts : L → List ℕ → L → T
       → ((op : OpId) → waits_at (node_of m) op ≡ false → wait_of between op ≡ wait_of a.pauses op)
       → LogsOnly IsTake (log_of a.linked) taken → LogsLoss lost taken seen → LogsOnly IsCommand seen (log_of m) → LogsOnly (IsDueRetry (is_ready_at (node_of m)) a.pauses between) (log_of m) (log_of n)
       → log_of b.linked ≡ log_of n → ((op : OpId) (none : Port) → was_handed op (get_or b.ports.items op.port none) ≡ false → wait_of b.pauses op ≡ wait_of between op)
+      → ((op : OpId) (none : Port) → HandsMore op (get_or a.ports.items op.port none) (get_or b.ports.items op.port none) b.pauses)
       → HasRetriedDue accepts gives link_moves inlet_moves whole a b
-  retried_due whole phase lost a b m n between taken seen is drained first retries put tried waits others takes sees commands retried still forgot = record {
+  retried_due whole phase lost a b m n between taken seen is drained first retries put tried waits others takes sees commands retried still forgot answered = record {
     lost = lost;
     drained = drained;
     middle = m;
@@ -57,6 +58,7 @@ module _ {T L I K : Type 0} {g : Ghosts T} (accepts : L → List ℕ → L → T
       retries = logs_still (IsDueRetry (is_ready_at (node_of m)) a.pauses between) (log_of m) (log_of n) (log_of b.linked) retried still;
     };
     forgot = forgot;
+    answered = answered;
   }
 
 module _ {T L I K : Type 0} {g : Ghosts T} (accepts : L → List ℕ → L → Type 0) (gives : I → List ℕ → I → Type 0) (link_moves : L → ℕ → ℕ → Type 0)

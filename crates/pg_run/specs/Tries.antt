@@ -27,7 +27,7 @@ use Rattle.pg_run.specs.Follows.{Follows, node_of, peers_of, log_of}
 use Rattle.pg_run.specs.Logs.{TurnLogs}
 use Rattle.pg_run.specs.Notices.{inlet_of, kept_of}
 use Rattle.pg_run.specs.Pauses.{Waits, is_due, wait_of}
-use Rattle.pg_run.specs.Ports.{was_handed}
+use Rattle.pg_run.specs.Ports.{HandsMore, was_handed}
 use Rattle.pg_run.specs.Served.{AreServed, AreHanded, LeavesAnswer}
 use Rattle.pg_step.specs.declared.command.Command.{Command}
 use Rattle.pg_step.specs.declared.command.OpId.{OpId}
@@ -239,7 +239,8 @@ module _ {T L I K : Type 0} {g : Ghosts T} (accepts : L → List ℕ → L → T
 
   -- How commands fared that wait: after the packets and commands that it took, and the loss that it saw if any, the turn looked at which
   -- wait. Of these a whole turn tried each that was due: ready, or its pause over. A turn passed for each of them that was not ready, and
-  -- for no other; it tried none that was not due. Then the pause of a command of which an answer was handed over may be forgotten.
+  -- for no other; it tried none that was not due. Then the pause of a command is forgotten of which the turn handed over an answer; where
+  -- none ever was it stays.
   pub record HasRetriedDue (whole : Bool) (a b : NodeRun T L I K g) : Type 0 where
     pub lost : Bool
     pub drained : lost ≡ true → SawDrained accepts gives inlet_moves a.linked b.linked
@@ -252,6 +253,7 @@ module _ {T L I K : Type 0} {g : Ghosts T} (accepts : L → List ℕ → L → T
     pub others : (op : OpId) → waits_at (node_of middle) op ≡ false → wait_of between op ≡ wait_of a.pauses op
     pub logs : TurnLogs lost (is_ready_at (node_of middle)) a.pauses between (log_of a.linked) (log_of middle) (log_of b.linked)
     pub forgot : (op : OpId) (none : Port) → was_handed op (get_or b.ports.items op.port none) ≡ false → wait_of b.pauses op ≡ wait_of between op
+    pub answered : (op : OpId) (none : Port) → HandsMore op (get_or a.ports.items op.port none) (get_or b.ports.items op.port none) b.pauses
 
   -- the same of each turn; where it is stopped no command fares
   abbrev pub RetriedBy : Turned → NodeRun T L I K g → NodeRun T L I K g → Type 0

@@ -1,6 +1,7 @@
-use Rattle.std.proofs.Common.{◌≡◌, [], refl, rules}
+use Rattle.std.proofs.Common.{◌≡◌, [], get_or, refl, rules}
 use Rattle.std.specs.Prelude.{true}
 use Rattle.pg_run.specs.Tries.{ComesTo}
+use Rattle.pg_run.proofs.Forgetting.{more_before}
 use Rattle.pg_run.proofs.GoingOn.{goes_itself, serves_going, serves_turn, notices_stay}
 use Rattle.pg_run.proofs.Served.{handed_after, served_kept_on}
 use Rattle.pg_run.proofs.Wanting.{drained_between, looked_between, pulled_still, put_after, turn_wanting}
@@ -87,4 +88,6 @@ returns-clause-retried g c =
     (λ lost. drained_between g.L.Link.accepts g.I.Inlet.gives g.met.L.Link.rests g.met.I.Inlet.rests g.met.L.Link.composes g.met.I.Inlet.composes g.I.Inlet.moves a b d h took (c.see_next-saw.ensures.drained lost) (on d e h commanded (on e f h retried put)))
     (on a b e took (on b d e saw commanded)) (c.retry_all-retried.ensures.goes.acts, c.retry_all-retried.ensures.goes.follows) (c.put_all-put.ensures.goes.acts, c.put_all-put.ensures.goes.follows)
     c.retry_all-retried.ensures.tried c.retry_all-retried.ensures.waits c.retry_all-retried.ensures.others c.take_all-took.ensures.logs c.see_next-saw.ensures.logs c.command_all-commanded.ensures.logs
-    c.retry_all-retried.ensures.logs c.put_all-put.ensures.log c.hand_all-handed.ensures.forgets.stays)
+    c.retry_all-retried.ensures.logs c.put_all-put.ensures.log c.hand_all-handed.ensures.forgets.stays
+    (λ op none. more_before op (get_or c.args.self.now.ports.items op.port none) (get_or c.command_all-commanded.new.ports.items op.port none) (get_or c.hand_all-handed.new.ports.items op.port none) c.hand_all-handed.new.pauses
+    (c.command_all-commanded.ensures.count op.port none).0 (c.hand_all-handed.ensures.forgets.gone op none)))
