@@ -12,7 +12,7 @@ use Rattle.pg_run.specs.Logs.{IsCommand, IsDueRetry, IsTake, LogsLoss, LogsOnly}
 use Rattle.pg_run.specs.Pauses.{Waits, is_due, wait_of}
 use Rattle.pg_run.specs.Ports.{HandsMore, was_handed}
 use Rattle.pg_run.specs.Runs.{TurnedTo}
-use Rattle.pg_run.specs.Tries.{ComesTo, HasDone, HasRetried, HasRetriedDue, HasWanted}
+use Rattle.pg_run.specs.Tries.{ComesTo, DidInPart, HasDone, HasRetried, HasRetriedDue}
 use Rattle.pg_run.specs.Tries.{RetriedBy, SawDrained, TurnDid, is_ready_at, waits_at}
 use Rattle.pg_run.specs.declared.run.Turned.{Turned}
 use Rattle.pg_run.specs.declared.run.Turned.TheVariants.{Whole, Short}
@@ -66,10 +66,10 @@ module _ {T L I K : Type 0} {g : Ghosts T} (accepts : L → List ℕ → L → T
   -- ---- by how it went
 
   pub turn_did : (turned : Turned) (phase : Bool) (a b : NodeRun T L I K g) → turned ≡ cond phase Whole Short → (phase ≡ true → HasDone accepts gives link_moves inlet_moves a b)
-      → (phase ≡ false → HasWanted accepts gives link_moves inlet_moves a b) → TurnDid accepts gives link_moves inlet_moves turned a b
+      → (phase ≡ false → DidInPart accepts gives link_moves inlet_moves a b) → TurnDid accepts gives link_moves inlet_moves turned a b
   turn_did turned phase a b is done wanted = subst (λ t. TurnDid accepts gives link_moves inlet_moves t a b) (sym is) (go phase done wanted)
     where
-      go : (w : Bool) → (w ≡ true → HasDone accepts gives link_moves inlet_moves a b) → (w ≡ false → HasWanted accepts gives link_moves inlet_moves a b)
+      go : (w : Bool) → (w ≡ true → HasDone accepts gives link_moves inlet_moves a b) → (w ≡ false → DidInPart accepts gives link_moves inlet_moves a b)
           → TurnDid accepts gives link_moves inlet_moves (cond w Whole Short) a b
       go true done wanted = done refl
       go false done wanted = wanted refl

@@ -222,6 +222,11 @@ module _ {T L I K : Type 0} {g : Ghosts T} (accepts : L → List ℕ → L → T
   abbrev pub HasWanted : NodeRun T L I K g → NodeRun T L I K g → Type 0
   HasWanted a b = WasWanting accepts gives a.linked b.linked ⊎ LeavesAnswer (answers_of (held_by (node_of b.linked))) b.ports.items
 
+  -- It fell short: something was wanting, and yet what waited was put.
+  pub record DidInPart (a b : NodeRun T L I K g) : Type 0 where
+    pub wanted : HasWanted a b
+    pub put : HasPutAll accepts gives link_moves a.linked b.linked
+
   -- It did nothing: but for where the stop byte came all is as it was.
   pub record DidNothing (a b : NodeRun T L I K g) : Type 0 where
     pub linked : b.linked ≡ a.linked
@@ -231,10 +236,10 @@ module _ {T L I K : Type 0} {g : Ghosts T} (accepts : L → List ℕ → L → T
     pub pauses : b.pauses ≡ a.pauses
     pub busy : b.busy ≡ a.busy
 
-  -- a whole turn has done what was there to be done, in a short one something was wanting, and one that is stopped did nothing
+  -- a whole turn has done what was there to be done, a short one a part of it, and one that is stopped nothing
   abbrev pub TurnDid : Turned → NodeRun T L I K g → NodeRun T L I K g → Type 0
   TurnDid Whole a b = HasDone a b
-  TurnDid Short a b = HasWanted a b
+  TurnDid Short a b = DidInPart a b
   TurnDid Stopped a b = DidNothing a b
 
   -- How commands fared that wait: after the packets and commands that it took, and the loss that it saw if any, the turn looked at which
