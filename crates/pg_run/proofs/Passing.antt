@@ -1,11 +1,13 @@
 -- What a put and a pull have moved.
-use Rattle.std.proofs.Common.{◌≡◌, ◌<◌, ◌≤◌, ◌+◌, ◌∙◌, ℕ, get_or, take, drop, length, List, [], ◌++◌}
+use Rattle.std.proofs.Common.{◌≡◌, ◌<◌, ◌≤◌, ◌+◌, ◌∙◌, ℕ, Bool, cond, nat_eq, get_or, take, drop, length, List, [], ◌++◌}
 use Rattle.std.proofs.Common.{refl, sym, ap, subst, arith, length-append, length-drop, append-nil, inl}
 use Rattle.std.proofs.Math.Nat.{min-zero}
+use Rattle.std.proofs.Math.Path.{fun_ext}
 use Rattle.std.proofs.lemmas.Bool.{eqb-true}
 use Rattle.std.proofs.lemmas.Option.{slice_get-get_or}
 use Rattle.std.specs.Prelude.{slice_get, slice_set, IfSome, Result, Ok, Err, IfOk, OnErr}
-use Rattle.std.specs.Prelude.{true, eqb, min, Option, Some, None}
+use Rattle.std.specs.Prelude.{true, false, eqb, min, Option, Some, None}
+use Rattle.pg_group.specs.Functions.{upd}
 use Rattle.pg_node_state.specs.declared.state.fault.NodeFault.{NodeFault}
 use Rattle.pg_node.specs.Links.{Link, at_link, without_front, with_fed}
 use Rattle.pg_run.specs.declared.linked.Peer.{Peer}
@@ -41,6 +43,15 @@ pub none_put : {L I : Type 0} (moves : L → ℕ → ℕ → Type 0) → ((a : L
     → IfSome peer (λ (of : Peer L I). moves of.link (min max (length outbox)) 0)
 none_put moves idles max outbox none None = tt
 none_put moves idles max outbox none (Some of) = subst (λ n. moves of.link n 0) (sym (ap (min max) (eqb-true (length outbox) 0 none) ∙ min-zero max)) (idles of.link)
+
+-- then the link is as it was
+pub unput : (links : ℕ → Link) (k : ℕ) → links ≡ at_link k (λ l. without_front l 0) links
+unfolding upd
+unput links k = fun_ext (λ place. go place (nat_eq k place) (eqb-true k place))
+  where
+    go : (place : ℕ) (b : Bool) → (b ≡ true → k ≡ place) → links place ≡ cond b (without_front (links k) 0) (links place)
+    go place true is = ap links (sym (is refl))
+    go place false is = refl
 
 -- a put makes no mark, nor does a pull
 pub put_marks : (links links2 : ℕ → Link) (k n : ℕ) → links2 ≡ at_link k (λ l. without_front l n) links → (place : ℕ) → (links2 place).damaged ≡ (links place).damaged

@@ -14,7 +14,8 @@ use Rattle.pg_node.specs.Nodes.{held_by}
 use Rattle.pg_run.specs.declared.port.Asked.{Asked}
 use Rattle.pg_run.specs.declared.port.Port.{Port}
 use Rattle.pg_run.specs.Events.{IsRefusedAs, told_of_action}
-use Rattle.pg_run.specs.Ports.{HandsAll, HandsNoMore, HasLookedIn, IsPortServed, KeepsSame, asked, asked_kept, handed_count}
+use Rattle.pg_run.specs.Ports.{HandsAll, HandsNoMore, HasLookedIn, IsPortServed, KeepsSame}
+use Rattle.pg_run.specs.Ports.{asked, asked_kept, handed, handed_count}
 use Rattle.pg_run.specs.Served.{AreHanded, AreServed, HandNone, IsHandedAt}
 use Rattle.pg_run.specs.Served.{IsServedAt, LeavesAnswerAt, StayBut, KeepTheSame}
 use Rattle.pg_run.specs.Tries.{IsNoWant}
@@ -186,22 +187,29 @@ stays_at ports k place port2 same = subst (λ j. StayBut j ports (slice_set port
 -- ---- answers that are not handed over
 
 pub hand_none_itself : (ports : List Port) → HandNone ports ports
-hand_none_itself ports place none = refl
+hand_none_itself ports place none = (refl, refl)
 
 pub hand_none_on : (a b c : List Port) → HandNone a b → HandNone b c → HandNone a c
-hand_none_on a b c h k place none = k place none ∙ h place none
+hand_none_on a b c h k place none = ((k place none).0 ∙ (h place none).0, (k place none).1 ∙ (h place none).1)
 
-pub hand_none_at : (ports : List Port) (k : ℕ) (port port2 : Port) → k < length ports → port ≡ get_or ports k port → handed_count port2 ≡ handed_count port → HandNone ports (slice_set ports k port2)
-hand_none_at ports k port port2 within is count place none = go (cases_eq place k)
+-- what is seen of each port stays, where it does at the one that changes
+seen_still : {A : Type 0} (seen : Port → A) (ports : List Port) (k : ℕ) (port port2 : Port) → k < length ports → port ≡ get_or ports k port → seen port2 ≡ seen port
+    → (place : ℕ) (none : Port) → seen (get_or (slice_set ports k port2) place none) ≡ seen (get_or ports place none)
+seen_still seen ports k port port2 within is same place none = go (cases_eq place k)
   where
-    go : (place ≡ k) ⊎ (place ≢ k) → handed_count (get_or (slice_set ports k port2) place none) ≡ handed_count (get_or ports place none)
+    go : (place ≡ k) ⊎ (place ≢ k) → seen (get_or (slice_set ports k port2) place none) ≡ seen (get_or ports place none)
     go (inl e) =
-        subst (λ j. handed_count (get_or (slice_set ports k port2) j none) ≡ handed_count (get_or ports j none)) (sym e)
-        (ap handed_count (get_or-set_same ports k port2 none within) ∙ (count ∙ ap handed_count (is ∙ get_or_default ports k port none within)))
-    go (inr apart) = ap handed_count (get_or-set_other ports k place port2 none apart)
+        subst (λ j. seen (get_or (slice_set ports k port2) j none) ≡ seen (get_or ports j none)) (sym e)
+        (ap seen (get_or-set_same ports k port2 none within) ∙ (same ∙ ap seen (is ∙ get_or_default ports k port none within)))
+    go (inr apart) = ap seen (get_or-set_other ports k place port2 none apart)
+
+pub hand_none_at : (ports : List Port) (k : ℕ) (port port2 : Port) → k < length ports → port ≡ get_or ports k port → handed port2 ≡ handed port → handed_count port2 ≡ handed_count port
+    → HandNone ports (slice_set ports k port2)
+hand_none_at ports k port port2 within is out count place none =
+    (seen_still handed ports k port port2 within is out place none, seen_still handed_count ports k port port2 within is count place none)
 
 -- behind a stretch in which none was
 pub handed_after : (answers : ℕ → List Answer) (a b c : List Port) → length b ≡ length a → HandNone a b → AreHanded answers b c → AreHanded answers a c
 handed_after answers a b c len still handed place low small none =
-    subst (λ n. HandsNoMore (answers place) (get_or c place none) ⊎ (handed_count (get_or c place none) ≡ n + 64)) (still place none)
+    subst (λ n. HandsNoMore (answers place) (get_or c place none) ⊎ (handed_count (get_or c place none) ≡ n + 64)) (still place none).1
     (handed place (subst (λ n. place < n) (sym len) low) small none)

@@ -10,9 +10,9 @@ use Rattle.pg_run.specs.declared.run.NodeRun.{NodeRun}
 use Rattle.pg_run.specs.Follows.{log_of, node_of}
 use Rattle.pg_run.specs.Logs.{IsCommand, IsDueRetry, IsTake, LogsLoss, LogsOnly}
 use Rattle.pg_run.specs.Pauses.{Waits, is_due, wait_of}
-use Rattle.pg_run.specs.Ports.{was_handed}
+use Rattle.pg_run.specs.Ports.{HandsMore, was_handed}
 use Rattle.pg_run.specs.Runs.{TurnedTo}
-use Rattle.pg_run.specs.Tries.{ComesTo, HasDone, HasRetried, HasRetriedDue, HasWanted}
+use Rattle.pg_run.specs.Tries.{ComesTo, DidInPart, HasDone, HasRetried, HasRetriedDue}
 use Rattle.pg_run.specs.Tries.{RetriedBy, SawDrained, TurnDid, is_ready_at, waits_at}
 use Rattle.pg_run.specs.declared.run.Turned.{Turned}
 use Rattle.pg_run.specs.declared.run.Turned.TheVariants.{Whole, Short}
@@ -35,8 +35,9 @@ module _ {T L I K : Type 0} {g : Ghosts T} (accepts : L → List ℕ → L → T
       → ((op : OpId) → waits_at (node_of m) op ≡ false → wait_of between op ≡ wait_of a.pauses op)
       → LogsOnly IsTake (log_of a.linked) taken → LogsLoss lost taken seen → LogsOnly IsCommand seen (log_of m) → LogsOnly (IsDueRetry (is_ready_at (node_of m)) a.pauses between) (log_of m) (log_of n)
       → log_of b.linked ≡ log_of n → ((op : OpId) (none : Port) → was_handed op (get_or b.ports.items op.port none) ≡ false → wait_of b.pauses op ≡ wait_of between op)
+      → ((op : OpId) (none : Port) → HandsMore op (get_or a.ports.items op.port none) (get_or b.ports.items op.port none) b.pauses)
       → HasRetriedDue accepts gives link_moves inlet_moves whole a b
-  retried_due whole phase lost a b m n between taken seen is drained first retries put tried waits others takes sees commands retried still forgot = record {
+  retried_due whole phase lost a b m n between taken seen is drained first retries put tried waits others takes sees commands retried still forgot answered = record {
     lost = lost;
     drained = drained;
     middle = m;
@@ -57,6 +58,7 @@ module _ {T L I K : Type 0} {g : Ghosts T} (accepts : L → List ℕ → L → T
       retries = logs_still (IsDueRetry (is_ready_at (node_of m)) a.pauses between) (log_of m) (log_of n) (log_of b.linked) retried still;
     };
     forgot = forgot;
+    answered = answered;
   }
 
 module _ {T L I K : Type 0} {g : Ghosts T} (accepts : L → List ℕ → L → Type 0) (gives : I → List ℕ → I → Type 0) (link_moves : L → ℕ → ℕ → Type 0)
@@ -64,10 +66,10 @@ module _ {T L I K : Type 0} {g : Ghosts T} (accepts : L → List ℕ → L → T
   -- ---- by how it went
 
   pub turn_did : (turned : Turned) (phase : Bool) (a b : NodeRun T L I K g) → turned ≡ cond phase Whole Short → (phase ≡ true → HasDone accepts gives link_moves inlet_moves a b)
-      → (phase ≡ false → HasWanted accepts gives link_moves inlet_moves a b) → TurnDid accepts gives link_moves inlet_moves turned a b
+      → (phase ≡ false → DidInPart accepts gives link_moves inlet_moves a b) → TurnDid accepts gives link_moves inlet_moves turned a b
   turn_did turned phase a b is done wanted = subst (λ t. TurnDid accepts gives link_moves inlet_moves t a b) (sym is) (go phase done wanted)
     where
-      go : (w : Bool) → (w ≡ true → HasDone accepts gives link_moves inlet_moves a b) → (w ≡ false → HasWanted accepts gives link_moves inlet_moves a b)
+      go : (w : Bool) → (w ≡ true → HasDone accepts gives link_moves inlet_moves a b) → (w ≡ false → DidInPart accepts gives link_moves inlet_moves a b)
           → TurnDid accepts gives link_moves inlet_moves (cond w Whole Short) a b
       go true done wanted = done refl
       go false done wanted = wanted refl

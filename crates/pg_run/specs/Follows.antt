@@ -1,5 +1,5 @@
 -- A node that follows from another by its events, and by the bytes that its links moved.
-use Rattle.std.specs.Prelude.{◌≡◌, ◌⊎◌, ℕ, ◌+◌, ◌<◌, true, false, get_or, length, map, List, [], ◌∷◌, ◌++◌, Err}
+use Rattle.std.specs.Prelude.{◌≡◌, ◌≢◌, ◌⊎◌, ℕ, ◌+◌, ◌<◌, true, false, get_or, length, map, List, [], ◌∷◌, ◌++◌, Err}
 use Rattle.pg_group.specs.declared.table.GroupTable.{Ghosts}
 use Rattle.pg_node.specs.declared.node.Node.{Node}
 use Rattle.pg_node_state.specs.declared.state.fault.NodeFault.{NodeFault}
@@ -71,6 +71,19 @@ pub record WasClosed (place : ℕ) (acts : List Act) (outbox put outbox2 : List 
   pub dropped : List ℕ
   pub sent : first ++ dropped ≡ outbox ++ frames_sent place before
   pub silent : frames_sent place (saw ∷ after) ≡ [] → (later ≡ []) × (outbox2 ≡ [])
+
+-- ---- which links move
+
+module _ {L I : Type 0} where
+  -- of the links to the peers, and of their inlets, at most the link to the peer at a place moved
+  pub record LinkMoves (peer : ℕ) (peers peers2 : List (Peer L I)) : Type 0 where
+    pub others : (place : ℕ) (none : Peer L I) → place ≢ peer → get_or peers2 place none ≡ get_or peers place none
+    pub inlet : (none : Peer L I) → (get_or peers2 peer none).inlet ≡ (get_or peers peer none).inlet
+
+  -- at most the inlet from it moved
+  pub record InletMoves (peer : ℕ) (peers peers2 : List (Peer L I)) : Type 0 where
+    pub others : (place : ℕ) (none : Peer L I) → place ≢ peer → get_or peers2 place none ≡ get_or peers place none
+    pub link : (none : Peer L I) → (get_or peers2 peer none).link ≡ (get_or peers peer none).link
 
 -- ---- what follows
 

@@ -1,5 +1,5 @@
 -- What a clause sees of the two ends of a port.
-use Rattle.std.specs.Prelude.{◌≡◌, ◌⊎◌, ℕ, ◌<◌, ◌≤◌, ◌+◌, ◌-◌, ◌^◌, Bool, false, nat_eq}
+use Rattle.std.specs.Prelude.{◌≡◌, ◌⊎◌, ℕ, ◌<◌, ◌≤◌, ◌+◌, ◌-◌, ◌^◌, Bool, true, false, nat_eq}
 use Rattle.std.specs.Prelude.{List, [], ◌∷◌, ◌++◌, Option, Some, None, length, min, take}
 use Rattle.std.specs.List.{list_any}
 use Rattle.pg_ring.specs.Slots.{given, taken, slots_free, slots_left, AreSlots, SameSlotOut, SameSlotIn}
@@ -92,12 +92,14 @@ pub record PortRests (a b : Port) : Type 0 where
   pub handed : handed b ≡ handed a
   pub count : handed_count b ≡ handed_count a
 
--- nothing ever came, and nothing was handed over
+-- Nothing ever came, and nothing was handed over: it knows all 64 places to be free, and of no command.
 pub record IsUnused (port : Port) : Type 0 where
   pub asked : asked port ≡ []
   pub kept : asked_kept port ≡ []
   pub handed : handed port ≡ []
   pub count : handed_count port ≡ 0
+  pub free : answers_free port ≡ 64
+  pub left : commands_left port ≡ []
 
 -- what was handed over is the first of these answers
 pub record HandedOver (answers : List Answer) (port : Port) : Type 0 where
@@ -156,10 +158,19 @@ abbrev pub HandsNext : Option ℕ → Port → Port → Type 0
 HandsNext (Some number) a b = (answer : Answer) × (answer.number ≡ number) × (handed b ≡ handed a ++ answer ∷ []) × (handed_count b ≡ handed_count a + 1)
 HandsNext None a b = handed b ≡ handed a
 
--- Where answers were handed over at the port at a place: what was handed over is so still, and how any other command waits stays.
+-- More answers were handed over, or none; where one of them is to this command of the port, the command has no pause any more.
+pub record HandsMore (op : OpId) (a b : Port) (pauses2 : Pauses) : Type 0 where
+  pub more : List Answer
+  pub handed : handed b ≡ handed a ++ more
+  pub forgotten : has_number op.number more ≡ true → wait_of pauses2 op ≡ None
+
+-- Where answers were handed over at the port at a place: what was handed over is so still, and how any other command waits stays. One of
+-- which an answer was handed over has no pause any more, and none begins.
 pub record ForgetsHanded (place : ℕ) (a b : Port) (pauses pauses2 : Pauses) : Type 0 where
   pub earlier : (op : OpId) → was_handed op b ≡ false → was_handed op a ≡ false
   pub stays : (op : OpId) → (op.port ≡ place → was_handed op b ≡ false) → wait_of pauses2 op ≡ wait_of pauses op
+  pub gone : (op : OpId) → op.port ≡ place → HandsMore op a b pauses2
+  pub none : (op : OpId) → wait_of pauses op ≡ None → wait_of pauses2 op ≡ None
 
 -- ---- both
 

@@ -5,6 +5,7 @@ use Rattle.pg_group.specs.declared.table.GroupTable.{Ghosts}
 use Rattle.pg_run.specs.declared.linked.LinkedNode.{LinkedNode}
 use Rattle.pg_run.specs.declared.notices.Notice.{Notice}
 use Rattle.pg_run.specs.declared.notices.Notices.{Notices}
+use Rattle.pg_run.specs.declared.pauses.Pauses.{Pauses}
 use Rattle.pg_run.specs.declared.port.Port.{Port}
 use Rattle.pg_run.specs.declared.run.NodeRun.{NodeRun}
 use Rattle.pg_run.specs.declared.run.Turned.{Turned}
@@ -40,6 +41,10 @@ module _ {T L I K : Type 0} {g : Ghosts T} where
   -- something moved or happened in the last turn
   abbrev pub busy_of : NodeRun T L I K g → Bool
   busy_of run = run.busy
+
+  -- how its commands wait that were refused
+  abbrev pub pauses_of : NodeRun T L I K g → Pauses
+  pauses_of run = run.pauses
 
   -- Turns led from the one to the other. The losses that their acts saw are, in their order, the next of those that were told.
   pub record Runs (accepts : L → List ℕ → L → Type 0) (gives : I → List ℕ → I → Type 0) (a b : NodeRun T L I K g) : Type 0 where

@@ -1,9 +1,9 @@
 -- What a phase of a turn makes of each port.
-use Rattle.std.specs.Prelude.{◌≡◌, ◌≢◌, ◌<◌, ◌^◌, ℕ, false, get_or, length, List}
+use Rattle.std.specs.Prelude.{◌≡◌, ◌≢◌, ◌<◌, ◌^◌, ℕ, false, get_or, length, List, None}
 use Rattle.pg_run.specs.declared.pauses.Pauses.{Pauses}
 use Rattle.pg_run.specs.declared.port.Port.{Port}
 use Rattle.pg_run.specs.Pauses.{wait_of}
-use Rattle.pg_run.specs.Ports.{HandsAll, IsPortServed, KeepsSame, handed_count, was_handed}
+use Rattle.pg_run.specs.Ports.{HandsAll, HandsMore, IsPortServed, KeepsSame, handed, handed_count, was_handed}
 use Rattle.pg_step.specs.declared.answer.Answer.{Answer}
 use Rattle.pg_step.specs.declared.command.OpId.{OpId}
 
@@ -25,7 +25,8 @@ KeepTheSame ports ports2 = (place : ℕ) (none : Port) → KeepsSame (get_or por
 
 -- at no port an answer was handed over
 abbrev pub HandNone : List Port → List Port → Type 0
-HandNone ports ports2 = (place : ℕ) (none : Port) → handed_count (get_or ports2 place none) ≡ handed_count (get_or ports place none)
+HandNone ports ports2 = (place : ℕ) (none : Port)
+    → (handed (get_or ports2 place none) ≡ handed (get_or ports place none)) × (handed_count (get_or ports2 place none) ≡ handed_count (get_or ports place none))
 
 -- at the port at a place its answers were handed over as long as there was room
 abbrev pub IsHandedAt : (ℕ → List Answer) → ℕ → List Port → List Port → Type 0
@@ -45,7 +46,10 @@ pub record LeavesAnswer (answers : ℕ → List Answer) (ports : List Port) : Ty
   pub within : place < length ports
   pub left : LeavesAnswerAt answers place ports
 
--- Of all ports: what was handed over at one is so still, and how a command waits of which no answer was handed over stays.
+-- Of all ports: what was handed over at one is so still, and how a command waits of which no answer was handed over stays. One of which
+-- an answer was handed over has no pause any more, and none begins.
 pub record AllForgetHanded (ports ports2 : List Port) (pauses pauses2 : Pauses) : Type 0 where
   pub earlier : (op : OpId) (none : Port) → was_handed op (get_or ports2 op.port none) ≡ false → was_handed op (get_or ports op.port none) ≡ false
   pub stays : (op : OpId) (none : Port) → was_handed op (get_or ports2 op.port none) ≡ false → wait_of pauses2 op ≡ wait_of pauses op
+  pub gone : (op : OpId) (none : Port) → HandsMore op (get_or ports op.port none) (get_or ports2 op.port none) pauses2
+  pub none : (op : OpId) → wait_of pauses op ≡ None → wait_of pauses2 op ≡ None

@@ -27,7 +27,7 @@ use Rattle.pg_run.specs.Follows.{Follows, node_of, peers_of, log_of}
 use Rattle.pg_run.specs.Logs.{TurnLogs}
 use Rattle.pg_run.specs.Notices.{inlet_of, kept_of}
 use Rattle.pg_run.specs.Pauses.{Waits, is_due, wait_of}
-use Rattle.pg_run.specs.Ports.{was_handed}
+use Rattle.pg_run.specs.Ports.{HandsMore, was_handed}
 use Rattle.pg_run.specs.Served.{AreServed, AreHanded, LeavesAnswer}
 use Rattle.pg_step.specs.declared.command.Command.{Command}
 use Rattle.pg_step.specs.declared.command.OpId.{OpId}
@@ -222,15 +222,30 @@ module _ {T L I K : Type 0} {g : Ghosts T} (accepts : L → List ℕ → L → T
   abbrev pub HasWanted : NodeRun T L I K g → NodeRun T L I K g → Type 0
   HasWanted a b = WasWanting accepts gives a.linked b.linked ⊎ LeavesAnswer (answers_of (held_by (node_of b.linked))) b.ports.items
 
-  -- a whole turn has done what was there to be done, and in a short one something was wanting
+  -- It fell short: something was wanting, and yet what waited was put.
+  pub record DidInPart (a b : NodeRun T L I K g) : Type 0 where
+    pub wanted : HasWanted a b
+    pub put : HasPutAll accepts gives link_moves a.linked b.linked
+
+  -- It did nothing: but for where the stop byte came all is as it was.
+  pub record DidNothing (a b : NodeRun T L I K g) : Type 0 where
+    pub linked : b.linked ≡ a.linked
+    pub ports : b.ports ≡ a.ports
+    pub notices : b.notices ≡ a.notices
+    pub generator : b.generator ≡ a.generator
+    pub pauses : b.pauses ≡ a.pauses
+    pub busy : b.busy ≡ a.busy
+
+  -- a whole turn has done what was there to be done, a short one a part of it, and one that is stopped nothing
   abbrev pub TurnDid : Turned → NodeRun T L I K g → NodeRun T L I K g → Type 0
   TurnDid Whole a b = HasDone a b
-  TurnDid Short a b = HasWanted a b
-  TurnDid Stopped a b = Unit {0}
+  TurnDid Short a b = DidInPart a b
+  TurnDid Stopped a b = DidNothing a b
 
   -- How commands fared that wait: after the packets and commands that it took, and the loss that it saw if any, the turn looked at which
   -- wait. Of these a whole turn tried each that was due: ready, or its pause over. A turn passed for each of them that was not ready, and
-  -- for no other; it tried none that was not due. Then the pause of a command of which an answer was handed over may be forgotten.
+  -- for no other; it tried none that was not due. Then the pause of a command is forgotten of which the turn handed over an answer; where
+  -- none ever was it stays.
   pub record HasRetriedDue (whole : Bool) (a b : NodeRun T L I K g) : Type 0 where
     pub lost : Bool
     pub drained : lost ≡ true → SawDrained accepts gives inlet_moves a.linked b.linked
@@ -243,6 +258,7 @@ module _ {T L I K : Type 0} {g : Ghosts T} (accepts : L → List ℕ → L → T
     pub others : (op : OpId) → waits_at (node_of middle) op ≡ false → wait_of between op ≡ wait_of a.pauses op
     pub logs : TurnLogs lost (is_ready_at (node_of middle)) a.pauses between (log_of a.linked) (log_of middle) (log_of b.linked)
     pub forgot : (op : OpId) (none : Port) → was_handed op (get_or b.ports.items op.port none) ≡ false → wait_of b.pauses op ≡ wait_of between op
+    pub answered : (op : OpId) (none : Port) → HandsMore op (get_or a.ports.items op.port none) (get_or b.ports.items op.port none) b.pauses
 
   -- the same of each turn; where it is stopped no command fares
   abbrev pub RetriedBy : Turned → NodeRun T L I K g → NodeRun T L I K g → Type 0

@@ -1,7 +1,7 @@
 //! The events of a node with its links, each of which is logged.
 
 ghost use Rattle.std.specs.Prelude.{◌≡◌, ◌<◌, ◌+◌, ◌^◌, ◌++◌, [], ◌∷◌, true, false, Ok, None, Some};
-ghost use Rattle.std.specs.Prelude.{IfOk, IfErr, IfSome, OnOk, length, vec_len, vec_capacity};
+ghost use Rattle.std.specs.Prelude.{IfOk, IfErr, IfSome, OnOk, OnErr, length, vec_len, vec_capacity};
 
 use crate::held::Held;
 use crate::linked::LinkedNode;
@@ -13,7 +13,8 @@ use pg_step::{Command, OpId};
 
 impl<T: GroupTable + Drop, L: Link + Drop, I: Inlet + Drop> LinkedNode<T, L, I> {
     ghost use Rattle.pg_message.specs.Members.{IsShort};
-    ghost use Rattle.pg_node.specs.Bytes.{next_packet, is_drained};
+    ghost use Rattle.pg_node.specs.Bytes.{next_packet, is_drained, marked, closed};
+    ghost use Rattle.pg_node.specs.Links.{at_link};
     ghost use Rattle.pg_node_state.specs.Issued.{ports_of};
     ghost use Rattle.pg_node.specs.Nodes.{held_by, links_of};
     ghost use Rattle.pg_node_state.specs.States.{names_of, kept_by, state_of};
@@ -36,6 +37,9 @@ impl<T: GroupTable + Drop, L: Link + Drop, I: Inlet + Drop> LinkedNode<T, L, I> 
         ensures took { TookNext L.accepts I.gives peer result self.old self.new }
         ensures none { result ≡ Ok false → next_packet (links_of (node_of self.old) peer) ≡ Ok None }
         ensures fault { IfErr result (IsFault (told_of_peer (node_of self.old) peer)) }
+        ensures same { result ≡ Ok false → links_of (node_of self.new) ≡ links_of (node_of self.old) }
+        ensures marked { IfErr result (λ fault. links_of (node_of self.new) ≡ at_link peer (λ l. marked l fault) (links_of (node_of self.old))) }
+        ensures peers { peers_of self.new ≡ peers_of self.old }
     {
         if self.node.is_idle(peer) {
             return Ok(false);
@@ -66,6 +70,8 @@ impl<T: GroupTable + Drop, L: Link + Drop, I: Inlet + Drop> LinkedNode<T, L, I> 
         ensures acted { Acted L.accepts I.gives (Did (Issue port command)) result self.old self.new }
         ensures fault { IfErr result (λ back. IsRefusedAs (told_of_action (node_of self.old) (Issue port command)) back.0) }
         ensures back { IfErr result (λ back. back.1 ≡ command) }
+        ensures kept { OnErr result (links_of (node_of self.new) ≡ links_of (node_of self.old)) }
+        ensures peers { peers_of self.new ≡ peers_of self.old }
     {
         match Held::new(*self.log.allocator(), command) {
             Ok(command) => self.command_held(port, command),
@@ -83,6 +89,8 @@ impl<T: GroupTable + Drop, L: Link + Drop, I: Inlet + Drop> LinkedNode<T, L, I> 
         ensures acted { Acted L.accepts I.gives (Did (Issue port command)) result self.old self.new }
         ensures fault { IfErr result (λ back. IsRefusedAs (told_of_action (node_of self.old) (Issue port command)) back.0) }
         ensures back { IfErr result (λ back. back.1 ≡ command) }
+        ensures kept { OnErr result (links_of (node_of self.new) ≡ links_of (node_of self.old)) }
+        ensures peers { peers_of self.new ≡ peers_of self.old }
     {
         if self.log.reserve(1).is_err() {
             return Err((NodeFault::OutOfMemory, command.into_inner()));
@@ -107,6 +115,8 @@ impl<T: GroupTable + Drop, L: Link + Drop, I: Inlet + Drop> LinkedNode<T, L, I> 
         requires place { op.port < ports_of (held_by (node_of self.old)) }
         ensures acted { Acted L.accepts I.gives (Did (Retry op)) result self.old self.new }
         ensures fault { IfErr result (λ fault. IsRefusedAs (told_of_action (node_of self.old) (Retry op)) fault) }
+        ensures kept { OnErr result (links_of (node_of self.new) ≡ links_of (node_of self.old)) }
+        ensures peers { peers_of self.new ≡ peers_of self.old }
     {
         if self.log.reserve(1).is_err() {
             return Err(NodeFault::OutOfMemory);
@@ -133,6 +143,9 @@ impl<T: GroupTable + Drop, L: Link + Drop, I: Inlet + Drop> LinkedNode<T, L, I> 
         ensures acted { Acted L.accepts I.gives (Saw peer last) result self.old self.new }
         ensures drained { OnOk result (is_drained (links_of (node_of self.old) peer) ≡ true) }
         ensures fault { IfErr result (IsRefusedAs (told_of_loss (node_of self.old) peer last)) }
+        ensures closed { OnOk result (links_of (node_of self.new) ≡ at_link peer closed (links_of (node_of self.old))) }
+        ensures kept { OnErr result (links_of (node_of self.new) ≡ links_of (node_of self.old)) }
+        ensures peers { peers_of self.new ≡ peers_of self.old }
     {
         if self.log.reserve(1).is_err() {
             return Err(NodeFault::OutOfMemory);

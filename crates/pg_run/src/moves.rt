@@ -1,7 +1,7 @@
 //! How bytes move between a node and its links. No event happens.
 
-ghost use Rattle.std.specs.Prelude.{◌≡◌, ◌<◌, ◌≤◌, ◌+◌, ◌-◌, ◌^◌, [], true, false};
-ghost use Rattle.std.specs.Prelude.{Err, length, min, slice_get, IfOk, IfErr, IfSome};
+ghost use Rattle.std.specs.Prelude.{◌≡◌, ◌<◌, ◌≤◌, ◌+◌, ◌-◌, ◌^◌, ℕ, List, [], true, false};
+ghost use Rattle.std.specs.Prelude.{Err, length, min, slice_get, IfOk, IfErr, IfSome, OnErr};
 
 use crate::linked::LinkedNode;
 use pg_group::GroupTable;
@@ -12,7 +12,8 @@ impl<T: GroupTable + Drop, L: Link + Drop, I: Inlet + Drop> LinkedNode<T, L, I> 
     ghost use Rattle.pg_step.specs.declared.refusal.Refusal.TheVariants.{NodeLost};
     ghost use Rattle.pg_node_state.specs.declared.state.fault.NodeFault.TheVariants.{Refused, Damaged, OutOfMemory};
     ghost use Rattle.pg_node.specs.Nodes.{held_by, links_of, has_lost};
-    ghost use Rattle.pg_run.specs.Follows.{Follows, node_of, peers_of};
+    ghost use Rattle.pg_node.specs.Links.{at_link, with_fed, without_front};
+    ghost use Rattle.pg_run.specs.Follows.{Follows, InletMoves, LinkMoves, node_of, peers_of};
 
     /// Moves what waits for a peer into the link to it, as much as that takes, and returns how many bytes. `peer`:
     /// its place among the peers. Where nothing waits the link is left alone.
@@ -24,6 +25,9 @@ impl<T: GroupTable + Drop, L: Link + Drop, I: Inlet + Drop> LinkedNode<T, L, I> 
         ensures count { length (links_of (node_of self.new) peer).outbox + result ≡ length (links_of (node_of self.old) peer).outbox }
         ensures many { IfSome (slice_get (peers_of self.old) peer)
             (λ of. L.moves of.link (min (2 ^ 64 - 1) (length (links_of (node_of self.old) peer).outbox)) result) }
+        ensures rest { links_of (node_of self.new) ≡ at_link peer (λ l. without_front l result) (links_of (node_of self.old)) }
+        ensures peers { LinkMoves peer (peers_of self.old) (peers_of self.new) }
+        ensures state { held_by (node_of self.new) ≡ held_by (node_of self.old) }
     {
         if self.node.outbox(peer).is_empty() {
             return 0;
@@ -49,6 +53,12 @@ impl<T: GroupTable + Drop, L: Link + Drop, I: Inlet + Drop> LinkedNode<T, L, I> 
         ensures damaged { has_lost (held_by (node_of self.old)) peer ≡ false → (links_of (node_of self.old) peer).damaged ≡ true → result ≡ Err Damaged }
         ensures memory { has_lost (held_by (node_of self.old)) peer ≡ false → (links_of (node_of self.old) peer).damaged ≡ false
             → IfErr result (λ fault. fault ≡ OutOfMemory) }
+        ensures fed { IfOk result (λ count. (piece : List ℕ) × (length piece ≡ count)
+            × (links_of (node_of self.new) ≡ at_link peer (λ l. with_fed l piece) (links_of (node_of self.old)))) }
+        ensures peers { InletMoves peer (peers_of self.old) (peers_of self.new) }
+        ensures err { OnErr result (links_of (node_of self.new) ≡ links_of (node_of self.old)) }
+        ensures err_peers { OnErr result (peers_of self.new ≡ peers_of self.old) }
+        ensures state { held_by (node_of self.new) ≡ held_by (node_of self.old) }
     {
         let links = &mut self.peers[peer];
         self.node.pull(peer, &mut links.inlet, max)

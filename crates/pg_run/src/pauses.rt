@@ -1,7 +1,7 @@
 //! How long commands that were refused the lock wait until they are tried again.
 
 ghost use Rattle.std.specs.Prelude.{◌≡◌, ◌≢◌, ◌<◌, ◌≤◌, ℕ, length, not, slice_get};
-ghost use Rattle.std.specs.Prelude.{Some, None, IfOk, IfSome, IfNone, OnErr};
+ghost use Rattle.std.specs.Prelude.{Some, None, IsOk, IfOk, IfSome, IfNone, OnErr};
 ghost use Rattle.pg_run.specs.declared.pauses.Pause.{Pause};
 ghost use Rattle.pg_run.specs.declared.pauses.Wait.TheVariants.{Tried};
 ghost use Rattle.pg_run.specs.Pauses.{Passed, wait_of};
@@ -71,12 +71,13 @@ impl Pauses {
     /// A turn passes for a command that waits; whether it is due to be tried. Its pause is a turn shorter then, or
     /// over, by which it is due; where it has none, as where it was tried since, one begins, of 1 to 4,096 turns.
     ///
-    /// Errors: `AllocError`, by which no turn passes.
+    /// Errors: `AllocError`, by which no turn passes, and only where it has no pause yet.
     ///
     /// Cost: O(n) in the commands that have a pause; memory for one more where this one has none.
     pub fn pass<K: Rng>(&mut self, op: OpId, generator: &mut K) -> Result<bool, AllocError>
         ensures passed { IfOk result (λ due. Passed (wait_of self.old op) due (wait_of self.new op)) }
         ensures err { OnErr result (wait_of self.new op ≡ wait_of self.old op) }
+        ensures sure { wait_of self.old op ≢ None → IsOk result }
         ensures others { (other : OpId) → other ≢ op → wait_of self.new other ≡ wait_of self.old other }
     {
         match self.place_of(op) {

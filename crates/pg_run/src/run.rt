@@ -57,11 +57,13 @@ pub struct NodeRun<T: GroupTable, L: Drop, I: Drop, K: Drop> {
 }
 
 impl<T: GroupTable + Drop, L: Link + Drop, I: Inlet + Drop, K: Rng + Drop> NodeRun<T, L, I, K> {
-    ghost use Rattle.std.specs.Prelude.{[], false};
+    ghost use Rattle.std.specs.Prelude.{[], false, None};
     ghost use Rattle.pg_run.specs.Notices.{kept_of};
+    ghost use Rattle.pg_run.specs.Pauses.{wait_of};
     ghost use Rattle.pg_run.specs.Tries.{RetriedBy, TurnDid};
     ghost use Rattle.pg_run.specs.Runs.{linked_of, ports_at, stop_of, notices_at};
-    ghost use Rattle.pg_run.specs.Runs.{notices_of, generator_of, busy_of, Runs, TurnedTo};
+    ghost use Rattle.pg_run.specs.Runs.{notices_of, generator_of, busy_of, pauses_of, Runs, TurnedTo};
+    ghost use Rattle.pg_step.specs.declared.command.OpId.{OpId};
 
     /// A node that has made no turn.
     ///
@@ -82,6 +84,7 @@ impl<T: GroupTable + Drop, L: Link + Drop, I: Inlet + Drop, K: Rng + Drop> NodeR
         ensures kept { kept_of (notices_of result) ≡ [] }
         ensures generator { generator_of result ≡ generator }
         ensures busy { busy_of result ≡ false }
+        ensures pauses { (op : OpId) → wait_of (pauses_of result) op ≡ None }
     {
         NodeRun {
             linked,

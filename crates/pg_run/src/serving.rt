@@ -6,7 +6,7 @@ ghost use Rattle.pg_node.specs.Nodes.{held_by};
 ghost use Rattle.pg_node_state.specs.States.{answers_of};
 ghost use Rattle.pg_run.specs.Follows.{log_of, node_of};
 ghost use Rattle.pg_run.specs.Logs.{IsCommand, LogsOnly};
-ghost use Rattle.pg_run.specs.Ports.{IsPortServed, handed_count};
+ghost use Rattle.pg_run.specs.Ports.{IsPortServed, handed, handed_count};
 ghost use Rattle.pg_run.specs.Served.{AllForgetHanded, AreHanded, AreServed, HandNone, IsHandedAt};
 ghost use Rattle.pg_run.specs.Served.{IsServedAt, LeavesAnswer, LeavesAnswerAt, StayBut, KeepTheSame};
 ghost use Rattle.pg_run.specs.Tries.{WasWanting};
@@ -94,6 +94,7 @@ fn serve<T: GroupTable + Drop, L: Link + Drop, I: Inlet + Drop>(
     ensures served { result.whole ≡ true → IsPortServed port.old port.new }
     ensures wanting { result.whole ≡ false → WasWanting L.accepts I.gives linked.old linked.new }
     ensures count { handed_count port.new ≡ handed_count port.old }
+    ensures handed { handed port.new ≡ handed port.old }
     ensures logs { LogsOnly IsCommand (log_of linked.old) (log_of linked.new) }
 {
     match port.next() {

@@ -32,12 +32,12 @@ returns-then-phase-clause-logs g c =
 pub returns-then-phase-clause-count : goal.returns-then-phase-clause-count
 returns-then-phase-clause-count g c =
     hand_none_at c.args.ports.now.items c.from.result c.index_mut-port.result.now c.serve-phase.new.port
-    (subst (λ k. k < length c.args.ports.now.items) (sym c.from.ensures) c.requires.place) c.index_mut-port.ensures.value c.serve-phase.ensures.count
+    (subst (λ k. k < length c.args.ports.now.items) (sym c.from.ensures) c.requires.place) c.index_mut-port.ensures.value c.serve-phase.ensures.handed c.serve-phase.ensures.count
 
 pub returns-else-phase-clause-count : goal.returns-else-phase-clause-count
 returns-else-phase-clause-count g c =
     hand_none_at c.args.ports.now.items c.from.result c.index_mut-port.result.now c.serve-phase.new.port
-    (subst (λ k. k < length c.args.ports.now.items) (sym c.from.ensures) c.requires.place) c.index_mut-port.ensures.value c.serve-phase.ensures.count
+    (subst (λ k. k < length c.args.ports.now.items) (sym c.from.ensures) c.requires.place) c.index_mut-port.ensures.value c.serve-phase.ensures.handed c.serve-phase.ensures.count
 
 pub returns-then-phase-clause-wanting : goal.returns-then-phase-clause-wanting
 returns-then-phase-clause-wanting g c = λ short.

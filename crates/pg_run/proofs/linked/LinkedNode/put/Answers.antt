@@ -3,7 +3,7 @@ use Rattle.std.specs.Prelude.{true, eqb, slice_get}
 use Rattle.pg_node.specs.Nodes.{links_of}
 use Rattle.pg_run.proofs.Acting.{nothing_held}
 use Rattle.pg_run.proofs.Following.{only_moved}
-use Rattle.pg_run.proofs.Passing.{have_put, none_put, peer_holds, put_count, put_marks}
+use Rattle.pg_run.proofs.Passing.{have_put, none_put, peer_holds, put_count, put_marks, unput}
 use Rattle.pg_run.proofs.linked.LinkedNode.put.Goals as goal
 
 -- ---- nothing waits
@@ -17,6 +17,9 @@ returns-then-is_empty-clause-many g c =
     let outbox = (links_of c.args.self.now.node c.args.peer).outbox in
     let none : eqb (length outbox) 0 ≡ true = ap (λ (bytes : List ℕ). eqb (length bytes) 0) (sym c.outbox.ensures) ∙ (sym c.is_empty.ensures ∙ c.if-is_empty.true) in
     none_put g.L.Link.moves g.met.L.Link.idles (2 ^ 64 - 1) outbox none (slice_get c.args.self.now.peers.items c.args.peer)
+
+pub returns-then-is_empty-clause-rest : goal.returns-then-is_empty-clause-rest
+returns-then-is_empty-clause-rest g c = unput (links_of c.args.self.now.node) c.args.peer
 
 -- ---- something does
 

@@ -1,9 +1,10 @@
-use Rattle.std.proofs.Common.{◌+◌, Option, None, Ok, ap, arith, refl, subst}
+use Rattle.std.proofs.Common.{◌+◌, Option, None, Ok, ap, arith, refl, subst, sym}
 use Rattle.pg_node.specs.Nodes.{held_by, has_lost, links_of, TakesNext}
 use Rattle.pg_sends.specs.Dones.{FramedDone}
+use Rattle.pg_node_state.specs.declared.state.fault.NodeFault.TheVariants.{OutOfMemory}
 use Rattle.pg_node_state.specs.States.{names_of, nodes_of, state_of, answers_of}
 use Rattle.pg_opens.specs.Places.{name_at}
-use Rattle.pg_node.proofs.Events.{read_is}
+use Rattle.pg_node.proofs.Events.{read_is, unmarked}
 use Rattle.pg_run.proofs.Acting.{fault_done, log_after, nothing_done, nothing_held}
 use Rattle.pg_run.proofs.Following.{follows_itself}
 use Rattle.pg_run.proofs.Taking.{take_acts, took_fault, took_nothing, took_packet}
@@ -21,6 +22,9 @@ returns-then-is_idle-clause-none g c = λ is.
 pub returns-then-is_err-clause-took : goal.returns-then-is_err-clause-took
 returns-then-is_err-clause-took g c =
     nothing_held g.L.Link.accepts g.I.Inlet.gives g.met.L.Link.rests g.met.I.Inlet.rests c.args.self.now _ refl c.reserve.ensures.items refl refl
+
+pub returns-then-is_err-clause-marked : goal.returns-then-is_err-clause-marked
+returns-then-is_err-clause-marked g c = sym (unmarked (links_of c.args.self.now.node) c.args.peer OutOfMemory refl)
 
 pub returns-in-Ok-Some-clause-took : goal.returns-in-Ok-Some-clause-took
 returns-in-Ok-Some-clause-took g c =

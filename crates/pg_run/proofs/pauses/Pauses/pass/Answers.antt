@@ -3,7 +3,7 @@ use Rattle.std.specs.Prelude.{false}
 use Rattle.pg_run.specs.declared.pauses.Pause.{Pause}
 use Rattle.pg_run.specs.declared.pauses.Wait.TheVariants.{Turns}
 use Rattle.pg_run.specs.Pauses.{Passed, wait_in, wait_of}
-use Rattle.pg_run.proofs.Pausing.{begins_there, changes, others_pushed, passes_there}
+use Rattle.pg_run.proofs.Pausing.{begins_there, changes, others_pushed, passes_there, waits_none}
 use Rattle.pg_run.proofs.pauses.Pauses.pass.Goals as goal
 
 pub returns-in-Some-clause-passed : goal.returns-in-Some-clause-passed
@@ -28,3 +28,6 @@ returns-in_ok-reserve-in-None-clause-others g c = λ other apart.
     let next : Pause = record { op = c.args.op; refused = 1; wait = Turns c.pause_after.result } in
     let more : c.push_reserved.new.self.items ≡ c.args.self.now.entries.items ++ next ∷ [] = ◌∙◌ {A = List Pause} c.push_reserved.ensures.items (ap (λ xs. xs ++ next ∷ []) c.reserve.ensures.items) in
     ap (wait_in other) more ∙ others_pushed other c.args.self.now.entries.items next (λ e. apart (sym e))
+
+pub returns-in_err-reserve-in-None-clause-sure : goal.returns-in_err-reserve-in-None-clause-sure
+returns-in_err-reserve-in-None-clause-sure g c = λ some. absurd (some (waits_none c.args.op c.args.self.now.entries.items c.in-None.ensures.none))

@@ -1,5 +1,6 @@
-use Rattle.std.proofs.Common.{arith, inr}
-use Rattle.pg_run.proofs.Forgetting.{forgets_next, forgets_none, hands_count}
+use Rattle.std.proofs.Common.{arith, inr, subst}
+use Rattle.pg_run.specs.Ports.{HandsNext}
+use Rattle.pg_run.proofs.Forgetting.{forgets_next, forgets_none, forgets_still, hands_count}
 use Rattle.pg_run.proofs.PortsGoing.{hands_none, hands_on}
 use Rattle.pg_run.proofs.Wanting.{not_both}
 use Rattle.pg_run.proofs.port.Port.hand_all.Goals as goal
@@ -17,7 +18,7 @@ loop-preserved c =
     let was = c.loop.invariant in (
       hands_on c.args.answers.now c.args.self.now c.loop.self c.hand.new.self was.0 c.hand.ensures.hands,
       forgets_next c.args.place c.in-Ok-Some.number c.in-Ok-Some.field-0 c.args.self.now c.loop.self c.hand.new.self c.args.pauses.now c.loop.pauses c.forget.new.self c.in-Ok-Some.field-0-is
-          c.in-Ok-Some.ensures.number was.1 c.forget.ensures.others,
+          c.in-Ok-Some.ensures.number was.1 c.forget.ensures.forgotten c.forget.ensures.others,
       was.2,
       (let more = hands_count c.in-Ok-Some.number c.in-Ok-Some.field-0 c.loop.self c.hand.new.self c.in-Ok-Some.field-0-is c.in-Ok-Some.ensures.number in let count = was.3 in omega (arith, more, count)),
     )
@@ -42,3 +43,12 @@ returns-in-Ok-None-clause-left c = λ short. not_both _ c.loop.invariant.2 short
 
 pub returns-in-Err-clause-hands : goal.returns-in-Err-clause-hands
 returns-in-Err-clause-hands c = hands_on c.args.answers.now c.args.self.now c.loop.self c.hand.new.self c.loop.invariant.0 c.hand.ensures.hands
+
+pub returns-in-Ok-None-clause-forgets : goal.returns-in-Ok-None-clause-forgets
+returns-in-Ok-None-clause-forgets c =
+    forgets_still c.args.place c.args.self.now c.loop.self c.hand.new.self c.args.pauses.now c.loop.pauses c.loop.invariant.1
+    (subst (λ n. HandsNext n c.loop.self c.hand.new.self) c.in-Ok-None.field-0-is c.in-Ok-None.ensures.number)
+
+pub returns-in-Err-clause-forgets : goal.returns-in-Err-clause-forgets
+returns-in-Err-clause-forgets c =
+    forgets_still c.args.place c.args.self.now c.loop.self c.hand.new.self c.args.pauses.now c.loop.pauses c.loop.invariant.1 c.in-Err.ensures.err

@@ -1,6 +1,7 @@
-use Rattle.std.proofs.Common.{◌≡◌, [], refl, rules}
+use Rattle.std.proofs.Common.{◌≡◌, [], get_or, refl, rules}
 use Rattle.std.specs.Prelude.{true}
-use Rattle.pg_run.specs.Tries.{ComesTo}
+use Rattle.pg_run.specs.Tries.{ComesTo, HasPutAll}
+use Rattle.pg_run.proofs.Forgetting.{more_before}
 use Rattle.pg_run.proofs.GoingOn.{goes_itself, serves_going, serves_turn, notices_stay}
 use Rattle.pg_run.proofs.Served.{handed_after, served_kept_on}
 use Rattle.pg_run.proofs.Wanting.{drained_between, looked_between, pulled_still, put_after, turn_wanting}
@@ -50,6 +51,8 @@ returns-clause-did g c =
     let retried : ComesTo g.L.Link.accepts g.I.Inlet.gives e f = (c.retry_all-retried.ensures.goes.acts, c.retry_all-retried.ensures.goes.follows) in
     let put : ComesTo g.L.Link.accepts g.I.Inlet.gives f h = (c.put_all-put.ensures.goes.acts, c.put_all-put.ensures.goes.follows) in
     let later : ComesTo g.L.Link.accepts g.I.Inlet.gives d h = on d e h commanded (on e f h retried put) in
+    let all_put : HasPutAll g.L.Link.accepts g.I.Inlet.gives g.L.Link.moves a h =
+    put_after g.L.Link.accepts g.I.Inlet.gives g.met.L.Link.rests g.met.I.Inlet.rests g.met.L.Link.composes g.met.I.Inlet.composes g.L.Link.moves a f h (on a b f took (on b d f saw (on d e f commanded retried))) c.put_all-put.ensures.put in
     let fourth : c.and-phase.result.whole ≡ true → c.and-2.result.whole ≡ true = λ whole. c.and-3.ensures.first (c.and-4.ensures.first (c.and-phase.ensures.first whole)) in
     turn_did g.L.Link.accepts g.I.Inlet.gives g.L.Link.moves g.I.Inlet.moves c.turned_by.result c.and-phase.result.whole c.args.self.now _ c.turned_by.ensures
     (λ whole. record {
@@ -58,14 +61,17 @@ returns-clause-did g c =
       looked = looked_between g.L.Link.accepts g.I.Inlet.gives g.met.L.Link.rests g.met.I.Inlet.rests g.met.L.Link.composes g.met.I.Inlet.composes a b d h c.args.self.now.notices c.see_next-saw.new.notices took
           (c.see_next-saw.ensures.looked (c.and.ensures.second (c.and-2.ensures.first (fourth whole)))) later;
       served = served_kept_on p q r (c.command_all-commanded.ensures.served (c.and-2.ensures.second (fourth whole))) c.hand_all-handed.ensures.kept;
-      put = put_after g.L.Link.accepts g.I.Inlet.gives g.met.L.Link.rests g.met.I.Inlet.rests g.met.L.Link.composes g.met.I.Inlet.composes g.L.Link.moves a f h (on a b f took (on b d f saw (on d e f commanded retried))) c.put_all-put.ensures.put;
+      put = all_put;
       handed = handed_after _ p q r c.command_all-commanded.ensures.serves.served.len c.command_all-commanded.ensures.count (c.hand_all-handed.ensures.all (c.and-phase.ensures.second whole));
     })
-    (turn_wanting g.L.Link.accepts g.I.Inlet.gives g.met.L.Link.rests g.met.I.Inlet.rests g.met.L.Link.composes g.met.I.Inlet.composes c.take_all-took.result.whole c.see_next-saw.result.whole
-    c.command_all-commanded.result.whole c.retry_all-retried.result.whole c.put_all-put.result.whole c.hand_all-handed.result.whole c.and.result.whole c.and-2.result.whole c.and-3.result.whole
-    c.and-4.result.whole c.and-phase.result.whole a b d e f h _ c.and.ensures.either c.and-2.ensures.either c.and-3.ensures.either c.and-4.ensures.either c.and-phase.ensures.either
-    took saw commanded retried put c.take_all-took.ensures.wanting c.see_next-saw.ensures.wanting c.command_all-commanded.ensures.wanting c.retry_all-retried.ensures.wanting c.put_all-put.ensures.whole
-    c.hand_all-handed.ensures.left)
+    (λ short. record {
+      wanted = turn_wanting g.L.Link.accepts g.I.Inlet.gives g.met.L.Link.rests g.met.I.Inlet.rests g.met.L.Link.composes g.met.I.Inlet.composes c.take_all-took.result.whole c.see_next-saw.result.whole
+          c.command_all-commanded.result.whole c.retry_all-retried.result.whole c.put_all-put.result.whole c.hand_all-handed.result.whole c.and.result.whole c.and-2.result.whole c.and-3.result.whole
+          c.and-4.result.whole c.and-phase.result.whole a b d e f h _ c.and.ensures.either c.and-2.ensures.either c.and-3.ensures.either c.and-4.ensures.either c.and-phase.ensures.either
+          took saw commanded retried put c.take_all-took.ensures.wanting c.see_next-saw.ensures.wanting c.command_all-commanded.ensures.wanting c.retry_all-retried.ensures.wanting c.put_all-put.ensures.whole
+          c.hand_all-handed.ensures.left short;
+      put = all_put;
+    })
 
 pub returns-clause-retried : goal.returns-clause-retried
 returns-clause-retried g c =
@@ -87,4 +93,6 @@ returns-clause-retried g c =
     (λ lost. drained_between g.L.Link.accepts g.I.Inlet.gives g.met.L.Link.rests g.met.I.Inlet.rests g.met.L.Link.composes g.met.I.Inlet.composes g.I.Inlet.moves a b d h took (c.see_next-saw.ensures.drained lost) (on d e h commanded (on e f h retried put)))
     (on a b e took (on b d e saw commanded)) (c.retry_all-retried.ensures.goes.acts, c.retry_all-retried.ensures.goes.follows) (c.put_all-put.ensures.goes.acts, c.put_all-put.ensures.goes.follows)
     c.retry_all-retried.ensures.tried c.retry_all-retried.ensures.waits c.retry_all-retried.ensures.others c.take_all-took.ensures.logs c.see_next-saw.ensures.logs c.command_all-commanded.ensures.logs
-    c.retry_all-retried.ensures.logs c.put_all-put.ensures.log c.hand_all-handed.ensures.forgets.stays)
+    c.retry_all-retried.ensures.logs c.put_all-put.ensures.log c.hand_all-handed.ensures.forgets.stays
+    (λ op none. more_before op (get_or c.args.self.now.ports.items op.port none) (get_or c.command_all-commanded.new.ports.items op.port none) (get_or c.hand_all-handed.new.ports.items op.port none) c.hand_all-handed.new.pauses
+    (c.command_all-commanded.ensures.count op.port none).0 (c.hand_all-handed.ensures.forgets.gone op none)))
