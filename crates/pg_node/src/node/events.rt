@@ -129,6 +129,7 @@ impl<T: GroupTable + Drop> Node<T> {
         ensures same { OnOk result (links_of self.new ≡ links_of self.old) }
         ensures marked { IfErr result (λ fault. links_of self.new ≡ at_link peer (λ l. marked l fault) (links_of self.old)) }
         ensures state { held_by self.new ≡ held_by self.old }
+        ensures buffer { buffer_of self.new ≡ buffer_of self.old }
     {
         if self.state.is_lost(peer) {
             return Err(NodeFault::Refused(Refusal::NodeLost));
@@ -277,6 +278,7 @@ impl<T: GroupTable + Drop> Node<T> {
         ensures closed { OnOk result (links_of self.new ≡ at_link peer closed (links_of self.old)) }
         ensures kept { OnErr result (links_of self.new ≡ links_of self.old) }
         ensures stays { Stays (held_by self.old) (held_by self.new) result }
+        ensures buffer { buffer_of self.new ≡ buffer_of self.old }
     {
         if self.state.is_lost(peer) {
             return Err(NodeFault::Refused(Refusal::NodeLost));
@@ -301,7 +303,7 @@ impl<T: GroupTable + Drop> Node<T> {
     pub fn reuse(&mut self, done: Done<Framed>)
         ensures held { held_by self.new ≡ held_by self.old }
         ensures links { links_of self.new ≡ links_of self.old }
-        ensures frame { goes_out done.sends.goes ≡ true → buffer_of self.new ≡ done.sends.frame.items }
+        ensures frame { goes_out done.sends.goes ≡ true → (buffer_of self.new).items ≡ done.sends.frame.items }
         ensures none { goes_out done.sends.goes ≡ false → buffer_of self.new ≡ buffer_of self.old }
     {
         let sends = done.sends;
