@@ -46,8 +46,8 @@ impl<T: GroupTable + Drop> Node<T> {
         self.wires[peer].damaged
     }
 
-    /// Whether nothing is there to be taken of a peer yet: its loss was not seen, the link is not damaged, and no whole
-    /// frame came. `take` gives `None` exactly then.
+    /// Whether nothing is there to be taken of a peer yet: its loss was not seen, the link is not damaged, and neither a
+    /// whole frame came nor a length that is too long. `take` gives `None` exactly then.
     ///
     /// Cost: no memory.
     pub fn is_idle(&self, peer: usize) -> bool
