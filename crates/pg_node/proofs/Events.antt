@@ -28,6 +28,7 @@ use Rattle.pg_node.specs.Links.{Link, link_of, links_in, at_link, with_more}
 use Rattle.pg_node.specs.Nodes.{read_next, taken_as, taken_of, step_link, TakesNext, ComesInRoom, sent_out}
 use Rattle.pg_node_state.specs.States.{Comes}
 use Rattle.pg_sends.specs.Sent.{stamped_of}
+use Rattle.pg_opens.proofs.Named.{clash}
 use Rattle.pg_node.proofs.Linked.{one_link}
 
 -- a fault that damages nothing marks nothing
@@ -128,6 +129,15 @@ tells_ok (Err Damaged) some h = sym h
 pub read_is : (lost : Bool) (link : Link) (some : Option Packet) → read_next lost link ≡ Ok some → (lost ≡ false) × (next_packet link ≡ Ok some)
 read_is true link some e = absurd (cc)
 read_is false link some e = (refl, e)
+
+-- where its loss was seen the fault tells that
+pub lost_err : (lost : Bool) (link : Link) (fault : NodeFault) → lost ≡ true → ReadsNext (read_next lost link) (Err fault) → ◌≡◌ {A = Result (Option FramedDone) NodeFault} (Err fault) (Err (Refused NodeLost))
+lost_err true link fault is h = ap (λ (r : Result (Option Packet) NodeFault). as_none r) h
+lost_err false link fault is h = absurd (cc)
+
+-- nothing is read there
+pub lost_ok : (lost : Bool) (link : Link) (some : Option Packet) → lost ≡ true → read_next lost link ≡ Ok some → ⊥
+lost_ok lost link some is e = clash (sym is ∙ (read_is lost link some e).0)
 
 -- what the next packet of a peer leads to, by what is read
 pub step_read : (m : Nodes) (p : Name) (link : Link) (s : Timed State) → step_link m p link s ≡ taken_of m p s (read_next (s.state.lost p) link)

@@ -1,5 +1,6 @@
 -- What a node over bytes is seen as, and what an event makes of it.
 use Rattle.std.specs.Prelude.{◌≡◌, ℕ, ◌+◌, Bool, cond, List, Option, Some, None, Result, Ok, Err}
+use Rattle.bytes.specs.Filled.{Filled}
 use Rattle.pg_group.specs.declared.table.GroupTable.{Ghosts}
 use Rattle.pg_machine.specs.Clocked.{Timed}
 use Rattle.pg_message.specs.declared.packet.Packet.{Packet}
@@ -29,9 +30,9 @@ held_by node = node.state
 abbrev pub links_of : {T : Type 0} {g : Ghosts T} → Node T g → ℕ → Link
 links_of node = links_in node.wires.items
 
--- what stands in the memory for the frame of the next event
-abbrev pub buffer_of : {T : Type 0} {g : Ghosts T} → Node T g → List ℕ
-buffer_of node = node.buffer.items
+-- the memory for the frame of the next event: what stands there, and for how many more bytes it has room
+abbrev pub buffer_of : {T : Type 0} {g : Ghosts T} → Node T g → Filled
+buffer_of node = node.buffer
 
 -- the loss of the peer at a place was seen
 abbrev pub has_lost : {T : Type 0} {g : Ghosts T} → NodeState T g → ℕ → Bool

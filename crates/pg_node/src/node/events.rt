@@ -16,6 +16,8 @@ use std::mem;
 impl<T: GroupTable + Drop> Node<T> {
     ghost use Rattle.pg_opens.specs.Places.{name_at};
     ghost use Rattle.pg_step.specs.Step.{Issue, Retry, step_act, step_take};
+    ghost use Rattle.pg_step.specs.declared.refusal.Refusal.TheVariants.{NodeLost};
+    ghost use Rattle.pg_node_state.specs.declared.state.fault.NodeFault.TheVariants.{Refused};
     ghost use Rattle.pg_node.specs.Bytes.{ReadsNext, next_packet, marked, passed, closed};
     ghost use Rattle.pg_node.specs.Nodes.{held_by, links_of, has_lost, read_next, step_link};
     ghost use Rattle.pg_node.specs.Nodes.{buffer_of, taken_of, TakesNext, ComesInRoom, sent_out, step_lose};
@@ -50,6 +52,7 @@ impl<T: GroupTable + Drop> Node<T> {
         ensures fits { (done : FramedDone) → result ≡ Ok (Some done) → AreSendable (names_of (held_by self.old)) (listed_of done.sends) }
         ensures none { result ≡ Ok None → links_of self.new ≡ links_of self.old }
         ensures marked { IfErr result (λ fault. links_of self.new ≡ at_link peer (λ l. marked l fault) (links_of self.old)) }
+        ensures lost { has_lost (held_by self.old) peer ≡ true → result ≡ Err (Refused NodeLost) }
         ensures stays { Stays (held_by self.old) (held_by self.new) result }
     {
         match self.own_reply(peer) {
@@ -73,6 +76,7 @@ impl<T: GroupTable + Drop> Node<T> {
         ensures fits { (done : FramedDone) → result ≡ Ok (Some done) → AreSendable (names_of (held_by self.old)) (listed_of done.sends) }
         ensures none { result ≡ Ok None → links_of self.new ≡ links_of self.old }
         ensures marked { IfErr result (λ fault. links_of self.new ≡ at_link peer (λ l. marked l fault) (links_of self.old)) }
+        ensures lost { has_lost (held_by self.old) peer ≡ true → result ≡ Err (Refused NodeLost) }
         ensures stays { Stays (held_by self.old) (held_by self.new) result }
     {
         match self.next(peer) {
@@ -125,6 +129,7 @@ impl<T: GroupTable + Drop> Node<T> {
         ensures same { OnOk result (links_of self.new ≡ links_of self.old) }
         ensures marked { IfErr result (λ fault. links_of self.new ≡ at_link peer (λ l. marked l fault) (links_of self.old)) }
         ensures state { held_by self.new ≡ held_by self.old }
+        ensures buffer { buffer_of self.new ≡ buffer_of self.old }
     {
         if self.state.is_lost(peer) {
             return Err(NodeFault::Refused(Refusal::NodeLost));
@@ -273,6 +278,7 @@ impl<T: GroupTable + Drop> Node<T> {
         ensures closed { OnOk result (links_of self.new ≡ at_link peer closed (links_of self.old)) }
         ensures kept { OnErr result (links_of self.new ≡ links_of self.old) }
         ensures stays { Stays (held_by self.old) (held_by self.new) result }
+        ensures buffer { buffer_of self.new ≡ buffer_of self.old }
     {
         if self.state.is_lost(peer) {
             return Err(NodeFault::Refused(Refusal::NodeLost));
@@ -297,7 +303,7 @@ impl<T: GroupTable + Drop> Node<T> {
     pub fn reuse(&mut self, done: Done<Framed>)
         ensures held { held_by self.new ≡ held_by self.old }
         ensures links { links_of self.new ≡ links_of self.old }
-        ensures frame { goes_out done.sends.goes ≡ true → buffer_of self.new ≡ done.sends.frame.items }
+        ensures frame { goes_out done.sends.goes ≡ true → (buffer_of self.new).items ≡ done.sends.frame.items }
         ensures none { goes_out done.sends.goes ≡ false → buffer_of self.new ≡ buffer_of self.old }
     {
         let sends = done.sends;

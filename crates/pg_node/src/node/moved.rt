@@ -14,7 +14,7 @@ impl<T: GroupTable + Drop> Node<T> {
     ghost use Rattle.pg_step.specs.declared.refusal.Refusal.TheVariants.{NodeLost};
     ghost use Rattle.pg_node_state.specs.declared.state.fault.NodeFault.TheVariants.{Refused, Damaged, OutOfMemory};
     ghost use Rattle.pg_node.specs.Links.{at_link, with_fed, without_front};
-    ghost use Rattle.pg_node.specs.Nodes.{held_by, links_of, has_lost, read_next};
+    ghost use Rattle.pg_node.specs.Nodes.{held_by, links_of, buffer_of, has_lost, read_next};
     ghost use Rattle.pg_node_state.specs.States.{names_of};
 
     /// The node over packets.
@@ -46,8 +46,8 @@ impl<T: GroupTable + Drop> Node<T> {
         self.wires[peer].damaged
     }
 
-    /// Whether nothing is there to be taken of a peer yet: its loss was not seen, the link is not damaged, and no whole
-    /// frame came. `take` gives `None` exactly then.
+    /// Whether nothing is there to be taken of a peer yet: its loss was not seen, the link is not damaged, and neither a
+    /// whole frame came nor a length that is too long. `take` gives `None` exactly then.
     ///
     /// Cost: no memory.
     pub fn is_idle(&self, peer: usize) -> bool
@@ -71,6 +71,7 @@ impl<T: GroupTable + Drop> Node<T> {
         ensures many { L.moves link.old (min max (length (links_of self.old peer).outbox)) result }
         ensures rest { links_of self.new ≡ at_link peer (λ l. without_front l result) (links_of self.old) }
         ensures state { held_by self.new ≡ held_by self.old }
+        ensures buffer { buffer_of self.new ≡ buffer_of self.old }
     {
         let wire = &mut self.wires[peer];
         wire.put(link, max)
@@ -100,6 +101,7 @@ impl<T: GroupTable + Drop> Node<T> {
         ensures err { OnErr result (links_of self.new ≡ links_of self.old) }
         ensures err_inlet { OnErr result (inlet.new ≡ inlet.old) }
         ensures state { held_by self.new ≡ held_by self.old }
+        ensures buffer { buffer_of self.new ≡ buffer_of self.old }
     {
         if self.state.is_lost(peer) {
             return Err(NodeFault::Refused(Refusal::NodeLost));

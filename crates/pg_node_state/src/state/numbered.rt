@@ -21,8 +21,8 @@ impl<T: GroupTable + Drop> NodeState<T> {
     ghost use Rattle.pg_sends.specs.Sendable.{AreSendable};
 
     /// Takes a reply of a peer to a reference of the node itself, as `take` does where the packet says that: no packet
-    /// is built. `peer`: its place among the peers. `number`: that of the reference, as `pg_refs::reference_of` numbers
-    /// it.
+    /// is built. `peer`: its place among the peers. `stamp`: the clock that the packet has. `number`: that of the reference,
+    /// as `pg_refs::reference_of` numbers it. `said`: what the reply says.
     ///
     /// Errors: those of `take`; they change nothing.
     ///
@@ -48,8 +48,12 @@ impl<T: GroupTable + Drop> NodeState<T> {
         self.take_own_reply_as(&mut BytesMut::new(self.alloc), peer, stamp, number, said)
     }
 
-    /// The same, in the form in which the caller sends: a list of packets, or a frame, which is written in the memory of
-    /// a buffer and takes it along. What the buffer held is lost.
+    /// The same, in the form in which the caller sends: a list of packets, or a frame. `buffer`: its memory takes the frame,
+    /// where one is written; what it held is lost.
+    ///
+    /// Errors: those of `take_own_reply`. They change nothing but `buffer`, which may be left empty and without its memory.
+    ///
+    /// Cost: that of `take_own_reply`; a frame takes memory only where `buffer` has too little.
     pub fn take_own_reply_as<S: Outgoing + Drop>(
         &mut self,
         buffer: &mut BytesMut,

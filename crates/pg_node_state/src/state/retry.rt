@@ -41,8 +41,12 @@ impl<T: GroupTable + Drop> NodeState<T> {
         self.retry_as(&mut BytesMut::new(self.alloc), op)
     }
 
-    /// The same, in the form in which the caller sends: a list of packets, or a frame, which is written in the memory of
-    /// a buffer and takes it along. What the buffer held is lost.
+    /// The same, in the form in which the caller sends: a list of packets, or a frame. `buffer`: its memory takes the frame,
+    /// where one is written; what it held is lost.
+    ///
+    /// Errors: those of `retry`. They change nothing but `buffer`, which may be left empty and without its memory.
+    ///
+    /// Cost: that of `retry`; a frame takes memory only where `buffer` has too little.
     pub fn retry_as<S: Outgoing + Drop>(
         &mut self,
         buffer: &mut BytesMut,

@@ -45,8 +45,12 @@ impl<T: GroupTable + Drop> NodeState<T> {
         self.take_as(&mut BytesMut::new(self.alloc), peer, packet)
     }
 
-    /// The same, in the form in which the caller sends: a list of packets, or a frame, which is written in the memory of
-    /// a buffer and takes it along. What the buffer held is lost.
+    /// The same, in the form in which the caller sends: a list of packets, or a frame. `buffer`: its memory takes the frame,
+    /// where one is written; what it held is lost.
+    ///
+    /// Errors: those of `take`. They change nothing but `buffer`, which may be left empty and without its memory.
+    ///
+    /// Cost: that of `take`; a frame takes memory only where `buffer` has too little.
     pub fn take_as<S: Outgoing + Drop>(
         &mut self,
         buffer: &mut BytesMut,
@@ -111,8 +115,12 @@ impl<T: GroupTable + Drop> NodeState<T> {
         self.take_owned_as(&mut BytesMut::new(self.alloc), peer, packet)
     }
 
-    /// The same, in the form in which the caller sends: a list of packets, or a frame, which is written in the memory of
-    /// a buffer and takes it along. What the buffer held is lost.
+    /// The same, in the form in which the caller sends: a list of packets, or a frame. `buffer`: its memory takes the frame,
+    /// where one is written; what it held is lost.
+    ///
+    /// Errors: those of `take_owned`. They change nothing but `buffer`, which may be left empty and without its memory.
+    ///
+    /// Cost: that of `take_owned`; a frame takes memory only where `buffer` has too little.
     pub fn take_owned_as<S: Outgoing + Drop>(
         &mut self,
         buffer: &mut BytesMut,
@@ -194,6 +202,10 @@ impl<T: GroupTable + Drop> NodeState<T> {
     }
 
     /// The same, in the form in which the caller sends: a list of packets, or a frame.
+    ///
+    /// Errors: those of `see_loss`. They change nothing.
+    ///
+    /// Cost: that of `see_loss`.
     pub fn see_loss_as<S: Outgoing + Drop>(
         &mut self,
         peer: usize,

@@ -20,6 +20,7 @@ returns g c =
       many = subst (λ (link : Link). g.L.Link.moves c.args.link.now (min c.args.max (length link.outbox)) count) (sym here) c.put.ensures.many;
       rest = one_link wires c.args.peer wire c.put.new.self (λ link. without_front link count) within c.index_mut-wire.ensures.value c.put.ensures.rest;
       state = refl;
+      buffer = refl;
     }
 
 pub invariant_of-self : goal.invariant_of-self

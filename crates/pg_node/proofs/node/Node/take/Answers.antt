@@ -12,7 +12,7 @@ use Rattle.pg_node.specs.Nodes.{has_lost, taken_of, TakesNext, sent_out}
 use Rattle.pg_sends.specs.Sendable.{AreSendable}
 use Rattle.pg_node_state.specs.States.{names_of, nodes_of, state_of, answers_of}
 use Rattle.pg_sends.specs.Sent.{stamped_of}
-use Rattle.pg_node.proofs.Events.{same_done, takes_ok, takes_err, read_is, step_read}
+use Rattle.pg_node.proofs.Events.{same_done, takes_ok, takes_err, read_is, lost_ok, step_read}
 use Rattle.pg_node.proofs.node.Node.take.Goals as goal
 
 pub take_own_reply-requires-clause-next : goal.take_own_reply-requires-clause-next
@@ -54,3 +54,13 @@ returns-in-Ok-clause-small g c = λ done is. let same = same_done c.in-Ok.done d
 
 pub returns-in-Ok-clause-fits : goal.returns-in-Ok-clause-fits
 returns-in-Ok-clause-fits g c = λ done is. let same = same_done c.in-Ok.done done is in subst (λ (d : FramedDone). AreSendable (names_of c.args.self.now.state) (listed_of d.sends)) same c.in-Ok.ensures.fits
+
+pub returns-in-Ok-clause-lost : goal.returns-in-Ok-clause-lost
+returns-in-Ok-clause-lost g c = λ gone.
+    let old = c.args.self.now in
+    absurd (lost_ok (has_lost old.state c.args.peer) (links_in old.wires.items c.args.peer) (Some (own_reply (name_at (names_of old.state) 0) c.in-Some.reply)) gone c.in-Some.ensures)
+
+pub returns-in-Err-clause-lost : goal.returns-in-Err-clause-lost
+returns-in-Err-clause-lost g c = λ gone.
+    let old = c.args.self.now in
+    absurd (lost_ok (has_lost old.state c.args.peer) (links_in old.wires.items c.args.peer) (Some (own_reply (name_at (names_of old.state) 0) c.in-Some.reply)) gone c.in-Some.ensures)

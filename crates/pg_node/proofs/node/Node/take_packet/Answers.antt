@@ -9,7 +9,7 @@ use Rattle.pg_node.specs.Nodes.{has_lost, read_next, step_link, taken_of, TakesN
 use Rattle.pg_sends.specs.Sendable.{AreSendable}
 use Rattle.pg_node_state.specs.States.{names_of, nodes_of, state_of, answers_of, Stays}
 use Rattle.pg_sends.specs.Framed.{listed_of}
-use Rattle.pg_node.proofs.Events.{tells_ok, next_err, read_is, step_read}
+use Rattle.pg_node.proofs.Events.{tells_ok, next_err, read_is, lost_ok, lost_err, step_read}
 use Rattle.pg_node.proofs.node.Node.take_packet.Goals as goal
 
 pub take_next-requires-clause-few : goal.take_next-requires-clause-few
@@ -63,3 +63,13 @@ returns-in-Ok-clause-stays g c = subst (λ s. Stays s c.take_next.new.self.state
 
 pub returns-in-Ok-clause-fits : goal.returns-in-Ok-clause-fits
 returns-in-Ok-clause-fits g c = λ done is. subst (λ s. AreSendable (names_of s) (listed_of done.sends)) c.next.ensures.state (c.take_next.ensures.fits done is)
+
+pub returns-in-Ok-clause-lost : goal.returns-in-Ok-clause-lost
+returns-in-Ok-clause-lost g c = λ gone.
+    let old = c.args.self.now in
+    absurd (lost_ok (has_lost old.state c.args.peer) (links_in old.wires.items c.args.peer) c.in-Ok.next gone (tells_ok _ c.in-Ok.next c.in-Ok.ensures.told))
+
+pub returns-in-Err-clause-lost : goal.returns-in-Err-clause-lost
+returns-in-Err-clause-lost g c = λ gone.
+    let old = c.args.self.now in
+    lost_err (has_lost old.state c.args.peer) (links_in old.wires.items c.args.peer) c.in-Err.fault gone c.in-Err.ensures.told
