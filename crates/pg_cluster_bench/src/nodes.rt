@@ -7,13 +7,15 @@ mod said;
 
 use crate::commands::command;
 use linked::OverBytes;
+use made::OWN;
 use packets::OverPackets;
 use pg_figures::{Change, Groups, Watch, head, number, pid, report, say, word};
 use pg_message::{Packet, Said};
+use pg_refs::{RefFault, RefSource};
 use pg_step::Command;
-use pg_term::{Reference, Term, TermFault};
+use pg_term::{Atom, Term, TermFault};
 use said::{calls, no_groups, replies};
-use std::alloc::{AllocError, Global};
+use std::alloc::Global;
 
 /// The node `a`, whose peers `b` and `c` are played.
 trait Player: Drop {
@@ -26,11 +28,14 @@ trait Player: Drop {
     /// These packets, as they come in.
     fn load(alloc: Global, packets: Vec<Packet>) -> Option<Self::Load>;
 
-    /// Takes packets of a peer, and keeps the first call that is sent for each; whether all were taken.
-    fn take(&mut self, peer: usize, load: &Self::Load, calls: &mut Vec<Reference>) -> bool;
+    /// Takes packets of a peer; whether all were taken.
+    fn take(&mut self, peer: usize, load: &Self::Load) -> bool;
 
-    /// Gives commands at the port, and keeps the first call that is sent for each; whether all were taken.
-    fn ask(&mut self, commands: &[Command], calls: &mut Vec<Reference>) -> bool;
+    /// Gives commands at the port; whether all were taken.
+    fn ask(&mut self, commands: &[Command]) -> bool;
+
+    /// How many commands of the port are answered.
+    fn answered(&self) -> usize;
 }
 
 // Packets that were made, as they come in.
@@ -42,12 +47,10 @@ fn loaded<P: Player, E: Drop>(alloc: Global, packets: Result<Vec<Packet>, E>) ->
 }
 
 // Packets of a peer are taken, where they could be made; whether they were.
-fn feed<P: Player>(alloc: Global, player: &mut P, peer: usize, load: Option<P::Load>) -> bool {
+fn feed<P: Player>(player: &mut P, peer: usize, load: Option<P::Load>) -> bool {
     match load {
         Some(load) => {
-            let mut calls = Vec::new(alloc);
-            let is_taken = player.take(peer, &load, &mut calls);
-            drop(calls);
+            let is_taken = player.take(peer, &load);
             drop(load);
             is_taken
         }
@@ -59,7 +62,7 @@ fn feed<P: Player>(alloc: Global, player: &mut P, peer: usize, load: Option<P::L
 fn form<P: Player>(alloc: Global, player: &mut P) -> bool {
     let one = loaded::<P, TermFault>(alloc, no_groups(alloc, "b"));
     let other = loaded::<P, TermFault>(alloc, no_groups(alloc, "c"));
-    feed(alloc, player, 0, one) && feed(alloc, player, 1, other)
+    feed(player, 0, one) && feed(player, 1, other)
 }
 
 // So many calls of b, as they come in.
@@ -81,7 +84,7 @@ fn change<P: Player>(
     count: u32,
 ) -> bool {
     let load = calls_of::<P>(alloc, change, groups, count);
-    feed(alloc, player, 0, load)
+    feed(player, 0, load)
 }
 
 /// What a peer asks for, in this order.
@@ -100,7 +103,7 @@ fn updates<P: Player>(rt: &HostRuntime, player: &mut P, count: u32) -> bool {
         head(rt, u64::from(count), groups.name());
         let load = calls_of::<P>(rt.alloc(), change, groups, count);
         let watch = Watch::begin(rt);
-        is_done = feed(rt.alloc(), player, 0, load) && is_done;
+        is_done = feed(player, 0, load) && is_done;
         report(rt, change.name(), u64::from(count), 0, watch);
     }
     is_done
@@ -114,10 +117,9 @@ fn query<P: Player>(
     commands: &[Command],
     count: u32,
 ) -> bool {
-    let mut calls = Vec::new(rt.alloc());
     let watch = Watch::begin(rt);
     for _ in 0..count {
-        if !player.ask(commands, &mut calls) {
+        if !player.ask(commands) {
             return false;
         }
     }
@@ -161,37 +163,35 @@ fn queries<P: Player>(rt: &HostRuntime, player: &mut P, count: u32) -> bool {
         )
 }
 
-// Both peers say this to each of these calls, the greatest first; then the calls are those that follow.
-fn reply<P: Player>(alloc: Global, player: &mut P, calls: &mut Vec<Reference>, said: Said) -> bool {
-    match loaded::<P, AllocError>(alloc, replies(alloc, calls, said)) {
+// Both peers say this to the next so many calls of the node, the greatest first. They know its references, which it numbers in turn.
+fn reply<P: Player>(
+    alloc: Global,
+    player: &mut P,
+    references: &mut RefSource,
+    count: usize,
+    said: Said,
+) -> bool {
+    match loaded::<P, RefFault>(alloc, replies(alloc, references, count, said)) {
         Some(load) => {
-            let is_first_taken = player.take(1, &load, calls);
-            calls.clear();
-            let is_taken = player.take(0, &load, calls);
+            let is_taken = player.take(1, &load) && player.take(0, &load);
             drop(load);
-            is_first_taken && is_taken
+            is_taken
         }
         None => false,
     }
 }
 
-// Changes of the node that are open at once, each of another group: its commands, and what both peers reply. How many.
+// Changes of the node that are open at once, each of another group: its commands, and what both peers reply. Each has a reference
+// for its lock, and then one for its update.
 fn changed<P: Player>(
     alloc: Global,
     player: &mut P,
+    references: &mut RefSource,
     commands: &[Command],
-    calls: &mut Vec<Reference>,
-) -> u64 {
-    calls.clear();
-    if !player.ask(commands, calls) || !reply(alloc, player, calls, Said::Granted) {
-        return 0;
-    }
-    let made = calls.len() as u64;
-    if reply(alloc, player, calls, Said::Applied) {
-        made
-    } else {
-        0
-    }
+) -> bool {
+    player.ask(commands)
+        && reply(alloc, player, references, commands.len(), Said::Granted)
+        && reply(alloc, player, references, commands.len(), Said::Applied)
 }
 
 // Commands that ask for the change, each of another group.
@@ -208,40 +208,55 @@ fn commands(alloc: Global, change: Change, count: u32) -> Result<Vec<Command>, T
 fn change_in_turn<P: Player>(
     rt: &HostRuntime,
     player: &mut P,
-    joins: &[Command],
-    leaves: &[Command],
+    references: &mut RefSource,
+    commands: (&[Command], &[Command]),
     rounds: u32,
-) {
-    let mut calls = Vec::new(rt.alloc());
-    let mut made = 0_u64;
+) -> bool {
+    let before = player.answered();
     let watch = Watch::begin(rt);
     for round in 0..rounds {
-        let commands = if round % 2 == 0 { joins } else { leaves };
-        made = made.saturating_add(changed(rt.alloc(), player, commands, &mut calls));
+        let commands = if round % 2 == 0 {
+            commands.0
+        } else {
+            commands.1
+        };
+        if !changed(rt.alloc(), player, references, commands) {
+            return false;
+        }
     }
-    report(rt, "own changes", made, 0, watch);
+    let answered = player.answered().saturating_sub(before) as u64;
+    report(rt, "own changes", answered, 0, watch);
+    true
 }
 
 // Joins by these commands and leaves in turn.
 fn join_and_leave<P: Player>(
     rt: &HostRuntime,
     player: &mut P,
+    references: &mut RefSource,
     joins: &[Command],
     count: u32,
     open: u32,
 ) -> bool {
     match commands(rt.alloc(), Change::Leave, open) {
         Ok(leaves) => {
-            change_in_turn(rt, player, joins, &leaves, count / open.max(1));
+            let rounds = count / open.max(1);
+            let is_done = change_in_turn(rt, player, references, (joins, &leaves), rounds);
             drop(leaves);
-            true
+            is_done
         }
         Err(_) => false,
     }
 }
 
 // Changes of the node's own, so many open at once.
-fn own_changes<P: Player>(rt: &HostRuntime, player: &mut P, count: u32, open: u32) -> bool {
+fn own_changes<P: Player>(
+    rt: &HostRuntime,
+    player: &mut P,
+    references: &mut RefSource,
+    count: u32,
+    open: u32,
+) -> bool {
     head(
         rt,
         u64::from(open),
@@ -249,7 +264,7 @@ fn own_changes<P: Player>(rt: &HostRuntime, player: &mut P, count: u32, open: u3
     );
     match commands(rt.alloc(), Change::Join, open) {
         Ok(joins) => {
-            let is_done = join_and_leave(rt, player, &joins, count, open);
+            let is_done = join_and_leave(rt, player, references, &joins, count, open);
             drop(joins);
             is_done
         }
@@ -258,9 +273,15 @@ fn own_changes<P: Player>(rt: &HostRuntime, player: &mut P, count: u32, open: u3
 }
 
 fn changes<P: Player>(rt: &HostRuntime, player: &mut P, count: u32) -> bool {
-    change(rt.alloc(), player, Change::Create, Groups::Own, 64)
-        && own_changes(rt, player, count, 1)
-        && own_changes(rt, player, count, 64)
+    let Ok(own) = Atom::new(rt.alloc(), OWN) else {
+        return false;
+    };
+    let mut references = RefSource::new(own);
+    let is_done = change(rt.alloc(), player, Change::Create, Groups::Own, 64)
+        && own_changes(rt, player, &mut references, count, 1)
+        && own_changes(rt, player, &mut references, count, 64);
+    drop(references);
+    is_done
 }
 
 // Which figures of a node.

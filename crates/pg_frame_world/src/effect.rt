@@ -2,7 +2,7 @@ ghost use Rattle.std.specs.Prelude.{◌≡◌};
 ghost use Rattle.pg_frame_world.specs.Effects.{effect_by, no_effect, op_of};
 
 use pg_group::Update;
-use pg_node_state::{Done, Outgoing};
+use pg_node_state::{Done, Held, Outgoing};
 use pg_step::{Odd, OpId};
 
 /// What an event did beside its change of the node that made it.
@@ -45,11 +45,11 @@ impl Effect {
 }
 
 /// The command that began.
-fn op_of(began: &Option<(OpId, Update)>) -> Option<OpId>
+fn op_of(began: &Option<Held<(OpId, Update)>>) -> Option<OpId>
     ensures { result ≡ op_of began.now }
 {
     match began {
-        Some(begun) => Some(begun.0),
+        Some(begun) => Some(begun.get().0),
         None => None,
     }
 }

@@ -10,7 +10,7 @@ ghost use Rattle.pg_sends.specs.Sent.{stamped_of};
 use crate::way::Way;
 use pg_group::Update;
 use pg_message::Packet;
-use pg_node_state::Done;
+use pg_node_state::{Done, Held};
 use pg_step::OpId;
 use std::alloc::{AllocError, Global};
 use std::collections::VecDeque;
@@ -117,7 +117,7 @@ impl Ways {
             let way = &mut self.ways[sent.0];
             way.send(sent.1);
         }
-        done.began
+        Held::unpack(done.began)
     }
 
     /// The first packet on the way to a peer, if there is one. `peer`: its place among the peers.

@@ -8,6 +8,6 @@
 mod node;
 
 pub use node::Node;
-pub use pg_node_state::{Done, Framed, Goes, NodeConfig, NodeFault, NodeState, Outgoing};
+pub use pg_node_state::{Done, Framed, Goes, Held, NodeConfig, NodeFault, NodeState, Outgoing};
 pub use pg_replica::{AnyReader, AnyWriter, ServeFault, Sink, Source, serve};
 pub use pg_step::{Answer, Command, Odd, OpId, Reply};

@@ -6,5 +6,5 @@
 
 mod state;
 
-pub use pg_sends::{Done, Framed, Goes, Outgoing, write_small};
+pub use pg_sends::{Done, Framed, Goes, Held, Outgoing, write_small};
 pub use state::{NodeConfig, NodeFault, NodeState, started};

@@ -3,12 +3,12 @@
 ghost use Rattle.std.specs.Prelude.{◌≡◌, ◌<◌, ◌+◌, ◌^◌, ◌++◌, [], ◌∷◌, true, false, Ok, None, Some};
 ghost use Rattle.std.specs.Prelude.{IfOk, IfErr, IfSome, OnOk, OnErr, length, vec_len, vec_capacity};
 
-use crate::held::Held;
 use crate::linked::LinkedNode;
 use crate::log::NodeEvent;
 use pg_group::GroupTable;
 use pg_node::NodeFault;
 use pg_ring::{Inlet, Link};
+use pg_sends::Held;
 use pg_step::{Command, OpId};
 
 impl<T: GroupTable + Drop, L: Link + Drop, I: Inlet + Drop> LinkedNode<T, L, I> {

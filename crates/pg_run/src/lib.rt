@@ -5,7 +5,6 @@
 #![tactic(auto)]
 
 mod events;
-mod held;
 mod linked;
 mod log;
 mod losses;
@@ -20,10 +19,10 @@ mod run;
 mod running;
 mod serving;
 
-pub use held::Held;
 pub use linked::{LinkedNode, Peer};
 pub use log::{LogEntry, NodeEvent};
 pub use notices::{NOTICE_PLACES, Notice};
+pub use pg_sends::Held;
 pub use pauses::Pauses;
 pub use port::{Asked, Client, PORT_PLACES, Port};
 pub use ports::{port_pair, ports_together};

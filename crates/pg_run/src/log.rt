@@ -1,6 +1,6 @@
 //! What a node keeps of its events.
 
-use crate::held::Held;
+use pg_sends::Held;
 use pg_step::{Command, OpId};
 
 /// An event of one node.

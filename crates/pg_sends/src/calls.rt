@@ -19,6 +19,7 @@ ghost use Rattle.pg_message.specs.Name.{is_name};
 ghost use Rattle.pg_message.specs.declared.packet.TheConstants.{MAX_STAMP};
 
 use crate::done::Done;
+use crate::held::Held;
 use crate::orders::{Order, own_under};
 use crate::outgoing::Outgoing;
 use crate::sends::{to_asked, to_granted, to_live};
@@ -105,11 +106,31 @@ pub fn begun<S: Outgoing + Drop>(
     let update = update_under(opens, number);
     let call = own_under(opens, opens.references() + 1);
     let sends = to_live(alloc, buffer, clock, Order::Change(update, call), opens)?;
-    match update.copy(alloc) {
-        Ok(update) => Ok(done_with(sends, Some((op, update)))),
+    match began(alloc, op, update) {
+        Ok(began) => Ok(done_with(sends, Some(began))),
         Err(fault) => {
             drop(sends);
             Err(fault)
+        }
+    }
+}
+
+/// A command, and a copy of its update.
+///
+/// Errors: `AllocError`.
+pub(crate) fn began(
+    alloc: Global,
+    op: OpId,
+    update: &Update,
+) -> Result<Held<(OpId, Update)>, AllocError>
+    ensures { IfOk result (λ began. began ≡ (op, update.now)) }
+{
+    let update = update.copy(alloc)?;
+    match Held::new(alloc, (op, update)) {
+        Ok(began) => Ok(began),
+        Err(back) => {
+            drop(back);
+            Err(AllocError)
         }
     }
 }
@@ -142,7 +163,7 @@ pub fn ended<S: Outgoing + Drop>(
 }
 
 /// What a turn sends, with no odd reply.
-pub fn done_with<S: Outgoing + Drop>(sends: S, began: Option<(OpId, Update)>) -> Done<S>
+pub fn done_with<S: Outgoing + Drop>(sends: S, began: Option<Held<(OpId, Update)>>) -> Done<S>
     ensures sends { S.listed result.sends ≡ S.listed sends }
     ensures began { result.began ≡ began }
     ensures odd { result.odd ≡ None }

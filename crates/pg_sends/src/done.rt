@@ -1,5 +1,6 @@
 ghost use Rattle.std.specs.Prelude.{◌≡◌, ◌≤◌, length};
 
+use crate::held::Held;
 use crate::outgoing::Outgoing;
 use pg_group::Update;
 use pg_message::Packet;
@@ -11,8 +12,8 @@ use std::alloc::Global;
 pub struct Done<S: Outgoing = Vec<(usize, Packet)>> {
     /// The packets that it sends, each to a peer by its place among the peers.
     pub sends: S,
-    /// The command that got its last grant, with its update.
-    pub began: Option<(OpId, Update)>,
+    /// The command that got its last grant, with its update, in a block of their own.
+    pub began: Option<Held<(OpId, Update)>>,
     /// A reply that completed nothing.
     pub odd: Option<Odd>,
     ghost counted: { 0 ≤ length (S.listed sends) },

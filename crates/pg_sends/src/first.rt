@@ -18,7 +18,7 @@ ghost use Rattle.pg_message.specs.declared.packet.TheConstants.{MAX_STAMP};
 ghost use Rattle.pg_sends.specs.Sendable.{AreSendable};
 ghost use Rattle.pg_sends.specs.Sent.{sends_in};
 
-use crate::calls::done_with;
+use crate::calls::{began, done_with};
 use crate::done::Done;
 use crate::orders::{Order, own_under};
 use crate::outgoing::Outgoing;
@@ -100,10 +100,10 @@ pub fn began_alone<S: Outgoing + Drop>(
     ensures odd { IfOk result (λ done. done.odd ≡ None) }
     ensures fits { (names : List Node) → IfOk result (λ done. AreSendable names (S.listed done.sends)) }
 {
-    let update = waiting_under(opens, op).copy(alloc)?;
+    let began = began(alloc, op, waiting_under(opens, op))?;
     Ok(Done {
         sends: S::nothing(alloc),
-        began: Some((op, update)),
+        began: Some(began),
         odd: None,
     })
 }

@@ -26,7 +26,7 @@ use pg_group::GroupTable;
 use pg_history::nobody_is_harmed;
 use pg_loss::no_packet_is_refused;
 use pg_message::Packet;
-use pg_node::{Node, NodeFault};
+use pg_node::{Held, Node, NodeFault};
 use pg_step::{Command, OpId, Refusal};
 pub use runs::run;
 use std::alloc::{AllocError, Global};
@@ -379,7 +379,7 @@ impl<T: GroupTable + Drop> ByteNodes<T> {
             Ok(done) => {
                 let effect = Effect::of(&done);
                 self.histories.serve(node, packet);
-                self.histories.begin(node, done.began);
+                self.histories.begin(node, Held::unpack(done.began));
                 Ok(Stepped::Happened(effect))
             }
             Err(fault) => Err(fault),
@@ -403,7 +403,7 @@ impl<T: GroupTable + Drop> ByteNodes<T> {
         match state.command(port, command) {
             Ok(done) => {
                 let effect = Effect::of(&done);
-                self.histories.begin(node, done.began);
+                self.histories.begin(node, Held::unpack(done.began));
                 Ok(Stepped::Happened(effect))
             }
             Err(fault) => Err(fault),
@@ -427,7 +427,7 @@ impl<T: GroupTable + Drop> ByteNodes<T> {
         match state.retry(op) {
             Ok(done) => {
                 let effect = Effect::of(&done);
-                self.histories.begin(node, done.began);
+                self.histories.begin(node, Held::unpack(done.began));
                 Ok(Stepped::Happened(effect))
             }
             Err(fault) => Err(fault),

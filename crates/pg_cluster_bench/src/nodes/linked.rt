@@ -1,15 +1,13 @@
 //! A node between two rings of bytes.
 
 use crate::nodes::Player;
-use crate::nodes::made::{keep_if_call, new_state};
+use crate::nodes::made::{answered, new_state};
 use bytes::BytesMut;
 use pg_index::IndexTable;
 use pg_message::Packet;
 use pg_node::{Done, Framed, Node, NodeFault};
-use pg_reader::read_packet;
 use pg_ring::{Inlet, Link, MemRing, RingFault};
 use pg_step::Command;
-use pg_term::Reference;
 use pg_writer::write_packet_into;
 use std::alloc::{AllocError, Global};
 
@@ -21,7 +19,6 @@ const RING: usize = 65_536;
 pub struct OverBytes {
     node: Node<IndexTable>,
     rings: Rings,
-    alloc: Global,
 }
 
 /// A ring to a node and one from it, and what is read of the second.
@@ -45,21 +42,6 @@ fn opened(alloc: Global) -> Option<Node<IndexTable>> {
     match new_state(alloc) {
         Ok(state) => Node::opened(alloc, state).ok(),
         Err(_) => None,
-    }
-}
-
-// Keeps the call of a frame, if it is one; whether there was memory for it.
-fn is_call_kept(alloc: Global, frame: &[u8], calls: &mut Vec<Reference>) -> bool {
-    if frame.len() < 4 {
-        return true;
-    }
-    match read_packet(alloc, &frame[4..]) {
-        Ok(packet) => {
-            let is_kept = keep_if_call(&packet, calls);
-            drop(packet);
-            is_kept
-        }
-        Err(_) => false,
     }
 }
 
@@ -89,13 +71,6 @@ impl OverBytes {
             && self.node.pull(peer, &mut self.rings.to, RING).is_ok()
     }
 
-    // Keeps the first call that is sent by an event, if one is, and gives the event back; whether there was memory.
-    fn is_kept(&mut self, done: Done<Framed>, calls: &mut Vec<Reference>) -> bool {
-        let is_kept = is_call_kept(self.alloc, done.sends.frame(), calls);
-        self.node.reuse(done);
-        is_kept
-    }
-
     fn taken(&mut self, peer: usize) -> Result<Option<Done<Framed>>, NodeFault> {
         if peer < self.node.state().peer_count() {
             self.node.take(peer)
@@ -104,15 +79,11 @@ impl OverBytes {
         }
     }
 
-    // Takes the whole frames that have come of a peer, and keeps the first call that is sent for each.
-    fn take_all(&mut self, peer: usize, calls: &mut Vec<Reference>) -> bool {
+    // Takes the whole frames that have come of a peer; whether none was refused.
+    fn take_all(&mut self, peer: usize) -> bool {
         for _ in 0..10_000 {
             match self.taken(peer) {
-                Ok(Some(done)) => {
-                    if !self.is_kept(done, calls) {
-                        return false;
-                    }
-                }
+                Ok(Some(done)) => self.node.reuse(done),
                 Ok(None) => return true,
                 Err(_) => return false,
             }
@@ -120,12 +91,17 @@ impl OverBytes {
         false
     }
 
-    // Gives a command at the port.
-    fn given(&mut self, command: &Command) -> Option<Done<Framed>> {
-        if self.node.state().port_count() == 1 {
-            self.node.command(0, command).ok()
-        } else {
-            None
+    // Gives a command at the port; whether it was taken.
+    fn is_given(&mut self, command: &Command) -> bool {
+        if self.node.state().port_count() != 1 {
+            return false;
+        }
+        match self.node.command(0, command) {
+            Ok(done) => {
+                self.node.reuse(done);
+                true
+            }
+            Err(_) => false,
         }
     }
 }
@@ -138,7 +114,7 @@ impl Player for OverBytes {
             return None;
         };
         match opened(alloc) {
-            Some(node) => Some(OverBytes { node, rings, alloc }),
+            Some(node) => Some(OverBytes { node, rings }),
             None => None,
         }
     }
@@ -153,10 +129,10 @@ impl Player for OverBytes {
         Some(frames)
     }
 
-    fn take(&mut self, peer: usize, load: &BytesMut, calls: &mut Vec<Reference>) -> bool {
+    fn take(&mut self, peer: usize, load: &BytesMut) -> bool {
         for piece in load.as_slice().chunks(RING / 2) {
             self.rings.to.put(piece);
-            if !self.pull(peer) || !self.take_all(peer, calls) {
+            if !self.pull(peer) || !self.take_all(peer) {
                 return false;
             }
             self.drain(0);
@@ -165,16 +141,17 @@ impl Player for OverBytes {
         true
     }
 
-    fn ask(&mut self, commands: &[Command], calls: &mut Vec<Reference>) -> bool {
+    fn ask(&mut self, commands: &[Command]) -> bool {
         for command in commands {
-            let Some(done) = self.given(command) else {
-                return false;
-            };
-            if !self.is_kept(done, calls) {
+            if !self.is_given(command) {
                 return false;
             }
         }
         self.drain(1);
         true
+    }
+
+    fn answered(&self) -> usize {
+        answered(self.node.state())
     }
 }

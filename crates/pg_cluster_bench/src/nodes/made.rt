@@ -4,10 +4,12 @@ ghost use Rattle.std.specs.Prelude.{◌≡◌, IsTrue, false};
 ghost use Rattle.pg_term.specs.Same.{same_atom};
 
 use pg_index::IndexTable;
-use pg_message::{Message, Packet};
-use pg_node::{Done, NodeConfig, NodeState};
-use pg_term::{Atom, Reference, TermFault};
+use pg_node::{NodeConfig, NodeState};
+use pg_term::{Atom, TermFault};
 use std::alloc::{AllocError, Global};
+
+/// The name of the node.
+pub const OWN: &str = "a";
 
 // Whether the three names differ.
 fn are_apart(own: &Atom, one: &Atom, two: &Atom) -> bool
@@ -24,7 +26,7 @@ fn are_apart(own: &Atom, one: &Atom, two: &Atom) -> bool
 ///
 /// Cost: that of `NodeState::new`.
 pub fn new_state(alloc: Global) -> Result<NodeState<IndexTable>, TermFault> {
-    let own = Atom::new(alloc, "a")?;
+    let own = Atom::new(alloc, OWN)?;
     let one = Atom::new(alloc, "b")?;
     let two = Atom::new(alloc, "c")?;
     if are_apart(&own, &one, &two) {
@@ -55,25 +57,11 @@ fn state_of(
     NodeState::started(alloc, config, table)
 }
 
-/// Keeps the reference of the first call that is sent, if one is; whether there was memory for it.
-pub fn keep_call(done: &Done, calls: &mut Vec<Reference>) -> bool {
-    match done.sends.first() {
-        Some((_, packet)) => keep_if_call(packet, calls),
-        None => true,
-    }
-}
-
-/// Keeps the reference of a packet, if it is a call; whether there was memory for it.
-pub fn keep_if_call(packet: &Packet, calls: &mut Vec<Reference>) -> bool {
-    match &packet.message {
-        Message::Call(reference, _) => keep(reference, calls),
-        _ => true,
-    }
-}
-
-fn keep(reference: &Reference, calls: &mut Vec<Reference>) -> bool {
-    match reference.copy() {
-        Ok(copy) => calls.push(copy).is_ok(),
-        Err(AllocError) => false,
+/// How many commands of the port of a node are answered.
+pub fn answered(state: &NodeState<IndexTable>) -> usize {
+    if state.port_count() == 1 {
+        state.answers(0).len()
+    } else {
+        0
     }
 }

@@ -4,12 +4,11 @@ ghost use Rattle.std.specs.Prelude.{◌^◌, IsTrue};
 ghost use Rattle.pg_message.specs.Members.{IsShort};
 
 use crate::nodes::Player;
-use crate::nodes::made::{keep_call, new_state};
+use crate::nodes::made::{answered, new_state};
 use pg_index::IndexTable;
 use pg_message::{Message, Packet};
-use pg_node::{Done, NodeState};
+use pg_node::NodeState;
 use pg_step::Command;
-use pg_term::Reference;
 use std::alloc::Global;
 
 /// The node.
@@ -29,34 +28,16 @@ fn tells_no_group(packet: &Packet) -> bool
 }
 
 impl OverPackets {
-    // Takes a packet that announces no group.
-    fn taken(&mut self, peer: usize, packet: &Packet) -> Option<Done> {
-        if peer < self.node.peer_count() && tells_no_group(packet) {
-            self.node.take(peer, packet).ok()
-        } else {
-            None
-        }
+    // Takes a packet that announces no group; whether it was taken.
+    fn is_taken(&mut self, peer: usize, packet: &Packet) -> bool {
+        peer < self.node.peer_count()
+            && tells_no_group(packet)
+            && self.node.take(peer, packet).is_ok()
     }
 
-    // Gives a command at the port.
-    fn given(&mut self, command: &Command) -> Option<Done> {
-        if self.node.port_count() == 1 {
-            self.node.command(0, command).ok()
-        } else {
-            None
-        }
-    }
-}
-
-/// Keeps the first call that is sent by an event, if it happened and one is; whether it happened, and there was memory.
-pub fn is_kept(done: Option<Done>, calls: &mut Vec<Reference>) -> bool {
-    match done {
-        Some(done) => {
-            let is_kept = keep_call(&done, calls);
-            drop(done);
-            is_kept
-        }
-        None => false,
+    // Gives a command at the port; whether it was taken.
+    fn is_given(&mut self, command: &Command) -> bool {
+        self.node.port_count() == 1 && self.node.command(0, command).is_ok()
     }
 }
 
@@ -74,23 +55,25 @@ impl Player for OverPackets {
         Some(packets)
     }
 
-    fn take(&mut self, peer: usize, load: &Vec<Packet>, calls: &mut Vec<Reference>) -> bool {
+    fn take(&mut self, peer: usize, load: &Vec<Packet>) -> bool {
         for packet in load {
-            let done = self.taken(peer, packet);
-            if !is_kept(done, calls) {
+            if !self.is_taken(peer, packet) {
                 return false;
             }
         }
         true
     }
 
-    fn ask(&mut self, commands: &[Command], calls: &mut Vec<Reference>) -> bool {
+    fn ask(&mut self, commands: &[Command]) -> bool {
         for command in commands {
-            let done = self.given(command);
-            if !is_kept(done, calls) {
+            if !self.is_given(command) {
                 return false;
             }
         }
         true
+    }
+
+    fn answered(&self) -> usize {
+        answered(&self.node)
     }
 }

@@ -2,8 +2,9 @@
 
 use pg_figures::{Change, Groups, pid, reference};
 use pg_message::{Message, Packet, Request, Said};
-use pg_term::{Atom, Items, Reference, TermFault};
-use std::alloc::{AllocError, Global};
+use pg_refs::{RefFault, RefSource};
+use pg_term::{Atom, Items, TermFault};
+use std::alloc::Global;
 
 /// What a peer of this name announces at first: it has no group.
 ///
@@ -51,21 +52,29 @@ pub fn calls(
     Ok(packets)
 }
 
-// A reply to this call.
-fn reply(call: &Reference, said: Said) -> Result<Packet, AllocError> {
-    let message = Message::Reply(call.copy()?, said);
+// A reply to the next call of the node that has these references.
+fn reply(references: &mut RefSource, said: Said) -> Result<Packet, RefFault> {
+    let message = Message::Reply(references.next()?, said);
     Ok(Packet { stamp: 0, message })
 }
 
-/// A reply to each of these calls.
+/// A reply to each of the next so many calls of the node that has these references.
 ///
-/// Errors: `AllocError`.
+/// Errors: those of `RefSource::next`.
 ///
 /// Cost: memory for each.
-pub fn replies(alloc: Global, calls: &[Reference], said: Said) -> Result<Vec<Packet>, AllocError> {
+pub fn replies(
+    alloc: Global,
+    references: &mut RefSource,
+    count: usize,
+    said: Said,
+) -> Result<Vec<Packet>, RefFault> {
     let mut packets = Vec::new(alloc);
-    for call in calls {
-        packets.push(reply(call, said)?)?;
+    for _ in 0..count {
+        let packet = reply(references, said)?;
+        if packets.push(packet).is_err() {
+            return Err(RefFault::OutOfMemory);
+        }
     }
     Ok(packets)
 }

@@ -26,7 +26,7 @@ impl<T> Held<T> {
     /// Errors: where there is no memory, the value is handed back.
     ///
     /// Cost: one allocation.
-    pub(crate) fn new(alloc: Global, value: T) -> Result<Held<T>, T>
+    pub fn new(alloc: Global, value: T) -> Result<Held<T>, T>
         ensures ok { IfOk result (λ it. it ≡ value) }
         ensures err { IfErr result (λ back. back ≡ value) }
     {
@@ -48,10 +48,22 @@ impl<T> Held<T> {
     /// The value, out of its block.
     ///
     /// Cost: no memory.
-    pub(crate) fn into_inner(self) -> T
+    pub fn into_inner(self) -> T
         ensures { result ≡ self }
     {
         let Held { place } = self;
         Box::into_inner(place)
+    }
+
+    /// The value out of its block, where there is one.
+    ///
+    /// Cost: no memory.
+    pub fn unpack(held: Option<Held<T>>) -> Option<T>
+        ensures { result ≡ held }
+    {
+        match held {
+            Some(held) => Some(held.into_inner()),
+            None => None,
+        }
     }
 }
