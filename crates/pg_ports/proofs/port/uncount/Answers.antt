@@ -1,4 +1,4 @@
-use Rattle.std.proofs.Common.{◌-◌, refl, arith}
+use Rattle.std.proofs.Common.{refl, arith}
 use Rattle.pg_ports.proofs.Answered.{count_there, one_less, none_answered, rooms_kept}
 use Rattle.pg_ports.proofs.port.uncount.Goals as goal
 
@@ -8,10 +8,10 @@ overflow_sub-entry c =
     omega (arith, here, c.requires.some)
 
 pub returns-clause-counts : goal.returns-clause-counts
-returns-clause-counts c = λ counts counted. one_less c.args.ports.now.items c.args.port c.from.result c.index_mut-entry.result.now (record { count = c.index_mut-entry.result.now.count - 1; answers = c.index_mut-entry.result.now.answers }) c.from.ensures c.requires.place c.index_mut-entry.ensures.value counts counted refl
+returns-clause-counts c = λ counts counted. one_less c.args.ports.now.items c.args.port c.from.result c.index_mut-entry.result.now _ c.from.ensures c.requires.place c.index_mut-entry.ensures.value counts counted refl
 
 pub returns-clause-answers : goal.returns-clause-answers
-returns-clause-answers c = none_answered c.args.ports.now.items c.args.port c.from.result c.index_mut-entry.result.now (record { count = c.index_mut-entry.result.now.count - 1; answers = c.index_mut-entry.result.now.answers }) c.from.ensures c.requires.place c.index_mut-entry.ensures.value refl
+returns-clause-answers c = none_answered c.args.ports.now.items c.args.port c.from.result c.index_mut-entry.result.now _ c.from.ensures c.requires.place c.index_mut-entry.ensures.value refl
 
 pub returns-clause-rooms : goal.returns-clause-rooms
-returns-clause-rooms c = rooms_kept c.args.ports.now.items c.args.port c.from.result c.index_mut-entry.result.now (record { count = c.index_mut-entry.result.now.count - 1; answers = c.index_mut-entry.result.now.answers }) c.from.ensures c.requires.place c.index_mut-entry.ensures.value (λ room. room)
+returns-clause-rooms c = rooms_kept c.args.ports.now.items c.args.port c.from.result c.index_mut-entry.result.now _ c.from.ensures c.requires.place c.index_mut-entry.ensures.value (λ room. room)
