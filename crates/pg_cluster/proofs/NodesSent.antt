@@ -13,7 +13,6 @@ use Rattle.pg_opens.specs.contracts.command.OpenCommand as OpenCommand
 use Rattle.pg_opens.specs.contracts.opens.Opens as Opens
 use Rattle.pg_ring.specs.contracts.ring_in.RingIn as RingIn
 use Rattle.pg_ring.specs.contracts.ring_out.RingOut as RingOut
-use Rattle.pg_run.specs.contracts.held.Held as Held
 use Rattle.pg_run.specs.contracts.linked.LinkedNode as LinkedNode
 use Rattle.pg_run.specs.contracts.log.NodeEvent as NodeEvent
 use Rattle.pg_run.specs.contracts.notices.Notice as Notice
@@ -22,6 +21,7 @@ use Rattle.pg_run.specs.contracts.port.Asked as Asked
 use Rattle.pg_run.specs.contracts.port.Port as Port
 use Rattle.pg_run.specs.contracts.run.NodeRun as NodeRun
 use Rattle.pg_run.specs.contracts.running.Ran as Ran
+use Rattle.pg_sends.specs.contracts.held.Held as Held
 use Rattle.pg_step.specs.contracts.command.Command as Command
 use Rattle.pg_cluster.proofs.TermsSent.{atom_send}
 use Rattle.pg_cluster.proofs.PartsSent.{opid_send, update_send, command_send, answer_send}

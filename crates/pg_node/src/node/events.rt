@@ -303,7 +303,7 @@ impl<T: GroupTable + Drop> Node<T> {
     pub fn reuse(&mut self, done: Done<Framed>)
         ensures held { held_by self.new ≡ held_by self.old }
         ensures links { links_of self.new ≡ links_of self.old }
-        ensures frame { goes_out done.sends.goes ≡ true → (buffer_of self.new).items ≡ done.sends.frame.items }
+        ensures frame { goes_out done.sends.goes ≡ true → buffer_of self.new ≡ done.sends.frame }
         ensures none { goes_out done.sends.goes ≡ false → buffer_of self.new ≡ buffer_of self.old }
     {
         let sends = done.sends;
