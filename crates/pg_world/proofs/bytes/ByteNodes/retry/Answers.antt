@@ -23,7 +23,7 @@ returns-in-Ok g c = record {
       own_shown config lost (crossing_of c.args.self.now) _ (account_of c.args.self.now.histories) _ w shows (λ packets others bytes are. c.sending_adds_packets.ensures written_of packets others bytes are)
       i stays (Retry c.args.op) (node_of node) (node_of node2) c.in-Ok.done (seen_there nodes rings i node l at) (nodes_set nodes rings i node2) c.in-Ok.ensures.stays.names c.in-Ok.ensures.stays.ports c.in-Ok.ensures.fits c.in-Ok.ensures.small
       (own_acts nodes rings i node node2 (listed_of c.in-Ok.done.sends) l at (Retry c.args.op) c.in-Ok.ensures.sent)
-      (grew_own (account_of c.args.self.now.histories) _ i c.in-Ok.done.began c.in-Ok.done.began refl c.begin.ensures.history c.begin.ensures.applied c.begin.ensures.marked) c.of-effect.result c.of-effect.ensures c.in-Ok.ensures.event;
+      (grew_own (account_of c.args.self.now.histories) _ i c.in-Ok.done.began c.unpack.result c.unpack.ensures c.begin.ensures.history c.begin.ensures.applied c.begin.ensures.marked) c.of-effect.result c.of-effect.ensures c.in-Ok.ensures.event;
   changes = alone c.args.self.now.nodes.items c.args.self.now.rings.items c.args.node c.retry.new.self;
   formed = c.begin.ensures.formed;
   lost = refl;

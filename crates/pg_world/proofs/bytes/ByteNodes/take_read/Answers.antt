@@ -54,7 +54,7 @@ returns-in-Ok-take_read g c = record {
       c.in-Ok-take_read.ensures.stays.names c.in-Ok-take_read.ensures.stays.ports c.in-Ok-take_read.ensures.fits c.in-Ok-take_read.ensures.small
       (take_acts nodes rings i node node2 (listed_of done.sends) l at p apart
       (subst (λ k. (j : ℕ) → links_of node2 j ≡ at_link k passed (sent_out (listed_of done.sends) (links_of node)) j) place c.in-Ok-take_read.ensures.sent))
-      (grew_taken (account_of c.args.self.now.histories) _ i (update_asked_by packet.message) done.began done.began (account_of c.make_room.new.self) (account_of c.serve.new.self) refl
+      (grew_taken (account_of c.args.self.now.histories) _ i (update_asked_by packet.message) done.began c.unpack.result (account_of c.make_room.new.self) (account_of c.serve.new.self) c.unpack.ensures
       c.make_room.ensures.account c.serve.ensures.history c.serve.ensures.applied c.serve.ensures.marked c.begin.ensures.history c.begin.ensures.applied c.begin.ensures.marked) c.of-effect.result c.of-effect.ensures
       (subst (λ k. ComesInRoom (names_of (held_by node)) (step_take (nodes_of (held_by node)) (name_at (names_of (held_by node)) (k + 1)) (stamped_of packet) (state_of (held_by node))) (Ok done) (state_of (held_by node2)) (answers_of (held_by node)) (answers_of (held_by node2)))
       place c.in-Ok-take_read.ensures.event);
