@@ -93,7 +93,7 @@ pub fn to_asked<S: Outgoing>(
     send_marked(alloc, buffer, clock, order, goes, peer_count(opens))
 }
 
-/// An order to each live peer and has granted the lock that is asked for under the reference of this number.
+/// An order to each live peer that has granted the lock which is asked for under the reference of this number.
 ///
 /// Errors: `AllocError`.
 pub fn to_granted<S: Outgoing>(

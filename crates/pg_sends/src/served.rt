@@ -29,7 +29,7 @@ use std::alloc::{AllocError, Global};
 /// A peer asks for the lock of a name, and is told whether it got it. `peer`: its place among the peers. `formed`: whether
 /// the node is, which denies every lock before.
 ///
-/// Errors: `AllocError`, which changes nothing.
+/// Errors: `AllocError`, which changes nothing but `buffer`: that may be left empty and without its memory.
 pub fn lock_for_peer<S: Outgoing + Drop>(
     alloc: Global,
     buffer: &mut BytesMut,
@@ -63,7 +63,7 @@ pub fn lock_for_peer<S: Outgoing + Drop>(
 
 /// A peer changes a group, and is told that it is done. `peer`: its place among the peers.
 ///
-/// Errors: `AllocError`, which changes nothing.
+/// Errors: `AllocError`, which changes nothing but `buffer`: that may be left empty and without its memory.
 pub fn change_for_peer<T: GroupTable + Drop, S: Outgoing + Drop>(
     alloc: Global,
     buffer: &mut BytesMut,
