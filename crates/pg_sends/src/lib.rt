@@ -2,6 +2,9 @@
 //!
 //! `begun(alloc, buffer, clock, &opens, number, op)?` is a `Done`: an update that begins, sent to each peer by its place, as packets or as one
 //! frame. Begin with `src/done.rt` and `src/outgoing.rt`, then `src/orders.rt` and `src/sends.rt`.
+//!
+//! In each call that sends, `buffer` is memory that takes the frame, where one is written, and `clock` the stamp of what is sent, at most
+//! 1,073,741,824. `opens` are the open commands, `op` is the command, and `number` that of the reference under which it gathers.
 #![tactic(auto)]
 
 mod begin;
