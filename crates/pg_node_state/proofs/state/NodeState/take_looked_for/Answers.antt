@@ -89,6 +89,6 @@ returns-in-Double-2-clause-comes g c =
     let goes = leads m p reference c.args.said (kept_by old) n read in
     let kind = c.is_kind-kind.ensures ((kept_by old).uses n) c.gathering.ensures in
     elim c.in-Double-2-1.branch [
-      in-Double+else-kind w ↦ subst (λ (r : Result NodeTurn Refusal). ComesAt {h = g.S.Outgoing} c.args.clock (names_of old) r (Err (Refused NotAMessage)) (state_of old) (answers_of old) (answers_of old)) (sym (goes taken.Double false (sym w.in-Double.is ∙ c.heard.ensures) (sym w.if-kind.false ∙ kind))) refl
+      | in-Double+else-kind w ↦ subst (λ (r : Result NodeTurn Refusal). ComesAt {h = g.S.Outgoing} c.args.clock (names_of old) r (Err (Refused NotAMessage)) (state_of old) (answers_of old) (answers_of old)) (sym (goes taken.Double false (sym w.in-Double.is ∙ c.heard.ensures) (sym w.if-kind.false ∙ kind))) refl
       | in-Counted+else-kind-2 w ↦ subst (λ (r : Result NodeTurn Refusal). ComesAt {h = g.S.Outgoing} c.args.clock (names_of old) r (Err (Refused NotAMessage)) (state_of old) (answers_of old) (answers_of old)) (sym (goes taken.Counted false (sym w.in-Counted.is ∙ c.heard.ensures) (sym w.if-kind-2.false ∙ kind))) refl
     ]
