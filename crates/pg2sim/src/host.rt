@@ -5,8 +5,7 @@ ghost use Rattle.pg_talk.specs.declared.conversation.Conversation.{Conversation}
 ghost use Rattle.pg_talk.specs.declared.conversation.Outcome.{Outcome};
 ghost use Rattle.pg_cluster.specs.declared.fault.StartFault.{StartFault};
 
-use pg_cluster::StartFault;
-use pg_node::{AnyReader, Sink};
+use pg_cluster::{AnyReader, Sink, StartFault};
 use pg_program::System;
 use pg_progress::Progress;
 use pg_talk::{

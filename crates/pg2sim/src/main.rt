@@ -6,8 +6,8 @@ mod host;
 mod tests;
 
 use host::{HostSystem, Shown};
+use pg_cluster::{AnyReader, AnyWriter};
 use pg_faults::OUT_OF_MEMORY;
-use pg_node::{AnyReader, AnyWriter};
 use pg_program::{refuse, refuse_given, run_words};
 use pg_progress::Progress;
 use std::io::BufWriter;

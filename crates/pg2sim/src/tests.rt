@@ -1,7 +1,7 @@
 //! Conversations in threads of the system, and what a terminal shows of them.
 
 use crate::host::{HostSystem, Shown};
-use pg_node::AnyReader;
+use pg_cluster::AnyReader;
 use pg_program::{System, run_words};
 use pg_progress::Progress;
 use std::alloc::{AllocError, Global};

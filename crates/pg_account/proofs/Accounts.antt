@@ -3,9 +3,9 @@ use Rattle.std.proofs.Common.{◌≡◌, ℕ, zero, suc, ◌+◌, ◌<◌, Bool,
 use Rattle.std.proofs.Common.{List, [], ◌∷◌, ◌++◌, refl, sym, ap, ◌∙◌, arith}
 use Rattle.std.specs.Prelude.{slice_index_or, slice_set}
 use Rattle.std.proofs.lemmas.List.{map-append, take_more}
-use Rattle.pg_history.specs.History as history
-use Rattle.pg_history.specs.History.{of_group}
-use Rattle.pg_history.specs.WithLosses.{Marked}
+use Rattle.pg_left.specs.PgHistory.History as history
+use Rattle.pg_left.specs.PgHistory.History.{of_group}
+use Rattle.pg_left.specs.PgHistory.WithLosses.{Marked}
 use Rattle.pg_left.specs.Missed.{is_missed, last_applied, missed_of}
 use Rattle.pg_account.specs.declared.entry.Entry.{Entry}
 use Rattle.pg_account.specs.declared.histories.Histories.{Histories}

@@ -12,8 +12,8 @@ use Rattle.pg_term.specs.Same.{term_cmp}
 use Rattle.pg_term.specs.contracts.term.TermOrd.TheImpl.Laws as term_order
 use Rattle.pg_term.specs.contracts.term.TermEq.TheImpl.Laws as term_equality
 use Rattle.pg_term.proofs.Same.{same_term as term_is}
-use Rattle.pg_history.specs.History.{Entry}
-use Rattle.pg_history.specs.WithLosses.{Marked}
+use Rattle.pg_left.specs.PgHistory.History.{Entry}
+use Rattle.pg_left.specs.PgHistory.WithLosses.{Marked}
 use Rattle.pg_account.specs.declared.row.Row.{Row}
 use Rattle.pg_account.specs.Histories.{entries_of, entries_in, count_at, tallied_in, marked_entries_in, marked_entries_of}
 

@@ -2,7 +2,7 @@
 use Rattle.std.proofs.Common.{◌≡◌, Option, Some, None, List, [], ◌∷◌, ◌++◌, map, sym, ap, subst, ◌∙◌, append-nil}
 use Rattle.std.specs.Prelude.{◌↔◌}
 use Rattle.std.proofs.lemmas.List.{map-append, same_from_push}
-use Rattle.pg_history.specs.History.{Entry as Recorded}
+use Rattle.pg_left.specs.PgHistory.History.{Entry as Recorded}
 use Rattle.pg_account.specs.declared.entry.Entry.{Entry}
 use Rattle.pg_account.specs.Histories.{as_entry, last_entries}
 

@@ -10,8 +10,8 @@ use Rattle.pg_term.specs.declared.term.Term.{Term}
 use Rattle.pg_term.specs.Same.{same_term, term_cmp}
 use Rattle.pg_term.specs.contracts.term.TermOrd.TheImpl.Laws as term_order
 use Rattle.pg_term.proofs.Same.{same_term as term_is}
-use Rattle.pg_group.specs.Value.{name_of}
-use Rattle.pg_history.specs.History.{of_group}
+use Rattle.pg_opens.specs.PgGroup.Value.{name_of}
+use Rattle.pg_left.specs.PgHistory.History.{of_group}
 use Rattle.pg_opens.proofs.Named.{clash}
 use Rattle.pg_account.specs.declared.entry.Entry.{Entry}
 use Rattle.pg_account.specs.declared.histories.Histories.{Histories}

@@ -2,9 +2,9 @@
 use Rattle.std.proofs.Common.{◌≡◌, true, ◌&&◌, nat_eq, refl, sym, ap, ◌∙◌}
 use Rattle.std.specs.Cmp.{first_so, second_so}
 use Rattle.std.proofs.lemmas.Bool.{eqb-true, eq-eqb}
-use Rattle.pg_history.specs.History.{Entry as Recorded}
-use Rattle.pg_step.specs.declared.command.OpId.{OpId}
-use Rattle.pg_step.specs.Attempts.{same_op}
+use Rattle.pg_left.specs.PgHistory.History.{Entry as Recorded}
+use Rattle.pg_opens.specs.PgStep.declared.command.OpId.{OpId}
+use Rattle.pg_opens.specs.PgStep.Attempts.{same_op}
 use Rattle.pg_opens.specs.Twins.{same_update}
 use Rattle.pg_opens.proofs.Alike.{both_true, update_is, update_self}
 use Rattle.pg_opens.proofs.Followed.{op_is}

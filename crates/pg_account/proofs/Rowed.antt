@@ -10,7 +10,7 @@ use Rattle.pg_term.specs.Same.{same_term, term_cmp}
 use Rattle.pg_term.specs.contracts.term.TermEq.TheImpl.Laws.{laws-law as terms}
 use Rattle.pg_term.specs.contracts.term.TermOrd.TheImpl.Laws as term_laws
 use Rattle.pg_term.proofs.Same.{same_term as term_is}
-use Rattle.pg_group.specs.Functions.{upd}
+use Rattle.pg_opens.specs.PgGroup.Functions.{upd}
 use Rattle.pg_left.specs.Missed.{last_applied, marked_after}
 use Rattle.pg_account.specs.declared.row.Row.{Row}
 use Rattle.pg_account.specs.Histories.{count_at, tallied_in, marked_entries_in, marked_entries_of}

@@ -5,11 +5,11 @@ use Rattle.pg_account.specs.Losses.{is_lost}
 use Rattle.pg_account.specs.Histories.{Account}
 use Rattle.std.specs.BTreeMap.{get}
 use Rattle.pg_term.specs.Same.{term_cmp}
-use Rattle.pg_group.specs.Value.{name_of}
+use Rattle.pg_opens.specs.PgGroup.Value.{name_of}
 use Rattle.pg_account.specs.declared.entry.Entry.{Entry}
 use Rattle.pg_account.specs.declared.histories.Histories.{Histories}
 use Rattle.pg_account.specs.Histories.{account_of}
-use Rattle.pg_step.specs.Attempts.{same_op}
+use Rattle.pg_opens.specs.PgStep.Attempts.{same_op}
 use Rattle.pg_opens.specs.Twins.{same_update}
 
 -- the same of a group: its history, and how many of its updates each of so many nodes has applied

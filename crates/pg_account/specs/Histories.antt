@@ -6,15 +6,15 @@ use Rattle.std.specs.BTreeMap.{BTreeMap, get}
 use Rattle.std.specs.Vec.{vec_len, vec_capacity}
 use Rattle.pg_term.specs.declared.term.Term.{Term}
 use Rattle.pg_term.specs.Same.{term_cmp}
-use Rattle.pg_group.specs.declared.update.Update.{Update}
-use Rattle.pg_group.specs.Value.{name_of}
-use Rattle.pg_message.specs.declared.message.Message.{Message}
-use Rattle.pg_message.specs.declared.message.Message.TheVariants.{Call}
-use Rattle.pg_message.specs.declared.message.Request.TheVariants.{Change}
-use Rattle.pg_step.specs.declared.command.OpId.{OpId}
-use Rattle.pg_history.specs.History as history
-use Rattle.pg_history.specs.History.{of_group, is_update_of}
-use Rattle.pg_history.specs.WithLosses.{Marked}
+use Rattle.pg_opens.specs.PgGroup.declared.update.Update.{Update}
+use Rattle.pg_opens.specs.PgGroup.Value.{name_of}
+use Rattle.pg_opens.specs.PgMessage.declared.message.Message.{Message}
+use Rattle.pg_opens.specs.PgMessage.declared.message.Message.TheVariants.{Call}
+use Rattle.pg_opens.specs.PgMessage.declared.message.Request.TheVariants.{Change}
+use Rattle.pg_opens.specs.PgStep.declared.command.OpId.{OpId}
+use Rattle.pg_left.specs.PgHistory.History as history
+use Rattle.pg_left.specs.PgHistory.History.{of_group, is_update_of}
+use Rattle.pg_left.specs.PgHistory.WithLosses.{Marked}
 use Rattle.pg_account.specs.declared.entry.Entry.{Entry}
 use Rattle.pg_account.specs.declared.histories.Histories.{Histories}
 use Rattle.pg_account.specs.declared.row.Row.{Row}

@@ -2,13 +2,12 @@ ghost use Rattle.std.specs.Prelude.{◌≡◌, ◌<◌, ◌↔◌, ◌||◌, ◌
 ghost use Rattle.std.specs.Prelude.{IfOk, OnOk, get_or, map, nat_eq};
 ghost use Rattle.std.specs.Option.{option_copied};
 ghost use Rattle.pg_opens.specs.Twins.{same_update};
-ghost use Rattle.pg_step.specs.Attempts.{same_op};
+ghost use Rattle.pg_opens.specs.PgStep.Attempts.{same_op};
 ghost use Rattle.pg_left.specs.Missed.{missed_of};
 ghost use Rattle.pg_account.specs.Histories.{as_entry, as_marked, is_among, is_applied_by, last_entries};
 ghost use Rattle.pg_account.specs.Agreeing.{same_entry};
 
-use pg_group::Update;
-use pg_step::OpId;
+use pg_opens::{OpId, Update};
 use std::alloc::{AllocError, Global};
 
 /// An update that has every grant.

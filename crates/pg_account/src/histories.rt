@@ -10,9 +10,7 @@ ghost use Rattle.pg_account.specs.Histories.{update_asked_by};
 
 use crate::entry::{Entry, add_each_missed, add_missed, same_with_last};
 use crate::rows::{self, Rows};
-use pg_group::Update;
-use pg_message::{Message, Packet, Request};
-use pg_step::OpId;
+use pg_opens::{Message, OpId, Packet, Request, Update};
 use pg_term::Term;
 use std::alloc::{AllocError, Global};
 use std::collections::BTreeMap;
@@ -32,7 +30,7 @@ pub struct Histories {
 }
 
 impl Histories {
-    ghost use Rattle.pg_history.specs.History.{of_group, entry_of, is_update_of};
+    ghost use Rattle.pg_left.specs.PgHistory.History.{of_group, entry_of, is_update_of};
     ghost use Rattle.pg_left.specs.Missed.{marked_after, missed_of};
     ghost use Rattle.pg_account.specs.Agreeing.{HaveSameUpdates, IsNamedLast, AgreeOnNamed};
     ghost use Rattle.pg_account.specs.Histories.{account_of, history_in, applied_in, marked_in, no_account, begun_by, one_of};

@@ -14,7 +14,7 @@ pub(crate) struct Row {
 }
 
 impl Row {
-    ghost use Rattle.pg_group.specs.Functions.{upd};
+    ghost use Rattle.pg_opens.specs.PgGroup.Functions.{upd};
     ghost use Rattle.pg_left.specs.Missed.{last_applied};
     ghost use Rattle.pg_account.specs.Histories.{count_at, as_entry, as_marked, entries_of, marked_entries_of, HasRowRoom};
 

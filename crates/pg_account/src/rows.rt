@@ -4,14 +4,14 @@ ghost use Rattle.std.specs.Prelude.{◌≡◌, ℕ, ◌+◌, ◌<◌, ◌&&◌, 
 ghost use Rattle.std.specs.BTreeMap.{get};
 ghost use Rattle.pg_term.specs.declared.term.Term.{Term};
 ghost use Rattle.pg_term.specs.Same.{term_cmp};
-ghost use Rattle.pg_group.specs.Value.{name_of};
-ghost use Rattle.pg_history.specs.History.{is_update_of, of_group};
+ghost use Rattle.pg_opens.specs.PgGroup.Value.{name_of};
+ghost use Rattle.pg_left.specs.PgHistory.History.{is_update_of, of_group};
 ghost use Rattle.pg_left.specs.Missed.{marked_after};
 ghost use Rattle.pg_account.specs.Histories.{as_entry, as_marked, entries_in, tallied_in, last_marks, marked_entries_in, one_of, HasRow};
 
 use crate::entry::Entry;
 use crate::row::Row;
-use pg_group::Update;
+use pg_opens::Update;
 use pg_term::Term;
 use std::alloc::{AllocError, Global};
 use std::collections::BTreeMap;

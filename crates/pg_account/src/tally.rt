@@ -12,7 +12,7 @@ pub(crate) struct Tally {
 }
 
 impl Tally {
-    ghost use Rattle.pg_group.specs.Functions.{upd};
+    ghost use Rattle.pg_opens.specs.PgGroup.Functions.{upd};
     ghost use Rattle.pg_account.specs.Histories.{count_at, CanCount};
 
     /// No node has applied any.

@@ -2,11 +2,9 @@
 
 use bytes::BytesMut;
 use pg_figures::{Watch, head, number, pid, report, word};
-use pg_message::{Message, MessageFault, Packet};
+use pg_message::{Message, MessageFault, Packet, decode, encode, encode_into};
 use pg_reader::read_packet;
 use pg_term::{Atom, Fields, Items, Pid, Term, TermFault};
-use pg_term_io::decode;
-use pg_term_writer::{encode, encode_into};
 use pg_writer::{write_packet, write_packet_into};
 use std::alloc::Global;
 

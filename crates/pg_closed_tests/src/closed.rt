@@ -1,9 +1,7 @@
 //! Clusters that are closed once the lines of a script have happened in them.
 
-use pg_cluster::{Closed, OpenGate, Running};
+use pg_cluster::{Closed, Command, Config, FrameStep, OpenGate, Reply, Running, Step};
 use pg_script::{Act, Script, ScriptLine, read_script};
-use pg_step::{Command, Reply};
-use pg_world::{Config, FrameStep, Step};
 use std::alloc::Global;
 use std::process::Abort;
 use std::thread;

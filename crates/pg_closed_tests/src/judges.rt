@@ -2,7 +2,7 @@
 
 use crate::closed::{Judged, closed_after, holds};
 use Saying::*;
-use pg_world::FrameStep;
+use pg_cluster::FrameStep;
 use std::alloc::{AllocError, Global};
 use std::mem;
 use std::process::Abort;

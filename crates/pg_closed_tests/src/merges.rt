@@ -1,7 +1,7 @@
 //! The order in which logs are merged: by clock, and at one clock by the place of the log.
 
 use crate::closed::holds;
-use pg_joining::order_of_logs;
+use pg_cluster::order_of_logs;
 use std::alloc::{AllocError, Global};
 use std::test::*;
 

@@ -13,22 +13,22 @@ use Rattle.std.proofs.lemmas.Bool.Decides.{Decides-ltb}
 use Rattle.std.proofs.lemmas.Option.{slice_get-get_or, slice_get_within}
 use Rattle.pg_term.specs.declared.pid.Pid.{Pid}
 use Rattle.pg_term.specs.Same.{same_atom}
-use Rattle.pg_history.specs.History.{NonePending, is_formed}
-use Rattle.pg_history.specs.Reached.{TimedFrameWorld, Reaches, FinishedAt}
+use Rattle.pg_joining.specs.PgHistory.History.{NonePending, is_formed}
+use Rattle.pg_joining.specs.PgHistory.Reached.{TimedFrameWorld, Reaches, FinishedAt}
 use Rattle.pg_joining.specs.Merge.{log_at}
-use Rattle.pg_machine.specs.Clocked.{plain}
-use Rattle.pg_machine.specs.Machine.{Event, Do, node_of}
-use Rattle.pg_machine.specs.Places.{is_place}
-use Rattle.pg_machine.specs.Runs.{events_of}
-use Rattle.pg_opens.specs.Places.{whole_in}
-use Rattle.pg_run.specs.declared.log.NodeEvent.{NodeEvent}
-use Rattle.pg_run.specs.declared.log.NodeEvent.TheVariants as entries
-use Rattle.pg_step.specs.Config.{Config, name_at, names_of, nodes_at}
-use Rattle.pg_step.specs.State.{State, formed, live_nodes}
-use Rattle.pg_step.specs.Step.{Action, Issue}
-use Rattle.pg_step.specs.declared.command.Command.TheVariants.{Finish}
+use Rattle.pg_joining.specs.PgMachine.Clocked.{plain}
+use Rattle.pg_joining.specs.PgMachine.Machine.{Event, Do, node_of}
+use Rattle.pg_joining.specs.PgMachine.Places.{is_place}
+use Rattle.pg_joining.specs.PgMachine.Runs.{events_of}
+use Rattle.pg_joining.specs.PgOpens.Places.{whole_in}
+use Rattle.pg_joining.specs.PgRun.declared.log.NodeEvent.{NodeEvent}
+use Rattle.pg_joining.specs.PgRun.declared.log.NodeEvent.TheVariants as entries
+use Rattle.pg_joining.specs.PgStep.Config.{Config, name_at, names_of, nodes_at}
+use Rattle.pg_joining.specs.PgStep.State.{State, formed, live_nodes}
+use Rattle.pg_joining.specs.PgStep.Step.{Action, Issue}
+use Rattle.pg_joining.specs.PgStep.declared.command.Command.TheVariants.{Finish}
 use Rattle.pg_joining.specs.Apart.{event_at}
-use Rattle.pg_frame_world.specs.declared.step.FrameStep.{FrameStep}
+use Rattle.pg_joining.specs.PgFrameWorld.declared.step.FrameStep.{FrameStep}
 use Rattle.pg_cluster.specs.Closed.{IsOneRun}
 use Rattle.pg_cluster.specs.Judges.{Agree, formed_in, is_end_pending, is_pending_end, is_taken_by_some, state_in}
 use Rattle.pg_cluster.specs.Notices.{NobodyLost}

@@ -7,10 +7,10 @@ use Rattle.pg_term.specs.declared.term.Term.{Term}
 use Rattle.pg_term.specs.Same.{same_term}
 use Rattle.pg_term.specs.contracts.term.TermEq.TheImpl.Laws as term_laws
 use Rattle.pg_term.proofs.Same.{same_term as term_is}
-use Rattle.pg_group.specs.declared.table.GroupTable.{Ghosts}
-use Rattle.pg_group.specs.Table.{AreNames, Table}
-use Rattle.pg_group.specs.Value.{Value}
-use Rattle.pg_node.specs.declared.node.Node.{Node}
+use Rattle.pg_joining.specs.PgGroup.declared.table.GroupTable.{Ghosts}
+use Rattle.pg_joining.specs.PgGroup.Table.{AreNames, Table}
+use Rattle.pg_joining.specs.PgGroup.Value.{Value}
+use Rattle.pg_joining.specs.PgNode.declared.node.Node.{Node}
 use Rattle.pg_cluster.specs.Judges.{AgreesWith, AreOne, HasAs, formed_in, is_seen_free, state_in}
 
 -- nodes have the same of a group where their tables say the same

@@ -1,13 +1,13 @@
 -- The rings of nodes whose threads have ended.
 use Rattle.std.proofs.Common.{◌≡◌, ◌<◌, true, ℕ, List, [], ◌∷◌, length, get_or, ◌∙◌, subst, arith}
 use Rattle.std.proofs.lemmas.List.{get_or-map, length-map}
-use Rattle.pg_machine.specs.Places.{is_pair}
+use Rattle.pg_joining.specs.PgMachine.Places.{is_pair}
 use Rattle.pg_ring.specs.Ends.{AreEnds, Sends, Receives}
 use Rattle.pg_ring.specs.EndsLaws.{AreEnds-later}
 use Rattle.pg_joining.specs.Apart.{End, Crossed}
-use Rattle.pg_frame_world.proofs.Peering.{place_within}
-use Rattle.pg_frame_world.proofs.Turning.{pair_is, pair_turned}
-use Rattle.pg_frame_world.specs.Views.{peer_place}
+use Rattle.pg_joining.proofs.PgFrameWorld.Peering.{place_within}
+use Rattle.pg_joining.proofs.PgFrameWorld.Turning.{pair_is, pair_turned}
+use Rattle.pg_joining.specs.PgFrameWorld.Views.{peer_place}
 use Rattle.pg_cluster.specs.Ended.{Arrived, AreJoined, AreWired, AllArrived, AllCrossed, row_at, end_at}
 use Rattle.pg_cluster.specs.Promises.{RanAs}
 use Rattle.pg_cluster.specs.Threads.{Thread, RanOf, Joined, row_in, begun_by, limit_of, rows_begun, rows_ended}

@@ -4,31 +4,31 @@ use Rattle.std.proofs.Common.{refl, sym, ap, subst, inl, inr, arith, get_or}
 use Rattle.std.specs.Prelude.{OnOk, Result, Ok, Err, is_ok, if◌then◌else◌}
 use Rattle.std.specs.List.{IsDistinct}
 use Rattle.std.proofs.lemmas.List.{append_assoc, drop_more, map-append}
-use Rattle.pg_run.specs.declared.log.NodeEvent.{NodeEvent}
+use Rattle.pg_joining.specs.PgRun.declared.log.NodeEvent.{NodeEvent}
 use Rattle.pg_term.specs.Same.{same_atom}
-use Rattle.pg_machine.specs.Clocked.{plain}
-use Rattle.pg_machine.specs.Losing.{LosingEvent}
-use Rattle.pg_machine.specs.Machine.{Event, start_of}
-use Rattle.pg_step.specs.Config.{Config, names_of}
-use Rattle.pg_step.specs.FrameMachine.{frame_machine}
-use Rattle.pg_step.specs.LossLaws.{LosingFrameWorld}
-use Rattle.pg_step.specs.Step.{Action}
-use Rattle.pg_history.specs.Headline.{OneHistory}
-use Rattle.pg_history.specs.Reached.{Reaches}
-use Rattle.pg_loss.specs.Reached.{LosingReaches}
-use Rattle.pg_retries.specs.Survived.{LossesSurvived}
-use Rattle.pg_frame_world.specs.declared.step.FrameStep.{FrameStep}
-use Rattle.pg_frame_world.specs.Losing.{ShowsLosing}
-use Rattle.pg_frame_world.specs.LosingRuns.{LosingGoesTo, LosingKind, LosingRunsTo, RanLosing, packets_past_losses}
-use Rattle.pg_frame_world.specs.Runs.{GoesTo, Kind, LosesNone, Ran, RunsTo, over_packets}
-use Rattle.pg_frame_world.specs.Views.{View}
-use Rattle.pg_frame_world.specs.Worlds.{ShowsWorld, TimedFrameWorld}
+use Rattle.pg_joining.specs.PgMachine.Clocked.{plain}
+use Rattle.pg_joining.specs.PgMachine.Losing.{LosingEvent}
+use Rattle.pg_joining.specs.PgMachine.Machine.{Event, start_of}
+use Rattle.pg_joining.specs.PgStep.Config.{Config, names_of}
+use Rattle.pg_joining.specs.PgStep.FrameMachine.{frame_machine}
+use Rattle.pg_joining.specs.PgStep.LossLaws.{LosingFrameWorld}
+use Rattle.pg_joining.specs.PgStep.Step.{Action}
+use Rattle.pg_joining.specs.PgHistory.Headline.{OneHistory}
+use Rattle.pg_joining.specs.PgHistory.Reached.{Reaches}
+use Rattle.pg_joining.specs.PgLoss.Reached.{LosingReaches}
+use Rattle.pg_joining.specs.PgRetries.Survived.{LossesSurvived}
+use Rattle.pg_joining.specs.PgFrameWorld.declared.step.FrameStep.{FrameStep}
+use Rattle.pg_joining.specs.PgFrameWorld.Losing.{ShowsLosing}
+use Rattle.pg_joining.specs.PgFrameWorld.LosingRuns.{LosingGoesTo, LosingKind, LosingRunsTo, RanLosing, packets_past_losses}
+use Rattle.pg_joining.specs.PgFrameWorld.Runs.{GoesTo, Kind, LosesNone, Ran, RunsTo, over_packets}
+use Rattle.pg_joining.specs.PgFrameWorld.Views.{View}
+use Rattle.pg_joining.specs.PgFrameWorld.Worlds.{ShowsWorld, TimedFrameWorld}
 use Rattle.pg_cluster.specs.declared.replay.Replay.{Replay}
 use Rattle.pg_cluster.specs.Replay.{HasMade, HasMadeAll, MadeOn}
 use Rattle.pg_cluster.specs.Schedule.{SeenStep, losses_first, seen_step, steps_at, steps_behind}
-use Rattle.pg_frame_world.specs.FrameWorlds.{lost_of, view_of}
-use Rattle.pg_frame_world.proofs.LosingRunning.{ran_past_so}
-use Rattle.pg_frame_world.proofs.Running.{ran_so}
+use Rattle.pg_joining.specs.PgFrameWorld.FrameWorlds.{lost_of, view_of}
+use Rattle.pg_joining.proofs.PgFrameWorld.LosingRunning.{ran_past_so}
+use Rattle.pg_joining.proofs.PgFrameWorld.Running.{ran_so}
 
 -- ---- steps of which none is a loss
 

@@ -2,7 +2,7 @@
 use Rattle.std.specs.Prelude.{Result, Ok, Err, IfOk, IfErr, MatchResult}
 use mathlib.Core.Logic.{∥∥₁_elim, ∥∥₁_map}
 use Rattle.std.proofs.Props.{props}
-use Rattle.pg_step.specs.Config.{Config}
+use Rattle.pg_joining.specs.PgStep.Config.{Config}
 use Rattle.pg_cluster.specs.declared.closed.Closed.{Closed}
 use Rattle.pg_cluster.specs.declared.closed.Stopped.{Stopped}
 use Rattle.pg_cluster.specs.Closed.{IsOneLosingRun}

@@ -7,20 +7,20 @@ use Rattle.std.specs.declared.alloc.Global.{Global}
 use Rattle.std.specs.declared.vec.Vec.{Vec}
 use Rattle.std.proofs.lemmas.List.{append-nil, map-append}
 use Rattle.pg_term.specs.declared.term.Term.{Term}
-use Rattle.pg_account.specs.declared.entry.Entry.{Entry}
-use Rattle.pg_account.specs.Histories.{as_entry, last_entries}
-use Rattle.pg_config.specs.declared.fault.WorldFault.{WorldFault}
-use Rattle.pg_config.specs.declared.fault.WorldFault.TheVariants.{OutOfMemory}
-use Rattle.pg_history.specs.History.{history}
-use Rattle.pg_step.specs.Config.{Config}
-use Rattle.pg_step.specs.LossLaws.{LosingFrameWorld}
-use Rattle.pg_frame_world.specs.declared.step.FrameStep.{FrameStep}
-use Rattle.pg_frame_world.specs.Losing.{ShowsLosing}
-use Rattle.pg_frame_world.specs.LosingRuns.{RanLosing, packets_past_losses}
-use Rattle.pg_frame_world.specs.Openings.{CanBegin, CantBegin}
-use Rattle.pg_frame_world.specs.Runs.{Ran, LosesNone, over_packets}
-use Rattle.pg_frame_world.specs.Views.{View}
-use Rattle.pg_frame_world.specs.Worlds.{ShowsWorld}
+use Rattle.pg_joining.specs.PgAccount.declared.entry.Entry.{Entry}
+use Rattle.pg_joining.specs.PgAccount.Histories.{as_entry, last_entries}
+use Rattle.pg_joining.specs.PgConfig.declared.fault.WorldFault.{WorldFault}
+use Rattle.pg_joining.specs.PgConfig.declared.fault.WorldFault.TheVariants.{OutOfMemory}
+use Rattle.pg_joining.specs.PgHistory.History.{history}
+use Rattle.pg_joining.specs.PgStep.Config.{Config}
+use Rattle.pg_joining.specs.PgStep.LossLaws.{LosingFrameWorld}
+use Rattle.pg_joining.specs.PgFrameWorld.declared.step.FrameStep.{FrameStep}
+use Rattle.pg_joining.specs.PgFrameWorld.Losing.{ShowsLosing}
+use Rattle.pg_joining.specs.PgFrameWorld.LosingRuns.{RanLosing, packets_past_losses}
+use Rattle.pg_joining.specs.PgFrameWorld.Openings.{CanBegin, CantBegin}
+use Rattle.pg_joining.specs.PgFrameWorld.Runs.{Ran, LosesNone, over_packets}
+use Rattle.pg_joining.specs.PgFrameWorld.Views.{View}
+use Rattle.pg_joining.specs.PgFrameWorld.Worlds.{ShowsWorld}
 use Rattle.pg_cluster.specs.declared.closed.Closed.{Closed}
 use Rattle.pg_cluster.specs.Closed.{AreStepsOf, IsHistory}
 use Rattle.pg_cluster.specs.Judges.{all_made, ran_out}

@@ -1,23 +1,23 @@
 -- Nodes that are compared.
 use Rattle.std.proofs.Common.{◌≡◌, ◌↔◌, ℕ, List, Bool, true, Option, Some, Result, Ok, Err, sym, ap, subst, ◌∙◌}
 use Rattle.std.specs.Prelude.{IfOk, IsTrue}
-use Rattle.pg_group.specs.declared.table.GroupTable.{Ghosts}
-use Rattle.pg_node_state.specs.declared.state.NodeState.{NodeState}
-use Rattle.pg_node_state.specs.Same.{AreSameNodes}
-use Rattle.pg_node.specs.declared.node.Node.{Node}
-use Rattle.pg_machine.proofs.Options.{some_is}
-use Rattle.pg_step.specs.Config.{Config}
-use Rattle.pg_frame_world.specs.declared.step.FrameStep.{FrameStep}
-use Rattle.pg_frame_world.specs.declared.frame_world.FrameWorld.{FrameWorld}
-use Rattle.pg_world.specs.Crossings.{node_of}
-use Rattle.pg_frame_world.specs.Runs.{Ran, LosesNone, over_packets}
-use Rattle.pg_starts.specs.Seen.{Seen, seen_of}
-use Rattle.pg_frame_world.specs.FrameWorlds.{lost_of, view_of}
-use Rattle.pg_frame_world.specs.Worlds.{ShowsWorld, ShowsNode, TimedFrameWorld}
-use Rattle.pg_step.specs.LossLaws.{LosingFrameWorld}
+use Rattle.pg_joining.specs.PgGroup.declared.table.GroupTable.{Ghosts}
+use Rattle.pg_joining.specs.PgNodeState.declared.state.NodeState.{NodeState}
+use Rattle.pg_joining.specs.PgNodeState.Same.{AreSameNodes}
+use Rattle.pg_joining.specs.PgNode.declared.node.Node.{Node}
+use Rattle.pg_joining.proofs.PgMachine.Options.{some_is}
+use Rattle.pg_joining.specs.PgStep.Config.{Config}
+use Rattle.pg_joining.specs.PgFrameWorld.declared.step.FrameStep.{FrameStep}
+use Rattle.pg_joining.specs.PgFrameWorld.declared.frame_world.FrameWorld.{FrameWorld}
+use Rattle.pg_joining.specs.PgWorld.Crossings.{node_of}
+use Rattle.pg_joining.specs.PgFrameWorld.Runs.{Ran, LosesNone, over_packets}
+use Rattle.pg_joining.specs.PgStarts.Seen.{Seen, seen_of}
+use Rattle.pg_joining.specs.PgFrameWorld.FrameWorlds.{lost_of, view_of}
+use Rattle.pg_joining.specs.PgFrameWorld.Worlds.{ShowsWorld, ShowsNode, TimedFrameWorld}
+use Rattle.pg_joining.specs.PgStep.LossLaws.{LosingFrameWorld}
 use Rattle.pg_joining.specs.ApartWithLosses.{nodes_in}
-use Rattle.pg_frame_world.specs.Losing.{ShowsLosing, losing_of}
-use Rattle.pg_frame_world.specs.LosingRuns.{RanLosing, packets_past_losses}
+use Rattle.pg_joining.specs.PgFrameWorld.Losing.{ShowsLosing, losing_of}
+use Rattle.pg_joining.specs.PgFrameWorld.LosingRuns.{RanLosing, packets_past_losses}
 use Rattle.pg_cluster.specs.Judges.{AreShown, Replays, ReplaysPastLosses, all_made}
 use Rattle.pg_cluster.specs.declared.closed.Closed.{Closed}
 use Rattle.pg_cluster.specs.Closed.{AreStepsOf, IsReplayed}

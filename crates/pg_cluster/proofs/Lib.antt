@@ -36,3 +36,6 @@ pub mod Telling
 pub mod TellingAll
 pub mod TermsSent
 pub mod Unrefused
+pub use Rattle.pg_joining.proofs.PgFrame
+pub use Rattle.pg_joining.proofs.PgMachine
+pub use Rattle.pg_joining.proofs.PgReplica

@@ -1,11 +1,11 @@
 -- A schedule of events has no loss in it.
 use Rattle.std.proofs.Common.{◌≡◌, true, not, List, [], ◌∷◌, map, Some, refl, zero, suc, arith}
-use Rattle.pg_machine.specs.Machine.{Event}
-use Rattle.pg_step.specs.Step.{Action}
-use Rattle.pg_frame_world.specs.Runs.{LosesNone}
-use Rattle.pg_frame_world.specs.Worlds.{event_of, is_loss}
-use Rattle.pg_frame_world.specs.declared.step.FrameStep.{FrameStep}
-use Rattle.pg_frame_world.specs.declared.step.FrameStep.TheVariants as steps
+use Rattle.pg_joining.specs.PgMachine.Machine.{Event}
+use Rattle.pg_joining.specs.PgStep.Step.{Action}
+use Rattle.pg_joining.specs.PgFrameWorld.Runs.{LosesNone}
+use Rattle.pg_joining.specs.PgFrameWorld.Worlds.{event_of, is_loss}
+use Rattle.pg_joining.specs.PgFrameWorld.declared.step.FrameStep.{FrameStep}
+use Rattle.pg_joining.specs.PgFrameWorld.declared.step.FrameStep.TheVariants as steps
 
 -- a step that is an event is no loss
 no_loss : (step : FrameStep) (e : Event Action) → event_of step ≡ Some e → not (is_loss step) ≡ true

@@ -8,48 +8,48 @@ use Rattle.std.proofs.lemmas.Bool.{cases_eq, eq-eqb, ne_eqb}
 use Rattle.std.proofs.lemmas.Bool.Decides.{leb_tells}
 use Rattle.std.proofs.lemmas.List.{get_or-map, length-map, map-append, append-nil}
 use Rattle.std.proofs.lemmas.Option.{slice_get-get_or, slice_get_within, get_or_from_slice_get}
-use Rattle.pg_machine.specs.Machine.{Machine, Event, World, is_there, start_of}
-use Rattle.pg_loss.specs.Reached.{LosingReaches}
-use Rattle.pg_retries.specs.Survived.{LossesSurvived}
-use Rattle.pg_machine.specs.Losing.{LosingEvent, nobody_gone}
-use Rattle.pg_machine.specs.Places.{is_pair, set_at}
-use Rattle.pg_machine.specs.Runs.{Leads}
-use Rattle.pg_machine.proofs.Steps.{happened}
-use Rattle.pg_index.specs.declared.index_table.IndexTable.{IndexTable}
-use Rattle.pg_index.specs.contracts.index_table.IndexTableGroupTable.TheImpl.{ghosts}
+use Rattle.pg_joining.specs.PgMachine.Machine.{Machine, Event, World, is_there, start_of}
+use Rattle.pg_joining.specs.PgLoss.Reached.{LosingReaches}
+use Rattle.pg_joining.specs.PgRetries.Survived.{LossesSurvived}
+use Rattle.pg_joining.specs.PgMachine.Losing.{LosingEvent, nobody_gone}
+use Rattle.pg_joining.specs.PgMachine.Places.{is_pair, set_at}
+use Rattle.pg_joining.specs.PgMachine.Runs.{Leads}
+use Rattle.pg_joining.proofs.PgMachine.Steps.{happened}
+use Rattle.pg_joining.specs.PgIndex.declared.index_table.IndexTable.{IndexTable}
+use Rattle.pg_joining.specs.PgIndex.contracts.index_table.IndexTableGroupTable.TheImpl.{ghosts}
 use Rattle.pg_joining.specs.Merge.{Merges, MergesRest, IsNext, rest_of, clocks_of}
 use Rattle.pg_joining.specs.Merge.{clocks_in, log_at, entry_at, merged_logs, seen_log}
 use Rattle.pg_joining.proofs.Seen.{same_merge}
-use Rattle.pg_node.specs.Nodes.{held_by, links_of}
-use Rattle.pg_node_state.specs.States.{state_of}
+use Rattle.pg_joining.specs.PgNode.Nodes.{held_by, links_of}
+use Rattle.pg_joining.specs.PgNodeState.States.{state_of}
 use Rattle.pg_ring.specs.Ends.{Sends, Receives}
-use Rattle.pg_run.specs.declared.log.NodeEvent.{NodeEvent}
-use Rattle.pg_run.specs.declared.log.NodeEvent.TheVariants as entries
+use Rattle.pg_joining.specs.PgRun.declared.log.NodeEvent.{NodeEvent}
+use Rattle.pg_joining.specs.PgRun.declared.log.NodeEvent.TheVariants as entries
 use Rattle.pg_ring.specs.Slots.{taken}
-use Rattle.pg_run.specs.declared.notices.Notice.{Notice}
-use Rattle.pg_run.specs.Acts.{Act, AllLead, Given, IsFromPeer, Took, Saw, Did, SawNone, Standing}
-use Rattle.pg_run.specs.Acts.{log_entry, event_of as entry_event, loss_of, losses_of, seen_by, seen_in}
-use Rattle.pg_run.specs.Follows.{Follows, node_of as node_at, log_of}
-use Rattle.pg_run.specs.Notices.{IsUntold, NoticesGo, kept_of}
-use Rattle.pg_run.specs.Runs.{linked_of, notices_at, notices_of}
-use Rattle.pg_run.proofs.GoingOn.{seen_none}
-use Rattle.pg_step.specs.Config.{Config, names_of}
-use Rattle.pg_step.specs.FrameMachine.{frame_machine, last_notice, losing_frame_machine}
-use Rattle.pg_step.specs.LossLaws.{LosingFrameWorld}
-use Rattle.pg_step.specs.Step.{Action, Issue, Retry}
+use Rattle.pg_joining.specs.PgRun.declared.notices.Notice.{Notice}
+use Rattle.pg_joining.specs.PgRun.Acts.{Act, AllLead, Given, IsFromPeer, Took, Saw, Did, SawNone, Standing}
+use Rattle.pg_joining.specs.PgRun.Acts.{log_entry, event_of as entry_event, loss_of, losses_of, seen_by, seen_in}
+use Rattle.pg_joining.specs.PgRun.Follows.{Follows, node_of as node_at, log_of}
+use Rattle.pg_joining.specs.PgRun.Notices.{IsUntold, NoticesGo, kept_of}
+use Rattle.pg_joining.specs.PgRun.Runs.{linked_of, notices_at, notices_of}
+use Rattle.pg_joining.proofs.PgRun.GoingOn.{seen_none}
+use Rattle.pg_joining.specs.PgStep.Config.{Config, names_of}
+use Rattle.pg_joining.specs.PgStep.FrameMachine.{frame_machine, last_notice, losing_frame_machine}
+use Rattle.pg_joining.specs.PgStep.LossLaws.{LosingFrameWorld}
+use Rattle.pg_joining.specs.PgStep.Step.{Action, Issue, Retry}
 use Rattle.pg_joining.proofs.Turns.{first_none, others_none, saw_none, SeesNone}
 use Rattle.pg_joining.specs.Apart.{End, HaveRun, Linked as LinkedBy, Crossed}
 use Rattle.pg_joining.specs.Apart.{RanApart, RanTogether, event_at, events_in, end_of}
 use Rattle.pg_joining.specs.ApartWithLosses.{MarkedReaches, RanLosing, RanPastLosses, SeesLost}
 use Rattle.pg_joining.specs.ApartWithLosses.{clock_of, is_last_notice, losing_events, nodes_in}
-use Rattle.pg_frame_world.specs.declared.step.FrameStep.{FrameStep}
-use Rattle.pg_frame_world.specs.declared.step.FrameStep.TheVariants as steps
-use Rattle.pg_world.specs.Crossings.{node_of}
-use Rattle.pg_frame_world.specs.Views.{peer_place, place_of_peer}
-use Rattle.pg_frame_world.specs.Worlds.{ShowsNode, event_of}
-use Rattle.pg_frame_world.proofs.Ordered.{ordered_length}
-use Rattle.pg_frame_world.proofs.Peering.{peers_differ}
-use Rattle.pg_frame_world.proofs.Turning.{pair_is}
+use Rattle.pg_joining.specs.PgFrameWorld.declared.step.FrameStep.{FrameStep}
+use Rattle.pg_joining.specs.PgFrameWorld.declared.step.FrameStep.TheVariants as steps
+use Rattle.pg_joining.specs.PgWorld.Crossings.{node_of}
+use Rattle.pg_joining.specs.PgFrameWorld.Views.{peer_place, place_of_peer}
+use Rattle.pg_joining.specs.PgFrameWorld.Worlds.{ShowsNode, event_of}
+use Rattle.pg_joining.proofs.PgFrameWorld.Ordered.{ordered_length}
+use Rattle.pg_joining.proofs.PgFrameWorld.Peering.{peers_differ}
+use Rattle.pg_joining.proofs.PgFrameWorld.Turning.{pair_is}
 use Rattle.pg_term.specs.Same.{same_atom}
 use Rattle.pg_cluster.specs.declared.closed.TurnCount.{TurnCount}
 use Rattle.pg_cluster.specs.Ended.{row_at}

@@ -4,39 +4,39 @@ use Rattle.std.proofs.Common.{false, ◌&&◌, ◌||◌, cond, get_or, List, [],
 use Rattle.std.proofs.Common.{Some, None, Result, Ok, Err, refl, sym, ap, subst, ◌∙◌, arith}
 use Rattle.std.specs.Prelude.{IfOk, IsTrue, slice_get}
 use Rattle.std.proofs.lemmas.Option.{slice_get-get_or, slice_get_within}
-use Rattle.pg_group.specs.declared.table.GroupTable.{Ghosts}
-use Rattle.pg_message.specs.declared.message.Message.{Message}
-use Rattle.pg_machine.specs.Machine.{Event, Turn, Take, Do, happens, start_of}
-use Rattle.pg_machine.specs.Clocked.{Timed, Stamped, timed as clocked_turn, timed_turn}
-use Rattle.pg_machine.specs.Runs.{Leads}
-use Rattle.pg_machine.proofs.Options.{some_is}
-use Rattle.pg_machine.proofs.Steps.{took, did}
-use Rattle.pg_node.specs.declared.node.Node.{Node}
-use Rattle.pg_run.specs.declared.log.NodeEvent.{NodeEvent}
-use Rattle.pg_step.specs.declared.refusal.Refusal.{Refusal}
-use Rattle.pg_step.specs.declared.refusal.Refusal.TheVariants.{NoSuchPlace, ClockFull}
-use Rattle.pg_step.specs.Config.{Config, name_at, nodes_at, ports_at}
-use Rattle.pg_step.specs.FrameMachine.{frame_machine, place_turn, placed}
-use Rattle.pg_step.specs.State.{State}
-use Rattle.pg_step.specs.Step.{Action, CLOCK_LIMIT, TimedTurn, at_clock}
-use Rattle.pg_step.specs.Step.{node_takes, node_acts, step_act, timed as node_turn}
-use Rattle.pg_step.specs.Turns.{NodeTurn, Report}
-use Rattle.pg_frame_world.specs.declared.step.FrameStep.{FrameStep}
-use Rattle.pg_frame_world.specs.declared.step.FrameStep.TheVariants as steps
-use Rattle.pg_config.specs.declared.fault.WorldFault.{WorldFault}
-use Rattle.pg_config.specs.declared.fault.WorldFault.TheVariants.{OutOfMemory}
-use Rattle.pg_world.specs.Crossings.{node_of}
-use Rattle.pg_frame_world.specs.Openings.{CantBegin}
-use Rattle.pg_frame_world.specs.Runs.{IsTold, ChangesNothing, LosesNone, Ran, RunsTo, over_packets, number_told}
-use Rattle.pg_starts.specs.Seen.{Seen}
-use Rattle.pg_frame_world.specs.Views.{View}
-use Rattle.pg_frame_world.specs.Worlds.{TimedFrameWorld, ShowsWorld, ShowsNode, ShowsNodes, event_of, told_event, told_of_first}
+use Rattle.pg_joining.specs.PgGroup.declared.table.GroupTable.{Ghosts}
+use Rattle.pg_joining.specs.PgMessage.declared.message.Message.{Message}
+use Rattle.pg_joining.specs.PgMachine.Machine.{Event, Turn, Take, Do, happens, start_of}
+use Rattle.pg_joining.specs.PgMachine.Clocked.{Timed, Stamped, timed as clocked_turn, timed_turn}
+use Rattle.pg_joining.specs.PgMachine.Runs.{Leads}
+use Rattle.pg_joining.proofs.PgMachine.Options.{some_is}
+use Rattle.pg_joining.proofs.PgMachine.Steps.{took, did}
+use Rattle.pg_joining.specs.PgNode.declared.node.Node.{Node}
+use Rattle.pg_joining.specs.PgRun.declared.log.NodeEvent.{NodeEvent}
+use Rattle.pg_joining.specs.PgStep.declared.refusal.Refusal.{Refusal}
+use Rattle.pg_joining.specs.PgStep.declared.refusal.Refusal.TheVariants.{NoSuchPlace, ClockFull}
+use Rattle.pg_joining.specs.PgStep.Config.{Config, name_at, nodes_at, ports_at}
+use Rattle.pg_joining.specs.PgStep.FrameMachine.{frame_machine, place_turn, placed}
+use Rattle.pg_joining.specs.PgStep.State.{State}
+use Rattle.pg_joining.specs.PgStep.Step.{Action, CLOCK_LIMIT, TimedTurn, at_clock}
+use Rattle.pg_joining.specs.PgStep.Step.{node_takes, node_acts, step_act, timed as node_turn}
+use Rattle.pg_joining.specs.PgStep.Turns.{NodeTurn, Report}
+use Rattle.pg_joining.specs.PgFrameWorld.declared.step.FrameStep.{FrameStep}
+use Rattle.pg_joining.specs.PgFrameWorld.declared.step.FrameStep.TheVariants as steps
+use Rattle.pg_joining.specs.PgConfig.declared.fault.WorldFault.{WorldFault}
+use Rattle.pg_joining.specs.PgConfig.declared.fault.WorldFault.TheVariants.{OutOfMemory}
+use Rattle.pg_joining.specs.PgWorld.Crossings.{node_of}
+use Rattle.pg_joining.specs.PgFrameWorld.Openings.{CantBegin}
+use Rattle.pg_joining.specs.PgFrameWorld.Runs.{IsTold, ChangesNothing, LosesNone, Ran, RunsTo, over_packets, number_told}
+use Rattle.pg_joining.specs.PgStarts.Seen.{Seen}
+use Rattle.pg_joining.specs.PgFrameWorld.Views.{View}
+use Rattle.pg_joining.specs.PgFrameWorld.Worlds.{TimedFrameWorld, ShowsWorld, ShowsNode, ShowsNodes, event_of, told_event, told_of_first}
 use Rattle.pg_cluster.specs.Judges.{AreShown, Replays, all_made, ran_out}
 use Rattle.pg_cluster.specs.Threads.{NodeOf}
 use Rattle.pg_cluster.specs.Together.{AreOneRun}
 use Rattle.pg_cluster.proofs.NoneLost.{none_lost}
-use Rattle.pg_frame_world.specs.Openings.{CanBegin}
-use Rattle.pg_frame_world.proofs.OrderedOnce.{ordered_once}
+use Rattle.pg_joining.specs.PgFrameWorld.Openings.{CanBegin}
+use Rattle.pg_joining.proofs.PgFrameWorld.OrderedOnce.{ordered_once}
 use Rattle.pg_cluster.proofs.ShownOnce.{shown_once}
 
 -- ---- what is told of an event that happens

@@ -3,25 +3,25 @@ use Rattle.std.proofs.Common.{◌≡◌, ◌↔◌, ◌∙◌, inl, inr, ℕ, na
 use Rattle.std.proofs.Common.{cond, List, [], ◌∷◌, map, Result, Ok, Err, refl, sym, ap, subst}
 use Rattle.std.specs.Prelude.{IfOk, IsTrue}
 use Rattle.std.specs.Option.{option_map_or}
-use Rattle.pg_machine.specs.Losing.{LosingEvent, losing_happens, nobody_gone}
-use Rattle.pg_machine.specs.Machine.{start_of}
-use Rattle.pg_machine.proofs.Options.{some_is}
+use Rattle.pg_joining.specs.PgMachine.Losing.{LosingEvent, losing_happens, nobody_gone}
+use Rattle.pg_joining.specs.PgMachine.Machine.{start_of}
+use Rattle.pg_joining.proofs.PgMachine.Options.{some_is}
 use Rattle.pg_joining.specs.ApartWithLosses.{nodes_in}
-use Rattle.pg_step.specs.Config.{Config}
-use Rattle.pg_step.specs.Faults.{refusal_number_of}
-use Rattle.pg_step.specs.FrameMachine.{last_notice, losing_frame_machine}
-use Rattle.pg_step.specs.LossLaws.{LosingFrameWorld}
-use Rattle.pg_step.specs.Step.{Action}
-use Rattle.pg_starts.specs.Seen.{Seen}
-use Rattle.pg_world.specs.Crossings.{node_of}
-use Rattle.pg_frame_world.specs.declared.step.FrameStep.{FrameStep}
-use Rattle.pg_frame_world.specs.declared.step.FrameStep.TheVariants as steps
-use Rattle.pg_frame_world.specs.Losing.{ShowsLosing, Telling, losing_of, told_of}
-use Rattle.pg_frame_world.specs.LosingRuns.{IsLeftOut, LosingRunsTo, RanLosing, packets_past_losses}
-use Rattle.pg_frame_world.specs.Openings.{CanBegin}
-use Rattle.pg_frame_world.specs.Views.{View}
-use Rattle.pg_frame_world.specs.Worlds.{ShowsNode, TimedFrameWorld}
-use Rattle.pg_frame_world.proofs.OrderedOnce.{ordered_once}
+use Rattle.pg_joining.specs.PgStep.Config.{Config}
+use Rattle.pg_joining.specs.PgStep.Faults.{refusal_number_of}
+use Rattle.pg_joining.specs.PgStep.FrameMachine.{last_notice, losing_frame_machine}
+use Rattle.pg_joining.specs.PgStep.LossLaws.{LosingFrameWorld}
+use Rattle.pg_joining.specs.PgStep.Step.{Action}
+use Rattle.pg_joining.specs.PgStarts.Seen.{Seen}
+use Rattle.pg_joining.specs.PgWorld.Crossings.{node_of}
+use Rattle.pg_joining.specs.PgFrameWorld.declared.step.FrameStep.{FrameStep}
+use Rattle.pg_joining.specs.PgFrameWorld.declared.step.FrameStep.TheVariants as steps
+use Rattle.pg_joining.specs.PgFrameWorld.Losing.{ShowsLosing, Telling, losing_of, told_of}
+use Rattle.pg_joining.specs.PgFrameWorld.LosingRuns.{IsLeftOut, LosingRunsTo, RanLosing, packets_past_losses}
+use Rattle.pg_joining.specs.PgFrameWorld.Openings.{CanBegin}
+use Rattle.pg_joining.specs.PgFrameWorld.Views.{View}
+use Rattle.pg_joining.specs.PgFrameWorld.Worlds.{ShowsNode, TimedFrameWorld}
+use Rattle.pg_joining.proofs.PgFrameWorld.OrderedOnce.{ordered_once}
 use Rattle.pg_cluster.specs.Judges.{AreShown, ReplaysPastLosses, all_made, ran_out}
 use Rattle.pg_cluster.specs.Threads.{NodeOf}
 use Rattle.pg_cluster.specs.Together.{AreOneLosingRun, CanBeMade, MadeInTurn, losing_event}

@@ -4,9 +4,9 @@ use Rattle.std.proofs.Common.{get_or, length, map, nat_eq, append-nil, refl, sym
 use Rattle.std.proofs.lemmas.Bool.{cases_lt}
 use Rattle.std.proofs.lemmas.List.{map-append}
 use Rattle.pg_joining.specs.Merge.{entry_at, log_at}
-use Rattle.pg_run.specs.declared.log.NodeEvent.{NodeEvent}
-use Rattle.pg_frame_world.specs.declared.step.FrameStep.{FrameStep}
-use Rattle.pg_frame_world.specs.declared.step.FrameStep.TheVariants as steps
+use Rattle.pg_joining.specs.PgRun.declared.log.NodeEvent.{NodeEvent}
+use Rattle.pg_joining.specs.PgFrameWorld.declared.step.FrameStep.{FrameStep}
+use Rattle.pg_joining.specs.PgFrameWorld.declared.step.FrameStep.TheVariants as steps
 use Rattle.pg_cluster.specs.Notices.{NobodyLost}
 use Rattle.pg_cluster.specs.Schedule.{IsLosingSchedule, IsSchedule, SeenStep, Turned, is_lost_in, losing_steps}
 use Rattle.pg_cluster.specs.Schedule.{loss_seen, losses_first, seen_step, step_as, steps_behind, steps_of}

@@ -3,28 +3,28 @@ use Rattle.std.proofs.Common.{◌≡◌, inl, inr, ℕ, Bool, List, [], ◌∷�
 use Rattle.std.proofs.Math.Path.{fun_ext}
 use Rattle.pg_term.specs.declared.pid.Pid.{Pid}
 use Rattle.pg_term.specs.declared.term.Term.{Term}
-use Rattle.pg_group.specs.Value.{Value, Counts}
-use Rattle.pg_group.specs.Scope.{anywhere, at_node}
-use Rattle.pg_group.specs.Members.{IsMemberList}
-use Rattle.pg_group.specs.Table.{Table}
-use Rattle.pg_group.proofs.Lists.{member_list_one}
-use Rattle.pg_query.specs.Closest.{AreNearest, IsClosest, picked}
-use Rattle.pg_query.proofs.Listing.{picked_some}
-use Rattle.pg_history.specs.History.{answers_by}
-use Rattle.pg_step.specs.declared.answer.Answer.{Answer}
-use Rattle.pg_step.specs.declared.answer.Reply.{Reply}
-use Rattle.pg_step.specs.declared.answer.Reply.TheVariants as reply
-use Rattle.pg_step.specs.declared.command.Command.{Command}
-use Rattle.pg_step.specs.declared.command.Command.TheVariants.{Create, Delete, Join, Leave, Make, Finish}
-use Rattle.pg_step.specs.declared.command.Command.TheVariants.{Members, LocalMembers, WhichGroups, Closest}
-use Rattle.pg_step.specs.Commands.{ListsMembers, ListsGroups, PicksMember, Reads, Answers}
-use Rattle.pg_step.specs.Config.{Config, name_at}
-use Rattle.pg_step.specs.Nodes.{Node}
-use Rattle.pg_step.specs.State.{Response}
-use Rattle.pg_step.specs.State.Response.{Given, Read}
-use Rattle.pg_starts.specs.Seen.{Seen}
-use Rattle.pg_frame_world.specs.Worlds.{TimedFrameWorld, AreAnswers, ShowsNode}
-use Rattle.pg_frame_world.proofs.OneList.{names_one}
+use Rattle.pg_joining.specs.PgGroup.Value.{Value, Counts}
+use Rattle.pg_joining.specs.PgGroup.Scope.{anywhere, at_node}
+use Rattle.pg_joining.specs.PgGroup.Members.{IsMemberList}
+use Rattle.pg_joining.specs.PgGroup.Table.{Table}
+use Rattle.pg_joining.proofs.PgGroup.Lists.{member_list_one}
+use Rattle.pg_joining.specs.PgQuery.Closest.{AreNearest, IsClosest, picked}
+use Rattle.pg_joining.proofs.PgQuery.Listing.{picked_some}
+use Rattle.pg_joining.specs.PgHistory.History.{answers_by}
+use Rattle.pg_joining.specs.PgStep.declared.answer.Answer.{Answer}
+use Rattle.pg_joining.specs.PgStep.declared.answer.Reply.{Reply}
+use Rattle.pg_joining.specs.PgStep.declared.answer.Reply.TheVariants as reply
+use Rattle.pg_joining.specs.PgStep.declared.command.Command.{Command}
+use Rattle.pg_joining.specs.PgStep.declared.command.Command.TheVariants.{Create, Delete, Join, Leave, Make, Finish}
+use Rattle.pg_joining.specs.PgStep.declared.command.Command.TheVariants.{Members, LocalMembers, WhichGroups, Closest}
+use Rattle.pg_joining.specs.PgStep.Commands.{ListsMembers, ListsGroups, PicksMember, Reads, Answers}
+use Rattle.pg_joining.specs.PgStep.Config.{Config, name_at}
+use Rattle.pg_joining.specs.PgStep.Nodes.{Node}
+use Rattle.pg_joining.specs.PgStep.State.{Response}
+use Rattle.pg_joining.specs.PgStep.State.Response.{Given, Read}
+use Rattle.pg_joining.specs.PgStarts.Seen.{Seen}
+use Rattle.pg_joining.specs.PgFrameWorld.Worlds.{TimedFrameWorld, AreAnswers, ShowsNode}
+use Rattle.pg_joining.proofs.PgFrameWorld.OneList.{names_one}
 
 -- ---- one reply
 

@@ -11,10 +11,10 @@ use Rattle.std.proofs.Math.ListN.{get_or-append}
 use Rattle.std.proofs.Math.Seq.{get_or-append_seam, drop-cons}
 use Rattle.pg_ring.specs.declared.slot_in.SlotIn.{SlotIn}
 use Rattle.pg_ring.specs.declared.slot_out.SlotOut.{SlotOut}
-use Rattle.pg_run.specs.declared.notices.Notice.{Notice}
-use Rattle.pg_run.specs.declared.port.Client.{Client}
-use Rattle.pg_run.specs.Runs.{notices_at}
-use Rattle.pg_step.specs.Config.{Config}
+use Rattle.pg_joining.specs.PgRun.declared.notices.Notice.{Notice}
+use Rattle.pg_joining.specs.PgRun.declared.port.Client.{Client}
+use Rattle.pg_joining.specs.PgRun.Runs.{notices_at}
+use Rattle.pg_joining.specs.PgStep.Config.{Config}
 use Rattle.pg_cluster.specs.Clients.{AllPairs, IsOpenClient, ports_begun}
 use Rattle.pg_cluster.specs.Ended.{AreWired}
 use Rattle.pg_cluster.specs.declared.member.Member.{Member}

@@ -6,12 +6,12 @@ use Rattle.std.specs.List.{All, list_all, list_any}
 use Rattle.std.proofs.lemmas.Bool.{cases_eq}
 use Rattle.std.proofs.lemmas.List.{get_or-map, get_or_default}
 use Rattle.pg_term.specs.declared.term.Term.{Term}
-use Rattle.pg_group.specs.declared.table.GroupTable.{Ghosts}
-use Rattle.pg_group.specs.Table.{AreNames, Table}
-use Rattle.pg_group.specs.Value.{Value}
-use Rattle.pg_node.specs.declared.node.Node.{Node}
-use Rattle.pg_frame_world.specs.Views.{peer_place}
-use Rattle.pg_run.specs.declared.log.NodeEvent.{NodeEvent}
+use Rattle.pg_joining.specs.PgGroup.declared.table.GroupTable.{Ghosts}
+use Rattle.pg_joining.specs.PgGroup.Table.{AreNames, Table}
+use Rattle.pg_joining.specs.PgGroup.Value.{Value}
+use Rattle.pg_joining.specs.PgNode.declared.node.Node.{Node}
+use Rattle.pg_joining.specs.PgFrameWorld.Views.{peer_place}
+use Rattle.pg_joining.specs.PgRun.declared.log.NodeEvent.{NodeEvent}
 use Rattle.pg_cluster.specs.Judges.{HasAs, formed_in, state_in}
 use Rattle.pg_cluster.specs.Survivors.{AgreesOf, AreOneOf, Log, any_before, has_event}
 use Rattle.pg_cluster.specs.Survivors.{is_compared, log_at, survivors, was_lost}

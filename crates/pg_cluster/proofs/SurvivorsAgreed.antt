@@ -14,54 +14,54 @@ use Rattle.pg_term.specs.declared.pid.Pid.{Pid}
 use Rattle.pg_term.specs.declared.term.Term.{Term}
 use Rattle.pg_term.specs.Same.{same_atom, same_term}
 use Rattle.pg_term.specs.contracts.term.TermEq.TheImpl.Laws as term_laws
-use Rattle.pg_group.specs.declared.update.Update.{Update}
-use Rattle.pg_group.specs.Value.{name_of}
-use Rattle.pg_message.specs.declared.message.Message.{Message}
-use Rattle.pg_machine.specs.Clocked.{Stamped, packets_of}
-use Rattle.pg_machine.specs.Happened.{Happened}
-use Rattle.pg_machine.specs.Losing.{Last, LosingEvent, LosingLeads, Noticed}
-use Rattle.pg_machine.specs.Losing.{Sent, Step, losing_happens, nobody_gone}
-use Rattle.pg_machine.specs.Machine.{Do, Event, Input, Own, Take, Taken, first_from, start_of}
-use Rattle.pg_machine.specs.Places.{is_pair, is_place}
-use Rattle.pg_machine.proofs.Options.{some_is}
-use Rattle.pg_machine.proofs.Steps.{changes}
-use Rattle.pg_step.specs.Commands.{change_of}
-use Rattle.pg_step.specs.Config.{Config, name_at, names_of, nodes_at}
-use Rattle.pg_step.specs.FrameMachine.{last_notice, losing_frame_machine, losing_machine_of}
-use Rattle.pg_step.specs.Faults.{first_that_holds}
-use Rattle.pg_step.specs.LossLaws.{LosingFrameWorld, clock_after, way_is_drained, is_notice}
-use Rattle.pg_step.specs.StepLaws.{is_full}
-use Rattle.pg_step.specs.declared.refusal.Refusal.TheVariants.{NoSuchPlace, NodeLost, NotLost, NotDrained, ClockFull}
-use Rattle.pg_step.specs.State.{State, formed, live_nodes}
-use Rattle.pg_step.specs.Step.{Action, Issue, Retry}
-use Rattle.pg_step.specs.Turns.{Report}
-use Rattle.pg_step.specs.declared.command.Command.{Command}
-use Rattle.pg_step.specs.declared.command.Command.TheVariants as commands
-use Rattle.pg_machine.specs.Machine.{Turn}
-use Rattle.pg_history.specs.History.{Entry, entries, issued, of_group}
-use Rattle.pg_history.specs.Reached.{FinishedAt}
-use Rattle.pg_history.specs.WithLosses.{NonePendingLive, has_seen}
-use Rattle.pg_history.proofs.ends.Apart.{pair_second}
-use Rattle.pg_history.proofs.references.Keys.{atoms, read_at}
-use Rattle.pg_history.proofs.steps.Ways.{all_both}
-use Rattle.pg_loss.specs.Agreeing.{SawAll}
-use Rattle.pg_loss.specs.Reached.{LosingReaches, steps_of}
-use Rattle.pg_loss.proofs.Bridge.{not_true}
-use Rattle.pg_loss.proofs.Lasts.{seen_later}
-use Rattle.pg_loss.proofs.Lossy.{bare, Passed, Went, Died, passed, Makes, Steps, Sees, makes, noted}
-use Rattle.pg_left.specs.Heard.{Heard, HeardTheLost, NoneOfLost}
-use Rattle.pg_left.proofs.Unlocked.{all_left, waits}
-use Rattle.pg_opens.specs.Places.{whole_in}
-use Rattle.pg_run.specs.declared.log.NodeEvent.{NodeEvent}
-use Rattle.pg_run.specs.declared.log.NodeEvent.TheVariants as events
+use Rattle.pg_joining.specs.PgGroup.declared.update.Update.{Update}
+use Rattle.pg_joining.specs.PgGroup.Value.{name_of}
+use Rattle.pg_joining.specs.PgMessage.declared.message.Message.{Message}
+use Rattle.pg_joining.specs.PgMachine.Clocked.{Stamped, packets_of}
+use Rattle.pg_joining.specs.PgMachine.Happened.{Happened}
+use Rattle.pg_joining.specs.PgMachine.Losing.{Last, LosingEvent, LosingLeads, Noticed}
+use Rattle.pg_joining.specs.PgMachine.Losing.{Sent, Step, losing_happens, nobody_gone}
+use Rattle.pg_joining.specs.PgMachine.Machine.{Do, Event, Input, Own, Take, Taken, first_from, start_of}
+use Rattle.pg_joining.specs.PgMachine.Places.{is_pair, is_place}
+use Rattle.pg_joining.proofs.PgMachine.Options.{some_is}
+use Rattle.pg_joining.proofs.PgMachine.Steps.{changes}
+use Rattle.pg_joining.specs.PgStep.Commands.{change_of}
+use Rattle.pg_joining.specs.PgStep.Config.{Config, name_at, names_of, nodes_at}
+use Rattle.pg_joining.specs.PgStep.FrameMachine.{last_notice, losing_frame_machine, losing_machine_of}
+use Rattle.pg_joining.specs.PgStep.Faults.{first_that_holds}
+use Rattle.pg_joining.specs.PgStep.LossLaws.{LosingFrameWorld, clock_after, way_is_drained, is_notice}
+use Rattle.pg_joining.specs.PgStep.StepLaws.{is_full}
+use Rattle.pg_joining.specs.PgStep.declared.refusal.Refusal.TheVariants.{NoSuchPlace, NodeLost, NotLost, NotDrained, ClockFull}
+use Rattle.pg_joining.specs.PgStep.State.{State, formed, live_nodes}
+use Rattle.pg_joining.specs.PgStep.Step.{Action, Issue, Retry}
+use Rattle.pg_joining.specs.PgStep.Turns.{Report}
+use Rattle.pg_joining.specs.PgStep.declared.command.Command.{Command}
+use Rattle.pg_joining.specs.PgStep.declared.command.Command.TheVariants as commands
+use Rattle.pg_joining.specs.PgMachine.Machine.{Turn}
+use Rattle.pg_joining.specs.PgHistory.History.{Entry, entries, issued, of_group}
+use Rattle.pg_joining.specs.PgHistory.Reached.{FinishedAt}
+use Rattle.pg_joining.specs.PgHistory.WithLosses.{NonePendingLive, has_seen}
+use Rattle.pg_joining.proofs.PgHistory.ends.Apart.{pair_second}
+use Rattle.pg_joining.proofs.PgHistory.references.Keys.{atoms, read_at}
+use Rattle.pg_joining.proofs.PgHistory.steps.Ways.{all_both}
+use Rattle.pg_joining.specs.PgLoss.Agreeing.{SawAll}
+use Rattle.pg_joining.specs.PgLoss.Reached.{LosingReaches, steps_of}
+use Rattle.pg_joining.proofs.PgLoss.Bridge.{not_true}
+use Rattle.pg_joining.proofs.PgLoss.Lasts.{seen_later}
+use Rattle.pg_joining.proofs.PgLoss.Lossy.{bare, Passed, Went, Died, passed, Makes, Steps, Sees, makes, noted}
+use Rattle.pg_joining.specs.PgLeft.Heard.{Heard, HeardTheLost, NoneOfLost}
+use Rattle.pg_joining.proofs.PgLeft.Unlocked.{all_left, waits}
+use Rattle.pg_joining.specs.PgOpens.Places.{whole_in}
+use Rattle.pg_joining.specs.PgRun.declared.log.NodeEvent.{NodeEvent}
+use Rattle.pg_joining.specs.PgRun.declared.log.NodeEvent.TheVariants as events
 use Rattle.pg_joining.specs.Merge.{clocks_in, entry_at, places_of}
 use Rattle.pg_joining.specs.Merge.{log_at as merge_log}
 use Rattle.pg_joining.proofs.Sorted.{every_place}
-use Rattle.pg_frame_world.specs.declared.step.FrameStep.{FrameStep}
-use Rattle.pg_frame_world.specs.declared.step.FrameStep.TheVariants as steps
-use Rattle.pg_frame_world.specs.Losing.{none_sent, told_of}
-use Rattle.pg_frame_world.specs.Views.{peer_place, place_of_peer}
-use Rattle.pg_frame_world.proofs.Peering.{there_and_back}
+use Rattle.pg_joining.specs.PgFrameWorld.declared.step.FrameStep.{FrameStep}
+use Rattle.pg_joining.specs.PgFrameWorld.declared.step.FrameStep.TheVariants as steps
+use Rattle.pg_joining.specs.PgFrameWorld.Losing.{none_sent, told_of}
+use Rattle.pg_joining.specs.PgFrameWorld.Views.{peer_place, place_of_peer}
+use Rattle.pg_joining.proofs.PgFrameWorld.Peering.{there_and_back}
 use Rattle.pg_cluster.specs.Judges.{HasAs, formed_in, is_end_pending, is_pending_end}
 use Rattle.pg_cluster.specs.Judges.{is_seen_free, is_taken_by_some, state_in}
 use Rattle.pg_cluster.specs.Schedule.{IsLosingSchedule, SeenStep, Turned, Lost, is_alone, is_last_of}

@@ -1,12 +1,12 @@
 -- What a cluster, and one whose threads have ended, are seen as.
 use Rattle.std.specs.Prelude.{◌≡◌, ℕ, Bool, List, Some, length, map, slice_get}
 use Rattle.pg_term.specs.declared.term.Term.{Term}
-use Rattle.pg_history.specs.History.{Entry}
+use Rattle.pg_joining.specs.PgHistory.History.{Entry}
 use Rattle.pg_joining.specs.Merge.{Merges, clocks_in}
 use Rattle.pg_ring.specs.declared.slot_out.SlotOut.{SlotOut}
-use Rattle.pg_run.specs.declared.notices.Notice.{Notice}
-use Rattle.pg_run.specs.declared.log.NodeEvent.{NodeEvent}
-use Rattle.pg_run.specs.declared.port.Client.{Client}
+use Rattle.pg_joining.specs.PgRun.declared.notices.Notice.{Notice}
+use Rattle.pg_joining.specs.PgRun.declared.log.NodeEvent.{NodeEvent}
+use Rattle.pg_joining.specs.PgRun.declared.port.Client.{Client}
 use Rattle.pg_cluster.specs.declared.closed.Closed.{Closed}
 use Rattle.pg_cluster.specs.declared.closed.Stopped.{Stopped}
 use Rattle.pg_cluster.specs.declared.closed.TurnCount.{TurnCount}
@@ -19,9 +19,9 @@ use Rattle.pg_cluster.specs.Schedule.{AreSteps, IsSchedule, IsLosingSchedule}
 use Rattle.pg_cluster.specs.Threads.{Joined, NodeOf, RanOf, Thread, notices_ended}
 use Rattle.pg_cluster.specs.Together.{AreOneLosingRun, AreOneRun}
 use Rattle.pg_cluster.specs.Told.{HasHistory}
-use Rattle.pg_step.specs.Config.{Config}
-use Rattle.pg_frame_world.specs.declared.step.FrameStep.{FrameStep}
-use Rattle.pg_frame_world.specs.Runs.{LosesNone}
+use Rattle.pg_joining.specs.PgStep.Config.{Config}
+use Rattle.pg_joining.specs.PgFrameWorld.declared.step.FrameStep.{FrameStep}
+use Rattle.pg_joining.specs.PgFrameWorld.Runs.{LosesNone}
 
 -- the threads of a cluster, by the places of their nodes
 abbrev pub threads_of : {K : Type 0} → Cluster K → List (Thread K)

@@ -5,22 +5,22 @@ use Rattle.std.specs.declared.alloc.Global.{Global}
 use Rattle.std.specs.List.{All, list_all, list_any}
 use Rattle.pg_term.specs.declared.pid.Pid.{Pid}
 use Rattle.pg_term.specs.declared.term.Term.{Term}
-use Rattle.pg_group.specs.declared.table.GroupTable.{Ghosts}
-use Rattle.pg_node.specs.declared.node.Node.{Node}
-use Rattle.pg_node.specs.Nodes.{held_by}
-use Rattle.pg_node_state.specs.States.{kept_by, live_of}
-use Rattle.pg_run.specs.declared.log.NodeEvent.{NodeEvent}
-use Rattle.pg_run.specs.declared.log.NodeEvent.TheVariants as events
-use Rattle.pg_step.specs.declared.command.Command.TheVariants.{Finish}
-use Rattle.pg_step.specs.State.{State, formed}
-use Rattle.pg_step.specs.Config.{Config}
-use Rattle.pg_frame_world.specs.declared.step.FrameStep.{FrameStep}
-use Rattle.pg_world.specs.Crossings.{node_of}
-use Rattle.pg_frame_world.specs.Runs.{Ran, over_packets}
+use Rattle.pg_joining.specs.PgGroup.declared.table.GroupTable.{Ghosts}
+use Rattle.pg_joining.specs.PgNode.declared.node.Node.{Node}
+use Rattle.pg_joining.specs.PgNode.Nodes.{held_by}
+use Rattle.pg_joining.specs.PgNodeState.States.{kept_by, live_of}
+use Rattle.pg_joining.specs.PgRun.declared.log.NodeEvent.{NodeEvent}
+use Rattle.pg_joining.specs.PgRun.declared.log.NodeEvent.TheVariants as events
+use Rattle.pg_joining.specs.PgStep.declared.command.Command.TheVariants.{Finish}
+use Rattle.pg_joining.specs.PgStep.State.{State, formed}
+use Rattle.pg_joining.specs.PgStep.Config.{Config}
+use Rattle.pg_joining.specs.PgFrameWorld.declared.step.FrameStep.{FrameStep}
+use Rattle.pg_joining.specs.PgWorld.Crossings.{node_of}
+use Rattle.pg_joining.specs.PgFrameWorld.Runs.{Ran, over_packets}
 use Rattle.pg_joining.specs.ApartWithLosses.{nodes_in}
-use Rattle.pg_frame_world.specs.LosingRuns.{RanLosing, packets_past_losses}
-use Rattle.pg_starts.specs.Seen.{Seen}
-use Rattle.pg_frame_world.specs.Worlds.{ShowsNode}
+use Rattle.pg_joining.specs.PgFrameWorld.LosingRuns.{RanLosing, packets_past_losses}
+use Rattle.pg_joining.specs.PgStarts.Seen.{Seen}
+use Rattle.pg_joining.specs.PgFrameWorld.Worlds.{ShowsNode}
 
 -- one of the steps that have these numbers was refused since memory ran out
 abbrev pub ran_out : List ℕ → Bool

@@ -17,3 +17,14 @@ pub mod Survivors
 pub mod Threads
 pub mod Told
 pub mod Together
+pub use Rattle.pg_joining.specs.PgConfig
+pub use Rattle.pg_joining.specs.PgFrame
+pub use Rattle.pg_joining.specs.PgFrameWorld
+pub use Rattle.pg_joining.specs.PgGroup
+pub use Rattle.pg_joining.specs.PgMessage
+pub use Rattle.pg_joining.specs.PgNodeState
+pub use Rattle.pg_joining.specs.PgReplica
+pub use Rattle.pg_ring.specs as PgRing
+pub use Rattle.pg_joining.specs.PgRun
+pub use Rattle.pg_joining.specs.PgStep
+pub use Rattle.pg_joining.specs.PgTermIo

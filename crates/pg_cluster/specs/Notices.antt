@@ -5,8 +5,8 @@ use Rattle.std.specs.List.{All, AllByRecursion}
 use Rattle.pg_ring.specs.declared.slot_in.SlotIn.{SlotIn}
 use Rattle.pg_ring.specs.declared.slot_out.SlotOut.{SlotOut}
 use Rattle.pg_ring.specs.Slots.{AreSlots, SameSlotOut, given, slots_free, taken}
-use Rattle.pg_run.specs.declared.notices.Notice.{Notice}
-use Rattle.pg_frame_world.specs.Views.{peer_place}
+use Rattle.pg_joining.specs.PgRun.declared.notices.Notice.{Notice}
+use Rattle.pg_joining.specs.PgFrameWorld.Views.{peer_place}
 
 -- none of these nodes was lost, each told by its place
 abbrev pub NobodyLost : List Bool → Type 0

@@ -1,13 +1,13 @@
 -- Steps that a world made from the start of a configuration.
 use Rattle.std.specs.Prelude.{◌≡◌, ℕ, Bool, List, [], ◌++◌, map}
-use Rattle.pg_run.specs.declared.log.NodeEvent.{NodeEvent}
-use Rattle.pg_step.specs.Config.{Config}
-use Rattle.pg_frame_world.specs.declared.step.FrameStep.{FrameStep}
-use Rattle.pg_frame_world.specs.FrameWorlds.{lost_of, view_of}
-use Rattle.pg_frame_world.specs.Losing.{ShowsLosing}
-use Rattle.pg_frame_world.specs.LosingRuns.{RanLosing, packets_past_losses}
-use Rattle.pg_frame_world.specs.Runs.{LosesNone, Ran, over_packets}
-use Rattle.pg_frame_world.specs.Worlds.{ShowsWorld}
+use Rattle.pg_joining.specs.PgRun.declared.log.NodeEvent.{NodeEvent}
+use Rattle.pg_joining.specs.PgStep.Config.{Config}
+use Rattle.pg_joining.specs.PgFrameWorld.declared.step.FrameStep.{FrameStep}
+use Rattle.pg_joining.specs.PgFrameWorld.FrameWorlds.{lost_of, view_of}
+use Rattle.pg_joining.specs.PgFrameWorld.Losing.{ShowsLosing}
+use Rattle.pg_joining.specs.PgFrameWorld.LosingRuns.{RanLosing, packets_past_losses}
+use Rattle.pg_joining.specs.PgFrameWorld.Runs.{LosesNone, Ran, over_packets}
+use Rattle.pg_joining.specs.PgFrameWorld.Worlds.{ShowsWorld}
 use Rattle.pg_cluster.specs.declared.replay.Replay.{Replay}
 use Rattle.pg_cluster.specs.Schedule.{AreSteps, SeenStep, seen_step}
 

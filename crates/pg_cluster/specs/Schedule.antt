@@ -3,11 +3,11 @@ use Rattle.std.specs.Prelude.{◌≡◌, ℕ, zero, suc, ◌+◌, ◌-◌, ◌^�
 use Rattle.std.specs.Prelude.{nat_eq, nat_lt, min, get_or, length, map, List, [], ◌∷◌, ◌++◌}
 use Rattle.std.specs.List.{flat_map}
 use Rattle.pg_joining.specs.Merge.{Merges, clocks_in, log_at, entry_at}
-use Rattle.pg_run.specs.declared.log.NodeEvent.{NodeEvent}
-use Rattle.pg_run.specs.declared.log.NodeEvent.TheVariants as events
+use Rattle.pg_joining.specs.PgRun.declared.log.NodeEvent.{NodeEvent}
+use Rattle.pg_joining.specs.PgRun.declared.log.NodeEvent.TheVariants as events
 use Rattle.pg_joining.specs.ApartWithLosses.{takes_in}
-use Rattle.pg_frame_world.specs.declared.step.FrameStep.{FrameStep}
-use Rattle.pg_frame_world.specs.declared.step.FrameStep.TheVariants as steps
+use Rattle.pg_joining.specs.PgFrameWorld.declared.step.FrameStep.{FrameStep}
+use Rattle.pg_joining.specs.PgFrameWorld.declared.step.FrameStep.TheVariants as steps
 
 -- which node the peer at a place among the peers of a node is, as a machine word counts
 abbrev pub node_of_peer : ℕ → ℕ → ℕ

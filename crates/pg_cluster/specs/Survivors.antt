@@ -6,13 +6,13 @@ use Rattle.std.specs.declared.alloc.Global.{Global}
 use Rattle.std.specs.List.{All, list_any}
 use Rattle.pg_term.specs.declared.term.Term.{Term}
 use Rattle.pg_term.specs.Same.{same_term}
-use Rattle.pg_group.specs.declared.table.GroupTable.{Ghosts}
-use Rattle.pg_frame_world.specs.Views.{peer_place}
-use Rattle.pg_node.specs.declared.node.Node.{Node}
-use Rattle.pg_run.specs.declared.log.NodeEvent.{NodeEvent}
-use Rattle.pg_run.specs.declared.log.NodeEvent.TheVariants as events
-use Rattle.pg_step.specs.declared.command.Command.{Command}
-use Rattle.pg_step.specs.declared.command.Command.TheVariants as commands
+use Rattle.pg_joining.specs.PgGroup.declared.table.GroupTable.{Ghosts}
+use Rattle.pg_joining.specs.PgFrameWorld.Views.{peer_place}
+use Rattle.pg_joining.specs.PgNode.declared.node.Node.{Node}
+use Rattle.pg_joining.specs.PgRun.declared.log.NodeEvent.{NodeEvent}
+use Rattle.pg_joining.specs.PgRun.declared.log.NodeEvent.TheVariants as events
+use Rattle.pg_joining.specs.PgStep.declared.command.Command.{Command}
+use Rattle.pg_joining.specs.PgStep.declared.command.Command.TheVariants as commands
 use Rattle.pg_cluster.specs.Judges.{HasAs, formed_in, is_end_pending, is_seen_free, state_in}
 
 -- ---- which nodes were not lost

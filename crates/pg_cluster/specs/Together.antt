@@ -2,32 +2,32 @@
 use Rattle.std.specs.Prelude.{◌≡◌, ℕ, ◌<◌, ◌≤◌, Bool, true, false, length, map, slice_get, List, [], ◌∷◌, None, Some}
 use Rattle.std.specs.List.{IsDistinct}
 use Rattle.pg_term.specs.Same.{same_atom}
-use Rattle.pg_machine.specs.Machine.{Event, start_of}
-use Rattle.pg_machine.specs.Clocked.{plain}
-use Rattle.pg_machine.specs.Places.{is_pair}
-use Rattle.pg_machine.specs.Runs.{Leads, events_of}
-use Rattle.pg_history.specs.Headline.{OneHistory}
+use Rattle.pg_joining.specs.PgMachine.Machine.{Event, start_of}
+use Rattle.pg_joining.specs.PgMachine.Clocked.{plain}
+use Rattle.pg_joining.specs.PgMachine.Places.{is_pair}
+use Rattle.pg_joining.specs.PgMachine.Runs.{Leads, events_of}
+use Rattle.pg_joining.specs.PgHistory.Headline.{OneHistory}
 use Rattle.pg_joining.specs.Merge.{log_at}
-use Rattle.pg_node.specs.Nodes.{links_of}
-use Rattle.pg_run.specs.declared.log.NodeEvent.{NodeEvent}
-use Rattle.pg_step.specs.Config.{Config, names_of}
-use Rattle.pg_step.specs.FrameMachine.{frame_machine, last_notice, losing_frame_machine}
-use Rattle.pg_step.specs.Step.{Action}
+use Rattle.pg_joining.specs.PgNode.Nodes.{links_of}
+use Rattle.pg_joining.specs.PgRun.declared.log.NodeEvent.{NodeEvent}
+use Rattle.pg_joining.specs.PgStep.Config.{Config, names_of}
+use Rattle.pg_joining.specs.PgStep.FrameMachine.{frame_machine, last_notice, losing_frame_machine}
+use Rattle.pg_joining.specs.PgStep.Step.{Action}
 use Rattle.pg_joining.specs.Apart.{event_at}
-use Rattle.pg_frame_world.specs.declared.step.FrameStep.{FrameStep}
-use Rattle.pg_world.specs.Crossings.{node_of}
-use Rattle.pg_frame_world.specs.Starts.{Orders}
-use Rattle.pg_frame_world.specs.Views.{peer_place}
-use Rattle.pg_frame_world.specs.Worlds.{TimedFrameWorld, ShowsNode, event_of}
-use Rattle.pg_machine.specs.Losing.{LosingEvent, Step, Lose, losing_happens, nobody_gone}
-use Rattle.pg_machine.specs.Machine.{Take, Do}
-use Rattle.pg_loss.specs.Reached.{LosingReaches}
-use Rattle.pg_retries.specs.Survived.{LossesSurvived}
-use Rattle.pg_step.specs.LossLaws.{LosingFrameWorld}
-use Rattle.pg_step.specs.Step.{Issue, Retry}
+use Rattle.pg_joining.specs.PgFrameWorld.declared.step.FrameStep.{FrameStep}
+use Rattle.pg_joining.specs.PgWorld.Crossings.{node_of}
+use Rattle.pg_joining.specs.PgFrameWorld.Starts.{Orders}
+use Rattle.pg_joining.specs.PgFrameWorld.Views.{peer_place}
+use Rattle.pg_joining.specs.PgFrameWorld.Worlds.{TimedFrameWorld, ShowsNode, event_of}
+use Rattle.pg_joining.specs.PgMachine.Losing.{LosingEvent, Step, Lose, losing_happens, nobody_gone}
+use Rattle.pg_joining.specs.PgMachine.Machine.{Take, Do}
+use Rattle.pg_joining.specs.PgLoss.Reached.{LosingReaches}
+use Rattle.pg_joining.specs.PgRetries.Survived.{LossesSurvived}
+use Rattle.pg_joining.specs.PgStep.LossLaws.{LosingFrameWorld}
+use Rattle.pg_joining.specs.PgStep.Step.{Issue, Retry}
 use Rattle.pg_joining.specs.ApartWithLosses.{nodes_in}
-use Rattle.pg_frame_world.specs.declared.step.FrameStep.TheVariants as steps
-use Rattle.pg_frame_world.specs.Losing.{Telling, keep_of, told_of}
+use Rattle.pg_joining.specs.PgFrameWorld.declared.step.FrameStep.TheVariants as steps
+use Rattle.pg_joining.specs.PgFrameWorld.Losing.{Telling, keep_of, told_of}
 use Rattle.pg_cluster.specs.Schedule.{is_lost_in}
 use Rattle.pg_cluster.specs.Threads.{NodeOf}
 

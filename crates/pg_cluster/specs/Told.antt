@@ -1,17 +1,17 @@
 -- What a cluster that has ended tells of its nodes and of the groups.
 use Rattle.std.specs.Prelude.{◌≡◌, ℕ, true, cond, nat_lt, List, Option, Some, None}
 use Rattle.pg_term.specs.declared.term.Term.{Term}
-use Rattle.pg_group.specs.declared.table.GroupTable.{Ghosts}
-use Rattle.pg_history.specs.History.{Entry, history}
-use Rattle.pg_node.specs.declared.node.Node.{Node}
-use Rattle.pg_node.specs.Nodes.{held_by}
-use Rattle.pg_node_state.specs.Issued.{ports_of}
-use Rattle.pg_node_state.specs.States.{answers_of}
-use Rattle.pg_step.specs.declared.answer.Answer.{Answer}
-use Rattle.pg_step.specs.Config.{Config}
-use Rattle.pg_frame_world.specs.declared.step.FrameStep.{FrameStep}
-use Rattle.pg_frame_world.specs.Runs.{Ran, LosesNone, over_packets}
-use Rattle.pg_frame_world.specs.LosingRuns.{RanLosing, packets_past_losses}
+use Rattle.pg_joining.specs.PgGroup.declared.table.GroupTable.{Ghosts}
+use Rattle.pg_joining.specs.PgHistory.History.{Entry, history}
+use Rattle.pg_joining.specs.PgNode.declared.node.Node.{Node}
+use Rattle.pg_joining.specs.PgNode.Nodes.{held_by}
+use Rattle.pg_joining.specs.PgNodeState.Issued.{ports_of}
+use Rattle.pg_joining.specs.PgNodeState.States.{answers_of}
+use Rattle.pg_joining.specs.PgStep.declared.answer.Answer.{Answer}
+use Rattle.pg_joining.specs.PgStep.Config.{Config}
+use Rattle.pg_joining.specs.PgFrameWorld.declared.step.FrameStep.{FrameStep}
+use Rattle.pg_joining.specs.PgFrameWorld.Runs.{Ran, LosesNone, over_packets}
+use Rattle.pg_joining.specs.PgFrameWorld.LosingRuns.{RanLosing, packets_past_losses}
 use Rattle.pg_cluster.specs.Judges.{all_made}
 
 -- the answers that a node gave at a port, if it has that port

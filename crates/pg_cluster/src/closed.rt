@@ -11,12 +11,10 @@ use crate::promise::NodeRan;
 use crate::replay::{Replay, replay_all};
 use crate::schedule::steps_with_losses;
 use crate::wires::Row;
-use pg_index::IndexTable;
-use pg_joining::order_of_logs;
-use pg_node::Node;
+use pg_joining::{
+    Client, Config, FrameStep, IndexTable, LogEntry, Node, Notice, Port, WorldFault, order_of_logs,
+};
 use pg_ring::SlotIn;
-use pg_run::{Client, LogEntry, Notice, Port};
-use pg_world::{Config, FrameStep, WorldFault};
 use rand_core::Rng;
 use std::alloc::{AllocError, Global};
 
@@ -64,7 +62,7 @@ impl Stopped {
     ghost use Rattle.pg_cluster.specs.Closed.{nodes_of, logs_of, turns_of, losses_of, clients_of};
     ghost use Rattle.pg_cluster.specs.Judges.{Agree};
     ghost use Rattle.pg_cluster.specs.Survivors.{SurvivorsAgree};
-    ghost use Rattle.pg_step.specs.Config.{Config as Configuration};
+    ghost use Rattle.pg_joining.specs.PgStep.Config.{Config as Configuration};
 
     /// A cluster whose threads have ended.
     ///
@@ -148,7 +146,7 @@ impl Stopped {
 }
 
 impl Closed {
-    ghost use Rattle.pg_frame_world.specs.Openings.{CantBegin};
+    ghost use Rattle.pg_joining.specs.PgFrameWorld.Openings.{CantBegin};
     ghost use Rattle.pg_cluster.specs.Closed.{AreStepsOf, logs_in};
     ghost use Rattle.pg_cluster.specs.Replay.{HasMadeAll};
 
@@ -187,7 +185,7 @@ impl Closed {
 ghost use Rattle.pg_ring.specs.Slots.{AreSlots};
 ghost use Rattle.pg_cluster.specs.Closed.{nodes_of as nodes_with, logs_of as logs_with, turns_of as turns_with};
 ghost use Rattle.pg_cluster.specs.Closed.{losses_of as losses_with, clients_of as clients_with};
-ghost use Rattle.pg_run.specs.Ports.{ArePort, Meets};
+ghost use Rattle.pg_joining.specs.PgRun.Ports.{ArePort, Meets};
 ghost use Rattle.pg_cluster.specs.Clients.{AllPairs, ClientsRest, ports_ended};
 ghost use Rattle.pg_cluster.specs.Ended.{AreJoined, AllArrived};
 ghost use Rattle.pg_cluster.specs.Notices.{Told};

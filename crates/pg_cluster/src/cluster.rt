@@ -22,11 +22,8 @@ use crate::notices::{Teller, tell_all};
 use crate::promise::NodeRan;
 use crate::runs::make;
 use crate::threads::{start_all, stop_all, stop_one};
-use pg_node::NodeFault;
+use pg_joining::{Client, Config, Gate, NodeFault, Refusal, WorldFault};
 use pg_ring::RingOut;
-use pg_run::{Client, Gate};
-use pg_step::Refusal;
-use pg_world::{Config, WorldFault};
 use rand_core::Rng;
 use std::alloc::{AllocError, Global};
 use std::sync::Arc;
@@ -82,21 +79,21 @@ impl<K: Rng + Drop> Kept<K> {
 }
 
 impl<K: Rng + Drop + Send + 'static> Cluster<K> {
-    ghost use Rattle.pg_run.specs.Ports.{IsSilent};
+    ghost use Rattle.pg_joining.specs.PgRun.Ports.{IsSilent};
     ghost use Rattle.pg_cluster.specs.Clients.{AreClients, ClientsRest, AllHeard};
     ghost use Rattle.pg_cluster.specs.Closed.{AllTold, JoinsToOneLosingRun, JoinsToOneRun, NoticesCame, tellers_of};
     ghost use Rattle.pg_cluster.specs.Closed.{HasSteps, IsByClock, IsOneLosingRun, IsOneRun};
     ghost use Rattle.pg_cluster.specs.Closed.{threads_of, lost_of, nodes_of, logs_of, turns_of, losses_of, clients_of};
     ghost use Rattle.pg_cluster.specs.Fault.{CantRun};
     ghost use Rattle.pg_cluster.specs.Notices.{NobodyLost};
-    ghost use Rattle.pg_node_state.specs.declared.state.fault.NodeFault.TheVariants.{Refused};
-    ghost use Rattle.pg_step.specs.declared.refusal.Refusal.TheVariants.{NoSuchPlace, NodeLost};
+    ghost use Rattle.pg_joining.specs.PgNodeState.declared.state.fault.NodeFault.TheVariants.{Refused};
+    ghost use Rattle.pg_joining.specs.PgStep.declared.refusal.Refusal.TheVariants.{NoSuchPlace, NodeLost};
     ghost use Rattle.std.specs.List.{All};
     ghost use Rattle.pg_cluster.specs.Threads.{AreMade, EndedWith, HaveRings, begun_by, limit_of};
-    ghost use Rattle.pg_run.specs.Runs.{generator_of};
-    ghost use Rattle.pg_step.specs.Config.{Config as Configuration};
+    ghost use Rattle.pg_joining.specs.PgRun.Runs.{generator_of};
+    ghost use Rattle.pg_joining.specs.PgStep.Config.{Config as Configuration};
     ghost use Rattle.pg_cluster.specs.Judges.{Agree};
-    ghost use Rattle.pg_frame_world.specs.Openings.{CanBegin};
+    ghost use Rattle.pg_joining.specs.PgFrameWorld.Openings.{CanBegin};
     ghost use Rattle.pg_cluster.specs.Survivors.{SurvivorsAgree};
 
     /// Starts a thread for each node of a configuration, with rings of so many bytes between them: the cluster, and a

@@ -2,20 +2,19 @@
 
 ghost use Rattle.std.specs.Prelude.{◌≡◌, ◌≢◌, ◌++◌, ◌∷◌, [], false, None, IfOk, IfSome, OnOk, map};
 ghost use Rattle.std.specs.Option.{is_some, option_copied, option_to_list};
-ghost use Rattle.pg_account.specs.Histories.{as_entry};
-ghost use Rattle.pg_frame_world.specs.FrameWorlds.{view_of};
+ghost use Rattle.pg_joining.specs.PgAccount.Histories.{as_entry};
+ghost use Rattle.pg_joining.specs.PgFrameWorld.FrameWorlds.{view_of};
 ghost use Rattle.pg_cluster.specs.Judges.{all_made as were_all_made, ran_out as has_run_out};
 
 use crate::closed::Closed;
 use crate::judges::{all_made, ran_out};
-use pg_index::IndexTable;
+use pg_joining::{Config, Entry, FrameWorld, IndexTable, WorldFault, configs_are_decided};
 use pg_term::Term;
-use pg_world::{Config, Entry, FrameWorld, WorldFault, configs_are_decided};
 use std::alloc::{AllocError, Global};
 
 impl Closed {
     ghost use Rattle.std.specs.Prelude.{true};
-    ghost use Rattle.pg_frame_world.specs.Openings.{CanBegin};
+    ghost use Rattle.pg_joining.specs.PgFrameWorld.Openings.{CanBegin};
     ghost use Rattle.pg_cluster.specs.Closed.{IsHistory, IsOneLosingRun};
 
     /// The updates of a group in the order in which they got their last grant, each with its node and its command, as

@@ -2,8 +2,8 @@
 
 ghost use Rattle.std.specs.Prelude.{◌≡◌, ◌≢◌, ◌↔◌, Bool, true, false, IsTrue, IfOk, List, Some, map, slice_get};
 ghost use Rattle.std.specs.List.{All, list_all, list_any};
-ghost use Rattle.pg_world.specs.Crossings.{node_of};
-ghost use Rattle.pg_frame_world.specs.FrameWorlds.{view_of as view_of_world};
+ghost use Rattle.pg_joining.specs.PgWorld.Crossings.{node_of};
+ghost use Rattle.pg_joining.specs.PgFrameWorld.FrameWorlds.{view_of as view_of_world};
 ghost use Rattle.pg_cluster.specs.Judges.{
   AreShown as AreShownAll,
   all_made as were_all_made,
@@ -20,21 +20,18 @@ ghost use Rattle.pg_cluster.specs.Judges.{
 };
 
 use crate::closed::Closed;
-use pg_group::GroupTable;
-use pg_index::IndexTable;
-use pg_node::Node;
-use pg_query::same_group;
-use pg_run::{LogEntry, NodeEvent};
-use pg_step::Command;
+use pg_joining::{
+    Command, Config, FrameWorld, GroupTable, IndexTable, LogEntry, Node, NodeEvent, WorldFault,
+    configs_are_decided, same_group,
+};
 use pg_term::{Pid, Term};
-use pg_world::{Config, FrameWorld, WorldFault, configs_are_decided};
 use std::alloc::{AllocError, Global};
 
 impl Closed {
-    ghost use Rattle.pg_frame_world.specs.FrameWorlds.{view_of};
+    ghost use Rattle.pg_joining.specs.PgFrameWorld.FrameWorlds.{view_of};
     ghost use Rattle.pg_cluster.specs.Closed.{IsOneLosingRun, IsOneRun, IsReplayed};
     ghost use Rattle.pg_cluster.specs.Judges.{Agree, AreShown, all_made, ran_out};
-    ghost use Rattle.pg_frame_world.specs.Openings.{CanBegin};
+    ghost use Rattle.pg_joining.specs.PgFrameWorld.Openings.{CanBegin};
 
     /// Whether the nodes agree: formed nodes have the same of each group whose lock one node sees free, or an end is
     /// pending that a log has.

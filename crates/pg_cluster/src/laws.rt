@@ -1,9 +1,9 @@
 ghost use Rattle.std.specs.Prelude.{◌≡◌, ℕ, Bool, List, length, map};
 ghost use Rattle.std.specs.declared.alloc.Global.{Global};
 ghost use Rattle.std.specs.declared.vec.Vec.{Vec};
-ghost use Rattle.pg_run.specs.declared.log.NodeEvent.{NodeEvent};
-ghost use Rattle.pg_step.specs.Config.{Config};
-ghost use Rattle.pg_frame_world.specs.declared.step.FrameStep.{FrameStep};
+ghost use Rattle.pg_joining.specs.PgRun.declared.log.NodeEvent.{NodeEvent};
+ghost use Rattle.pg_joining.specs.PgStep.Config.{Config};
+ghost use Rattle.pg_joining.specs.PgFrameWorld.declared.step.FrameStep.{FrameStep};
 ghost use Rattle.pg_cluster.specs.declared.closed.TurnCount.{TurnCount};
 ghost use Rattle.pg_cluster.specs.Judges.{Agree, Replays, ReplaysPastLosses};
 ghost use Rattle.pg_cluster.specs.Notices.{NobodyLost};
@@ -12,10 +12,11 @@ ghost use Rattle.pg_cluster.specs.Survivors.{SurvivorsAgree};
 ghost use Rattle.pg_cluster.specs.Threads.{NodeOf, Thread, AreMade, EndedWith, begun_by};
 ghost use Rattle.pg_cluster.specs.Together.{AreOneRun, AreOneLosingRun};
 
-use pg_history::{ended_processes_were_finished, no_loss_is_seen};
-use pg_joining::{nodes_ran_together, nodes_ran_together_past_losses};
-use pg_left::{ended_processes_were_finished_past_losses, nodes_that_heard_the_lost_agree};
-use pg_retries::each_world_past_losses;
+use pg_joining::{
+    each_world_past_losses, ended_processes_were_finished,
+    ended_processes_were_finished_past_losses, no_loss_is_seen, nodes_ran_together,
+    nodes_ran_together_past_losses, nodes_that_heard_the_lost_agree,
+};
 
 /// The nodes of a configuration that ran as threads, with rings between them, and of which none was lost, made one run: their schedule is events that happen one
 /// after another from the start, each node does there what its log has and comes to where it ended, and of the world to which

@@ -31,5 +31,16 @@ pub use laws::{
     nodes_of_one_run_agree, one_losing_run_replays, one_run_replays, survivors_of_one_run_agree,
     threads_are_one_losing_run, threads_are_one_run,
 };
-pub use pg_run::{Client, Gate, Held, LogEntry, NodeEvent};
+pub use pg_joining::{
+    Answer, AnyReader, AnyWriter, Client, Command, Config, Deframer, Done, FrameFault, FrameStep,
+    FrameWorld, Framed, Gate, Held, IndexTable, LinkedNode, LogEntry, MAX_NODES, Message,
+    MessageFault, NOTICE_PLACES, Node, NodeConfig, NodeEvent, NodeFault, NodeRun, NodeState,
+    Notice, Packet, Peer, Port, RefFault, RefSource, Refusal, Reply, Request, Said, ServeFault,
+    Sink, Source, Start, Step, Stepped, World, WorldFault, decode, encode_into, frame_into,
+    order_of_logs, port_pair, serve, starting_nodes, which_groups, write_packet_into,
+};
+pub use pg_ring::{
+    Inlet, Link, MemRing, RingFault, RingIn, RingOut, SlotIn, SlotOut, ring_pair, slot_pair,
+    slots_together,
+};
 pub use running::{OpenGate, Running};

@@ -6,9 +6,7 @@ ghost use Rattle.pg_cluster.specs.Told.{answers_at as answers_given};
 
 use crate::closed::Closed;
 use crate::survivors::was_lost;
-use pg_index::IndexTable;
-use pg_node::Node;
-use pg_step::Answer;
+use pg_joining::{Answer, IndexTable, Node};
 
 impl Closed {
     ghost use Rattle.pg_cluster.specs.Survivors.{was_lost};

@@ -1,9 +1,8 @@
 //! What a node's thread promises.
 
 use crate::runs::Run;
-use pg_index::IndexTable;
+use pg_joining::{IndexTable, Ran};
 use pg_ring::{RingIn, RingOut};
-use pg_run::Ran;
 use rand_core::Rng;
 use std::snapshot::Snapshot;
 use std::thread::{Promise, PromisedHandle};

@@ -1,18 +1,17 @@
 //! The steps that the logs of a cluster are, made one after another: there is no list of them all.
 
 ghost use Rattle.std.specs.Prelude.{◌≡◌, ◌++◌, IfOk, IfErr, OnOk, map, List};
-ghost use Rattle.pg_frame_world.specs.Openings.{CantBegin};
-ghost use Rattle.pg_frame_world.specs.declared.step.FrameStep.{FrameStep};
-ghost use Rattle.pg_step.specs.Config.{Config as Configuration};
+ghost use Rattle.pg_joining.specs.PgFrameWorld.Openings.{CantBegin};
+ghost use Rattle.pg_joining.specs.PgFrameWorld.declared.step.FrameStep.{FrameStep};
+ghost use Rattle.pg_joining.specs.PgStep.Config.{Config as Configuration};
 ghost use Rattle.pg_cluster.specs.Replay.{HasMade, HasMadeAll, MadeOn};
 ghost use Rattle.pg_cluster.specs.Schedule.{seen_step, steps_at, steps_behind};
 
 use crate::schedule::{add_with_loss, first_losses};
-use pg_history::one_history;
-use pg_index::IndexTable;
-use pg_retries::each_world_past_losses;
-use pg_run::LogEntry;
-use pg_world::{Config, FrameStep, FrameWorld, WorldFault, run_frames};
+use pg_joining::{
+    Config, FrameStep, FrameWorld, IndexTable, LogEntry, WorldFault, each_world_past_losses,
+    one_history, run_frames,
+};
 use std::alloc::{AllocError, Global};
 
 /// A world that has made steps, and the number of each, as `FrameWorld::run` gives it.

@@ -3,17 +3,14 @@
 ghost use Rattle.std.specs.Prelude.{map, IfOk, length, ◌≡◌};
 ghost use Rattle.pg_cluster.specs.Clients.{AreClients};
 ghost use Rattle.pg_cluster.specs.Closed.{threads_of};
-ghost use Rattle.pg_frame_world.specs.Openings.{CanBegin};
+ghost use Rattle.pg_joining.specs.PgFrameWorld.Openings.{CanBegin};
 ghost use Rattle.pg_cluster.specs.Seeds.{AreSeeded};
 ghost use Rattle.pg_cluster.specs.Threads.{AreMade, begun_by};
 
 use crate::closed::{Closed, Stopped};
 use crate::cluster::Cluster;
 use crate::fault::StartFault;
-use pg_node::NodeFault;
-use pg_run::{Client, Gate};
-use pg_step::{Answer, Command};
-use pg_world::{Config, WorldFault};
+use pg_joining::{Answer, Client, Command, Config, Gate, NodeFault, WorldFault};
 use rand_pcg::Pcg32;
 use std::alloc::{AllocError, Global};
 use std::thread::Threads;
@@ -45,10 +42,10 @@ impl Running {
     ghost use Rattle.std.specs.Prelude.{◌<◌, ◌++◌, ◌∷◌, [], ◌↔◌, ◌≤◌, ◌⊎◌, true, get_or, IfErr, IfSome};
     ghost use Rattle.std.specs.Prelude.{IfNone, OnOk, OnErr, Some, Err, MatchResult, slice_get, slice_set};
     ghost use Rattle.std.specs.List.{All};
-    ghost use Rattle.pg_node_state.specs.declared.state.fault.NodeFault.TheVariants.{Refused};
-    ghost use Rattle.pg_run.specs.Ports.{IsSilent, polled_count};
-    ghost use Rattle.pg_run.specs.declared.port.Client.{Client as ClientEnd};
-    ghost use Rattle.pg_step.specs.declared.refusal.Refusal.TheVariants.{NoSuchPlace, NodeLost};
+    ghost use Rattle.pg_joining.specs.PgNodeState.declared.state.fault.NodeFault.TheVariants.{Refused};
+    ghost use Rattle.pg_joining.specs.PgRun.Ports.{IsSilent, polled_count};
+    ghost use Rattle.pg_joining.specs.PgRun.declared.port.Client.{Client as ClientEnd};
+    ghost use Rattle.pg_joining.specs.PgStep.declared.refusal.Refusal.TheVariants.{NoSuchPlace, NodeLost};
     ghost use Rattle.pg_cluster.specs.Clients.{AllHeard, ClientsRest};
     ghost use Rattle.pg_cluster.specs.Closed.{AllTold, HasSteps, IsByClock, IsOneLosingRun, IsOneRun, JoinsToOneLosingRun, JoinsToOneRun};
     ghost use Rattle.pg_cluster.specs.Closed.{NoticesCame, nodes_of, logs_of, turns_of, losses_of, clients_of};
@@ -58,7 +55,7 @@ impl Running {
     ghost use Rattle.pg_cluster.specs.Running.{clients_in, config_in, tellers_in, threads_in};
     ghost use Rattle.pg_cluster.specs.Running.{losses_in, submitted_at, polled_at, OnlyClient};
     ghost use Rattle.pg_cluster.specs.Threads.{limit_of, EndedWith, HaveRings};
-    ghost use Rattle.pg_run.specs.Runs.{generator_of};
+    ghost use Rattle.pg_joining.specs.PgRun.Runs.{generator_of};
     ghost use Rattle.pg_cluster.specs.Survivors.{SurvivorsAgree};
 
     /// Starts a thread for each node of a configuration, and a client for each port. `seed`: of the pauses of the

@@ -6,9 +6,7 @@ ghost use Rattle.pg_cluster.specs.Survivors.{HasSame, HaveSame, survivors};
 
 use crate::closed::Closed;
 use crate::survivors::was_lost;
-use pg_index::IndexTable;
-use pg_node::Node;
-use pg_query::same_groups;
+use pg_joining::{IndexTable, Node, same_groups};
 use std::alloc::{AllocError, Global};
 
 impl Closed {

@@ -3,13 +3,11 @@
 ghost use Rattle.std.specs.Prelude.{◌≡◌, ◌++◌, ◌+◌, ◌∷◌, [], IfOk, OnOk, cond, length, map, nat_eq};
 ghost use Rattle.pg_joining.specs.Merge.{log_at, entry_at};
 ghost use Rattle.pg_joining.specs.ApartWithLosses.{is_take, takes_in, takes_of, takes_one};
-ghost use Rattle.pg_frame_world.specs.Views.{place_of_peer};
+ghost use Rattle.pg_joining.specs.PgFrameWorld.Views.{place_of_peer};
 ghost use Rattle.pg_cluster.specs.Schedule.{AreSteps, is_alone, is_lost_in, keeps, loss_if, loss_seen};
 ghost use Rattle.pg_cluster.specs.Schedule.{losses_first, node_of_peer, seen_step, step_as, steps_at};
 
-use pg_run::{LogEntry, NodeEvent};
-use pg_step::Command;
-use pg_world::FrameStep;
+use pg_joining::{Command, FrameStep, LogEntry, NodeEvent};
 use std::alloc::{AllocError, Global};
 
 /// An equal command.

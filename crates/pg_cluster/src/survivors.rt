@@ -2,18 +2,14 @@
 
 ghost use Rattle.std.specs.Prelude.{◌≡◌, ◌↔◌, true, IsTrue, IfOk};
 ghost use Rattle.std.specs.List.{All, list_all, list_any};
-ghost use Rattle.pg_frame_world.specs.Views.{peer_place};
+ghost use Rattle.pg_joining.specs.PgFrameWorld.Views.{peer_place};
 ghost use Rattle.pg_cluster.specs.Judges.{HasAs, formed_in, is_end_pending as is_some_pending};
 ghost use Rattle.pg_cluster.specs.Judges.{is_pending_end, is_seen_free as is_free, state_in};
 ghost use Rattle.pg_cluster.specs.Survivors.{AgreesOf, AreOneOf, asks_of, has_event, is_change_of as is_change_of_event, is_compared as is_compared_in, is_loss_of as is_loss_of_event, is_loss_pending as is_some_loss_pending, is_missing, is_touched_by_lost as is_of_some_lost, is_take_of as is_take_of_event, survivors, was_lost as is_lost_at};
 
 use crate::closed::Closed;
 use crate::judges::has_as;
-use pg_group::GroupTable;
-use pg_index::IndexTable;
-use pg_node::Node;
-use pg_run::{LogEntry, NodeEvent};
-use pg_step::Command;
+use pg_joining::{Command, GroupTable, IndexTable, LogEntry, Node, NodeEvent};
 use pg_term::{Pid, Term};
 use std::alloc::{AllocError, Global};
 

@@ -3,8 +3,8 @@
 ghost use Rattle.std.specs.Prelude.{◌≡◌, ◌<◌, IfOk, OnOk, vec_len};
 ghost use Rattle.pg_cluster.specs.Rows.{HaveRowRoom, AreJoined, RowsWired};
 
+use pg_joining::Peer;
 use pg_ring::{RingFault, RingIn, RingOut, ring_pair};
-use pg_run::Peer;
 use std::alloc::Global;
 
 /// The links of a node to its peers, by their places.

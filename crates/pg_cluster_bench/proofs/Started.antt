@@ -4,9 +4,9 @@ use Rattle.std.specs.List.{IsDistinct}
 use Rattle.pg_term.specs.declared.pid.Pid.{Pid}
 use Rattle.pg_term.specs.declared.term.Term.{Term}
 use Rattle.pg_term.specs.Same.{same_atom}
-use Rattle.pg_group.specs.Table.{Table}
-use Rattle.pg_group.specs.Value.{count_in}
-use Rattle.pg_step.specs.Nodes.{Node}
+use Rattle.pg_cluster.specs.PgGroup.Table.{Table}
+use Rattle.pg_cluster.specs.PgGroup.Value.{count_in}
+use Rattle.pg_cluster.specs.PgStep.Nodes.{Node}
 
 pub three_apart : (a b c : Node) (peers : List Node) → peers ≡ b ∷ c ∷ [] → same_atom a b ≡ false → same_atom a c ≡ false → same_atom b c ≡ false → IsDistinct same_atom (a ∷ peers)
 unfolding IsDistinct

@@ -1,7 +1,7 @@
 //! Commands by which a node or a client asks for a change.
 
+use pg_cluster::Command;
 use pg_figures::Change;
-use pg_step::Command;
 use pg_term::{Pid, Term};
 
 /// The command that asks for this change of a group, with this process where one is needed.

@@ -1,8 +1,7 @@
 //! The nodes that worlds and clusters are made of.
 
-use pg_step::Start;
+use pg_cluster::{Config, Start};
 use pg_term::{Atom, Items, TermFault};
-use pg_world::Config;
 use std::alloc::Global;
 
 // A node that has made one process, by its place.

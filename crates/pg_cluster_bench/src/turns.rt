@@ -1,12 +1,11 @@
 //! How long a turn takes in which a node finds nothing to do.
 
 use crate::config::config;
+use pg_cluster::{
+    Config, IndexTable, LinkedNode, NOTICE_PLACES, Node, NodeRun, Notice, Peer, Port, RingFault,
+    RingIn, RingOut, SlotIn, port_pair, ring_pair, slot_pair, starting_nodes,
+};
 use pg_figures::{Watch, number};
-use pg_index::IndexTable;
-use pg_node::Node;
-use pg_ring::{RingFault, RingIn, RingOut, SlotIn, ring_pair, slot_pair};
-use pg_run::{LinkedNode, NOTICE_PLACES, NodeRun, Notice, Peer, Port, port_pair};
-use pg_world::{Config, starting_nodes};
 use rand_pcg::Pcg32;
 use std::alloc::{AllocError, Global};
 

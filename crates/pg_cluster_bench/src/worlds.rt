@@ -2,10 +2,9 @@
 
 use crate::commands::command;
 use crate::config::config;
+use pg_cluster::{Config, FrameStep, IndexTable, Step, Stepped, World};
 use pg_figures::{Change, Groups, Watch, number, pid};
-use pg_index::IndexTable;
 use pg_term::TermFault;
-use pg_world::{Config, FrameStep, Step, Stepped, World};
 use std::alloc::Global;
 
 /// A world of so many nodes, and how many steps it made, of which some were events.

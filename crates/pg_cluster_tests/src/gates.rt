@@ -1,8 +1,7 @@
 //! Gates that hold nodes, and what is seen through them.
 
 use crate::setting::{ONE, Setting, Started, THREE, TWO, command_of, end_of, holds, start};
-use pg_cluster::Gate;
-use pg_step::Command;
+use pg_cluster::{Command, Gate};
 use std::alloc::Global;
 use std::process::Abort;
 use std::sync::atomic::{AtomicU64, Ordering};

@@ -3,7 +3,7 @@
 use crate::rows::Row::{self, *};
 use crate::rows::{Case, check, check_all};
 use crate::setting::{Setting, THREE};
-use pg_step::Refusal;
+use pg_cluster::Refusal;
 
 // What the two live nodes do.
 const GO_ON: &[Row] = &[Asks(0, "create a g", "ok"), Asks(1, "create b h", "ok")];

@@ -16,8 +16,7 @@ const CASES: &[Case] = &[(SMALL, CREATE, 0), (PAIR, CREATE, 0)];
 mod growths {
     use super::CASES;
     use crate::rows::check_all;
-    use pg_cluster::StartFault;
-    use pg_world::WorldFault;
+    use pg_cluster::{StartFault, WorldFault};
 
     // What the start of a thread takes itself is no growth that it tells of.
     const REFUSED: &[StartFault] = &[

@@ -1,9 +1,7 @@
 //! Tables of what happens in clusters, and how they end then.
 
 use crate::setting::{End, Setting, Started, end_of, holds, start};
-use pg_cluster::{OpenGate, StartFault};
-use pg_node::NodeFault;
-use pg_step::Refusal;
+use pg_cluster::{NodeFault, OpenGate, Refusal, StartFault};
 use std::alloc::Global;
 use std::process::Abort;
 use std::sync::Wait;

@@ -1,11 +1,10 @@
 //! Clusters that tests begin with, what their clients ask, and how they end.
 
-use pg_cluster::{Closed, Gate, Running, StartFault, Stopped};
-use pg_lines::{Line, NodeForm, print_reply, read_line};
-use pg_node::NodeFault;
-use pg_script::{Script, read_script};
-use pg_step::{Answer, Command};
-use pg_world::{Config, FrameStep, WorldFault};
+use pg_cluster::{
+    Answer, Closed, Command, Config, FrameStep, Gate, NodeFault, Running, StartFault, Stopped,
+    WorldFault,
+};
+use pg_script::{Line, NodeForm, Script, print_reply, read_line, read_script};
 use std::alloc::{AllocError, Global};
 use std::process::Abort;
 use std::sync::Wait;

@@ -7,10 +7,10 @@ use Rattle.pg_term.specs.declared.term.Term.{Term}
 use Rattle.pg_term.specs.declared.pid.Pid.{Pid}
 use Rattle.pg_term.specs.Same.{same_atom, same_term}
 use Rattle.pg_term.specs.contracts.term.TermEq.TheImpl.Laws as term_laws
-use Rattle.pg_ends.specs.declared.processes.TheConstants.{MAX_PROCESSES}
-use Rattle.pg_exchange.specs.GroupList.{GroupList, announced_names}
-use Rattle.pg_message.specs.Name.{is_name}
-use Rattle.pg_message.specs.Reading.{is_named_once}
+use Rattle.pg_step.specs.PgEnds.declared.processes.TheConstants.{MAX_PROCESSES}
+use Rattle.pg_step.specs.PgExchange.GroupList.{GroupList, announced_names}
+use Rattle.pg_step.specs.PgMessage.Name.{is_name}
+use Rattle.pg_step.specs.PgMessage.Reading.{is_named_once}
 use Rattle.pg_ring.specs.Capacity.{IsCapacity}
 use Rattle.pg_step.specs.declared.start.Start.{Start}
 use Rattle.pg_step.specs.Config.{Config, IsConfig, IsStart, names_of, was_made}

@@ -4,10 +4,10 @@ use Rattle.std.specs.Prelude.{[], ◌∷◌, Option, Some, None, Result, Ok, Err
 use Rattle.std.specs.List.{list_any, list_all}
 use Rattle.std.specs.Prelude.{◌≡◌}
 use Rattle.pg_term.specs.Same.{same_atom}
-use Rattle.pg_ends.specs.declared.processes.TheConstants.{MAX_PROCESSES}
-use Rattle.pg_exchange.specs.GroupList.{GroupList}
-use Rattle.pg_message.specs.Name.{is_name}
-use Rattle.pg_message.specs.Reading.{is_named_once}
+use Rattle.pg_step.specs.PgEnds.declared.processes.TheConstants.{MAX_PROCESSES}
+use Rattle.pg_step.specs.PgExchange.GroupList.{GroupList}
+use Rattle.pg_step.specs.PgMessage.Name.{is_name}
+use Rattle.pg_step.specs.PgMessage.Reading.{is_named_once}
 use Rattle.pg_step.specs.declared.start.Start.{Start}
 use Rattle.pg_step.specs.Config.{Config, was_made}
 use Rattle.pg_config.specs.declared.fault.WorldFault.{WorldFault}

@@ -1,6 +1,6 @@
 -- The faults of a world that can't begin: their place in the one list of faults.
 use Rattle.std.specs.Prelude.{ℕ}
-use Rattle.pg_faults.specs.declared.TheConstants.{BAD_CAPACITY, BAD_CONFIG, NAME_TOO_LARGE, OUT_OF_MEMORY, TOO_LONG}
+use Rattle.pg_term.specs.PgFaults.declared.TheConstants.{BAD_CAPACITY, BAD_CONFIG, NAME_TOO_LARGE, OUT_OF_MEMORY, TOO_LONG}
 use Rattle.pg_config.specs.declared.fault.WorldFault.{WorldFault}
 use Rattle.pg_config.specs.declared.fault.WorldFault.TheVariants.{BadConfig, NameTooLarge}
 use Rattle.pg_config.specs.declared.fault.WorldFault.TheVariants.{BadCapacity, TooLong, OutOfMemory}

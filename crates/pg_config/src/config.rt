@@ -3,16 +3,14 @@
 ghost use Rattle.std.specs.Prelude.{◌≡◌, IfOk};
 ghost use Rattle.std.specs.List.{list_any, list_all};
 ghost use Rattle.pg_term.specs.Same.{same_atom};
-ghost use Rattle.pg_ends.specs.Numbers.{is_among as is_made_by};
+ghost use Rattle.pg_step.specs.PgEnds.Numbers.{is_among as is_made_by};
 ghost use Rattle.pg_step.specs.Config.{was_made};
 ghost use Rattle.pg_config.specs.Configs.{are_apart, are_made, is_start, is_config, are_names};
 ghost use Rattle.pg_config.specs.Configs.{have_names, is_capacity, refusal_of, IsAsTold};
 
 use crate::fault::WorldFault;
-use pg_ends::MAX_PROCESSES;
-use pg_message::{are_told_once, check_name};
 use pg_ring::is_capacity;
-use pg_step::Start;
+use pg_step::{MAX_PROCESSES, Start, are_told_once, check_name};
 use pg_term::{Atom, Items, Pid, Term};
 use std::alloc::{AllocError, Global};
 

@@ -1,4 +1,4 @@
-use pg_faults::{BAD_CAPACITY, BAD_CONFIG, NAME_TOO_LARGE, OUT_OF_MEMORY, TOO_LONG};
+use pg_term::pg_faults::{BAD_CAPACITY, BAD_CONFIG, NAME_TOO_LARGE, OUT_OF_MEMORY, TOO_LONG};
 use std::alloc::{AllocError, AllocFailed};
 use thiserror::Error;
 

@@ -1,8 +1,7 @@
 //! Configurations that are refused, each by its number, and how many bytes find room on a ring.
 
-use pg_script::{Act, ScriptLine, read_script};
+use pg_script::{Act, Config, FrameWorld, ScriptLine, Stepped, World, WorldFault, read_script};
 use pg_term::{Atom, Fields, Items, Pid, Term, TermFault};
-use pg_world::{Config, FrameWorld, Stepped, World, WorldFault};
 use std::alloc::{AllocError, Global};
 use std::mem;
 use std::process::Abort;

@@ -2,14 +2,11 @@
 
 use crate::configs::holds;
 use Row::*;
-use pg_group::GroupTable;
-use pg_index::IndexTable;
-use pg_lines::{Line, NodeForm, read_line};
-use pg_node::NodeFault;
-use pg_script::read_script;
-use pg_step::{Command, OpId, Refusal, Reply};
+use pg_script::{
+    Command, Config, Effect, Entry, FrameStep, FrameWorld, GroupTable, IndexTable, Line, NodeFault,
+    NodeForm, OpId, Refusal, Reply, Stepped, read_line, read_script,
+};
 use pg_term::{Pid, Term};
-use pg_world::{Config, Effect, Entry, FrameStep, FrameWorld, Stepped};
 use std::alloc::Global;
 use std::process::Abort;
 

@@ -1,9 +1,8 @@
 //! What an exploration of a script prints.
 
 use anyhow::Result;
-use pg_diagram::graph_svg;
 use pg_explore::Limits;
-use pg_script::ScriptFault;
+use pg_script::{ScriptFault, graph_svg};
 use pg_survey::{Findings, Observer, Scenario, read_scenario, survey};
 use std::alloc::{AllocError, Global};
 

@@ -1,7 +1,6 @@
 //! A script over narrow rings: what a line puts and the next one pulls crosses in many pieces.
 
-use pg_script::{Act, Script, ScriptLine};
-use pg_world::Step;
+use pg_script::{Act, Script, ScriptLine, Step};
 use std::alloc::{AllocError, Global};
 use std::mem;
 

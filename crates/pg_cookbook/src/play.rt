@@ -2,10 +2,10 @@
 
 use crate::narrow::narrowed;
 use anyhow::Result;
-use pg_diagram::{Diagram, svg_of};
-use pg_node::AnyWriter;
-use pg_script::{RunFault, Script, ScriptFault, read_script, run_script, watch_script};
-use pg_trace::diagram_of;
+use pg_script::{
+    AnyWriter, Diagram, RunFault, Script, ScriptFault, diagram_of, read_script, run_script, svg_of,
+    watch_script,
+};
 use std::alloc::Global;
 
 /// What `pg2sim script` prints for a script: on standard output, and then on standard error.

@@ -3,8 +3,8 @@ use Rattle.std.proofs.Common.{◌≡◌, true, [], ◌∷◌, refl, arith}
 use Rattle.std.specs.List.{IsDistinct}
 use Rattle.pg_term.specs.declared.term.Term.{Term}
 use Rattle.pg_term.specs.Same.{same_atom, same_term}
-use Rattle.pg_message.specs.Name.{is_name}
-use Rattle.pg_step.specs.Config.{IsConfig}
+use Rattle.pg_history.specs.PgMessage.Name.{is_name}
+use Rattle.pg_history.specs.PgStep.Config.{IsConfig}
 use Rattle.pg_examples.specs.Examples.{a, b, c, one_node, two_nodes, two_and_member}
 use Rattle.pg_examples.specs.Examples.{two_tables, three_nodes, three_tables}
 

@@ -1,29 +1,29 @@
 -- One of three nodes creates a group.
 use Rattle.std.proofs.Common.{◌≡◌, ℕ, true, false, List, [], ◌∷◌, Some, None, Ok, refl, ap, sym, subst, take, drop}
 use Rattle.std.specs.Prelude.{is_some}
-use Rattle.pg_group.specs.Functions.{upd}
-use Rattle.pg_group.specs.Table.{applied}
-use Rattle.pg_group.specs.Value.{nobody}
-use Rattle.pg_lock.specs.Locks.{is_free, is_holder}
+use Rattle.pg_history.specs.PgGroup.Functions.{upd}
+use Rattle.pg_history.specs.PgGroup.Table.{applied}
+use Rattle.pg_history.specs.PgGroup.Value.{nobody}
+use Rattle.pg_history.specs.PgLock.Locks.{is_free, is_holder}
 use Rattle.pg_term.specs.declared.term.Term.{Term}
 use Rattle.pg_term.specs.Same.{same_term, same_atom}
-use Rattle.pg_message.specs.Name.{is_name}
-use Rattle.pg_group.specs.declared.update.Update.{Update}
-use Rattle.pg_group.specs.declared.update.Update.TheVariants as update
-use Rattle.pg_refs.specs.Numbered.{numbered}
-use Rattle.pg_machine.specs.Machine.{Take, Do}
-use Rattle.pg_machine.specs.Runs.{Leads}
-use Rattle.pg_machine.proofs.Sequences.{run_there}
-use Rattle.pg_step.specs.declared.command.Command.TheVariants as command
-use Rattle.pg_step.specs.Attempts.{count_ok}
-use Rattle.pg_step.specs.Config.{nodes_at, groups_at}
-use Rattle.pg_step.specs.FrameMachine.{FrameWorld, machine_of}
-use Rattle.pg_step.specs.Nodes.{Node, Nodes}
-use Rattle.pg_step.specs.State.{Status}
-use Rattle.pg_step.specs.State.Status.{Yes}
-use Rattle.pg_step.specs.Step.{Issue}
-use Rattle.pg_step.specs.Turns.{becomes, and_then}
-use Rattle.pg_step.specs.Peers.{exchange, update_request}
+use Rattle.pg_history.specs.PgMessage.Name.{is_name}
+use Rattle.pg_history.specs.PgGroup.declared.update.Update.{Update}
+use Rattle.pg_history.specs.PgGroup.declared.update.Update.TheVariants as update
+use Rattle.pg_history.specs.PgRefs.Numbered.{numbered}
+use Rattle.pg_history.specs.PgMachine.Machine.{Take, Do}
+use Rattle.pg_history.specs.PgMachine.Runs.{Leads}
+use Rattle.pg_history.proofs.PgMachine.Sequences.{run_there}
+use Rattle.pg_history.specs.PgStep.declared.command.Command.TheVariants as command
+use Rattle.pg_history.specs.PgStep.Attempts.{count_ok}
+use Rattle.pg_history.specs.PgStep.Config.{nodes_at, groups_at}
+use Rattle.pg_history.specs.PgStep.FrameMachine.{FrameWorld, machine_of}
+use Rattle.pg_history.specs.PgStep.Nodes.{Node, Nodes}
+use Rattle.pg_history.specs.PgStep.State.{Status}
+use Rattle.pg_history.specs.PgStep.State.Status.{Yes}
+use Rattle.pg_history.specs.PgStep.Step.{Issue}
+use Rattle.pg_history.specs.PgStep.Turns.{becomes, and_then}
+use Rattle.pg_history.specs.PgStep.Peers.{exchange, update_request}
 use Rattle.pg_examples.specs.Examples.{start, behind, AllHappen, a, b, c, op_at}
 use Rattle.pg_examples.specs.Examples.{stands, three_nodes, lock_ref, created_by_three}
 use Rattle.pg_examples.specs.Outcomes.{ChangeOfThree}

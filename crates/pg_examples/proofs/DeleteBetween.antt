@@ -1,29 +1,29 @@
 -- A group is deleted between the look of a join and its lock.
 use Rattle.std.proofs.Common.{◌≡◌, true, false, [], ◌∷◌, Some, None, Ok, refl, ap, sym, subst, ◌∙◌, ℕ, List, take, drop}
-use Rattle.pg_group.specs.Functions.{upd}
-use Rattle.pg_group.specs.Value.{nobody}
+use Rattle.pg_history.specs.PgGroup.Functions.{upd}
+use Rattle.pg_history.specs.PgGroup.Value.{nobody}
 use Rattle.pg_term.specs.declared.term.Term.{Term}
 use Rattle.pg_term.specs.Same.{same_term, same_atom}
-use Rattle.pg_message.specs.Name.{is_name}
-use Rattle.pg_group.specs.declared.update.Update.{Update}
-use Rattle.pg_group.specs.declared.update.Update.TheVariants as update
-use Rattle.pg_refs.specs.Numbered.{numbered}
-use Rattle.pg_lock.specs.Locks.{is_free, is_holder}
-use Rattle.pg_machine.specs.Machine.{Take, Do}
-use Rattle.pg_machine.specs.Runs.{Leads}
-use Rattle.pg_step.specs.declared.command.Command.TheVariants as command
-use Rattle.pg_step.specs.FrameMachine.{machine_of, FrameWorld}
-use Rattle.pg_step.specs.Config.{nodes_at, groups_at}
-use Rattle.pg_step.specs.Nodes.{Nodes, greatest}
-use Rattle.pg_step.specs.State.Status.{No}
-use Rattle.pg_step.specs.State.Response.{Read}
-use Rattle.pg_step.specs.Step.{Issue, Retry}
-use Rattle.pg_step.specs.Turns.{NodeTurn, and_then}
-use Rattle.pg_step.specs.Peers.{update_request, exchange}
+use Rattle.pg_history.specs.PgMessage.Name.{is_name}
+use Rattle.pg_history.specs.PgGroup.declared.update.Update.{Update}
+use Rattle.pg_history.specs.PgGroup.declared.update.Update.TheVariants as update
+use Rattle.pg_history.specs.PgRefs.Numbered.{numbered}
+use Rattle.pg_history.specs.PgLock.Locks.{is_free, is_holder}
+use Rattle.pg_history.specs.PgMachine.Machine.{Take, Do}
+use Rattle.pg_history.specs.PgMachine.Runs.{Leads}
+use Rattle.pg_history.specs.PgStep.declared.command.Command.TheVariants as command
+use Rattle.pg_history.specs.PgStep.FrameMachine.{machine_of, FrameWorld}
+use Rattle.pg_history.specs.PgStep.Config.{nodes_at, groups_at}
+use Rattle.pg_history.specs.PgStep.Nodes.{Nodes, greatest}
+use Rattle.pg_history.specs.PgStep.State.Status.{No}
+use Rattle.pg_history.specs.PgStep.State.Response.{Read}
+use Rattle.pg_history.specs.PgStep.Step.{Issue, Retry}
+use Rattle.pg_history.specs.PgStep.Turns.{NodeTurn, and_then}
+use Rattle.pg_history.specs.PgStep.Peers.{update_request, exchange}
 use Rattle.pg_examples.specs.Examples.{start, behind, AllHappen, a, b, a1, op_at, stands, two_nodes, deleted_between}
-use Rattle.pg_step.specs.Attempts.{count_answer, give_up}
-use Rattle.pg_step.specs.Commands.{answer, look}
-use Rattle.pg_machine.proofs.Sequences.{run_there}
+use Rattle.pg_history.specs.PgStep.Attempts.{count_answer, give_up}
+use Rattle.pg_history.specs.PgStep.Commands.{answer, look}
+use Rattle.pg_history.proofs.PgMachine.Sequences.{run_there}
 use Rattle.pg_examples.proofs.Trace.{Move, AllMake, walked, walk, and_more, held_at, changed_at, look_delete}
 use Rattle.pg_examples.proofs.Trace.{all_of_group, answers_lock, asked, frees, freed, asks_peer, attempt_as}
 use Rattle.pg_examples.proofs.Trace.{asks_own, attempt_own, asks_rest, asks_rest_as, round_one, round_two}

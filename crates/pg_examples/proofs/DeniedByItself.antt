@@ -1,28 +1,28 @@
 -- A node denies itself.
 use Rattle.std.proofs.Common.{◌≡◌, true, false, ◌++◌, Some, None, refl, ap, sym, subst, ℕ, List, [], ◌∷◌, take, drop}
-use Rattle.pg_group.specs.Functions.{upd}
+use Rattle.pg_history.specs.PgGroup.Functions.{upd}
 use Rattle.pg_term.specs.declared.term.Term.{Term}
 use Rattle.pg_term.specs.Same.{same_term, same_atom}
-use Rattle.pg_message.specs.Name.{is_name}
-use Rattle.pg_group.specs.declared.update.Update.{Update}
-use Rattle.pg_group.specs.declared.update.Update.TheVariants as update
-use Rattle.pg_refs.specs.Numbered.{numbered}
-use Rattle.pg_lock.specs.Locks.{is_holder}
-use Rattle.pg_machine.specs.Machine.{Take, Do}
-use Rattle.pg_machine.specs.Runs.{Leads}
-use Rattle.pg_step.specs.declared.command.Command.TheVariants as command
-use Rattle.pg_step.specs.FrameMachine.{machine_of, FrameWorld}
-use Rattle.pg_step.specs.Config.{nodes_at, groups_at}
-use Rattle.pg_step.specs.Nodes.{Node, Nodes, greatest}
-use Rattle.pg_step.specs.State.{Status}
-use Rattle.pg_step.specs.State.Status.{Yes}
-use Rattle.pg_step.specs.Step.{Issue}
-use Rattle.pg_step.specs.Turns.{NodeTurn, and_then, becomes}
-use Rattle.pg_step.specs.Peers.{exchange}
-use Rattle.pg_step.specs.Attempts.{count_answer, give_up}
+use Rattle.pg_history.specs.PgMessage.Name.{is_name}
+use Rattle.pg_history.specs.PgGroup.declared.update.Update.{Update}
+use Rattle.pg_history.specs.PgGroup.declared.update.Update.TheVariants as update
+use Rattle.pg_history.specs.PgRefs.Numbered.{numbered}
+use Rattle.pg_history.specs.PgLock.Locks.{is_holder}
+use Rattle.pg_history.specs.PgMachine.Machine.{Take, Do}
+use Rattle.pg_history.specs.PgMachine.Runs.{Leads}
+use Rattle.pg_history.specs.PgStep.declared.command.Command.TheVariants as command
+use Rattle.pg_history.specs.PgStep.FrameMachine.{machine_of, FrameWorld}
+use Rattle.pg_history.specs.PgStep.Config.{nodes_at, groups_at}
+use Rattle.pg_history.specs.PgStep.Nodes.{Node, Nodes, greatest}
+use Rattle.pg_history.specs.PgStep.State.{Status}
+use Rattle.pg_history.specs.PgStep.State.Status.{Yes}
+use Rattle.pg_history.specs.PgStep.Step.{Issue}
+use Rattle.pg_history.specs.PgStep.Turns.{NodeTurn, and_then, becomes}
+use Rattle.pg_history.specs.PgStep.Peers.{exchange}
+use Rattle.pg_history.specs.PgStep.Attempts.{count_answer, give_up}
 use Rattle.pg_examples.specs.Examples.{start, behind, AllHappen, a, b, c, op_at}
 use Rattle.pg_examples.specs.Examples.{three_nodes, asked_unformed, given_back}
-use Rattle.pg_machine.proofs.Sequences.{run_there}
+use Rattle.pg_history.proofs.PgMachine.Sequences.{run_there}
 use Rattle.pg_examples.proofs.Trace.{Move, AllMake, walked, walk, part, held_at, answers_lock, asked, frees}
 use Rattle.pg_examples.proofs.Trace.{freed, asks_peer, asks_rest, round_one, round_two, named_as, opens}
 use Rattle.pg_examples.specs.Outcomes.{DeniedByItself}

@@ -1,19 +1,19 @@
 -- An update of a lost node is taken before its loss is seen.
 use Rattle.std.proofs.Common.{◌≡◌, ℕ, take, true, false, cond, nat_eq, List, [], ◌∷◌, ◌++◌, Some, None, refl, ap}
 use Rattle.std.specs.Prelude.{is_some}
-use Rattle.pg_group.specs.Functions.{upd}
-use Rattle.pg_group.specs.Value.{less}
-use Rattle.pg_lock.specs.Locks.{is_free}
+use Rattle.pg_history.specs.PgGroup.Functions.{upd}
+use Rattle.pg_history.specs.PgGroup.Value.{less}
+use Rattle.pg_history.specs.PgLock.Locks.{is_free}
 use Rattle.pg_term.specs.declared.term.Term.{Term}
 use Rattle.pg_term.specs.Same.{same_term, same_atom}
-use Rattle.pg_message.specs.Name.{is_name}
-use Rattle.pg_refs.specs.Numbered.{numbered}
-use Rattle.pg_machine.specs.Machine.{Take}
-use Rattle.pg_step.specs.Nodes.{Node}
-use Rattle.pg_step.specs.State.{Status}
-use Rattle.pg_step.specs.State.Status.{Yes}
-use Rattle.pg_step.specs.Turns.{becomes}
-use Rattle.pg_step.specs.Peers.{update_request}
+use Rattle.pg_history.specs.PgMessage.Name.{is_name}
+use Rattle.pg_history.specs.PgRefs.Numbered.{numbered}
+use Rattle.pg_history.specs.PgMachine.Machine.{Take}
+use Rattle.pg_history.specs.PgStep.Nodes.{Node}
+use Rattle.pg_history.specs.PgStep.State.{Status}
+use Rattle.pg_history.specs.PgStep.State.Status.{Yes}
+use Rattle.pg_history.specs.PgStep.Turns.{becomes}
+use Rattle.pg_history.specs.PgStep.Peers.{update_request}
 use Rattle.pg_examples.specs.Examples.{a, b, c, op_at, three_nodes, lock_ref}
 use Rattle.pg_examples.specs.LossExamples.{LosingFrameWorld, losing_start, Drained}
 use Rattle.pg_examples.proofs.Trace.{held_at, changed_at, answers_lock, asked, asks_rest}

@@ -1,27 +1,27 @@
 -- Three nodes take each other's groups.
 use Rattle.std.proofs.Common.{◌≡◌, true, false, ◌&&◌, nat_eq, [], ◌∷◌, ◌++◌, Some}
 use Rattle.std.proofs.Common.{None, refl, ap, sym, subst, ◌∙◌, ℕ, List, take, drop}
-use Rattle.pg_group.specs.Functions.{upd}
-use Rattle.pg_group.specs.Value.{count_in}
-use Rattle.pg_group.specs.Table.{exchanged}
+use Rattle.pg_history.specs.PgGroup.Functions.{upd}
+use Rattle.pg_history.specs.PgGroup.Value.{count_in}
+use Rattle.pg_history.specs.PgGroup.Table.{exchanged}
 use Rattle.pg_term.specs.declared.term.Term.{Term}
 use Rattle.pg_term.specs.Same.{same_term}
-use Rattle.pg_message.specs.Name.{is_name}
-use Rattle.pg_group.specs.declared.update.Update.{Update}
-use Rattle.pg_group.specs.declared.update.Update.TheVariants as update
-use Rattle.pg_refs.specs.Numbered.{numbered}
-use Rattle.pg_machine.specs.Machine.{Take, Do}
-use Rattle.pg_machine.specs.Runs.{Leads}
-use Rattle.pg_step.specs.declared.command.Command.TheVariants as command
-use Rattle.pg_step.specs.FrameMachine.{machine_of, FrameWorld}
-use Rattle.pg_step.specs.Config.{nodes_at, groups_at}
-use Rattle.pg_step.specs.Nodes.{Nodes}
-use Rattle.pg_step.specs.Step.{Issue}
-use Rattle.pg_step.specs.Turns.{NodeTurn, becomes}
-use Rattle.pg_step.specs.Peers.{exchange}
+use Rattle.pg_history.specs.PgMessage.Name.{is_name}
+use Rattle.pg_history.specs.PgGroup.declared.update.Update.{Update}
+use Rattle.pg_history.specs.PgGroup.declared.update.Update.TheVariants as update
+use Rattle.pg_history.specs.PgRefs.Numbered.{numbered}
+use Rattle.pg_history.specs.PgMachine.Machine.{Take, Do}
+use Rattle.pg_history.specs.PgMachine.Runs.{Leads}
+use Rattle.pg_history.specs.PgStep.declared.command.Command.TheVariants as command
+use Rattle.pg_history.specs.PgStep.FrameMachine.{machine_of, FrameWorld}
+use Rattle.pg_history.specs.PgStep.Config.{nodes_at, groups_at}
+use Rattle.pg_history.specs.PgStep.Nodes.{Nodes}
+use Rattle.pg_history.specs.PgStep.Step.{Issue}
+use Rattle.pg_history.specs.PgStep.Turns.{NodeTurn, becomes}
+use Rattle.pg_history.specs.PgStep.Peers.{exchange}
 use Rattle.pg_examples.specs.Examples.{start, behind, AllHappen, a, b, c, a1, op_at, three_tables, met_one, met_both}
 use Rattle.std.specs.Prelude.{is_some}
-use Rattle.pg_machine.proofs.Sequences.{run_there}
+use Rattle.pg_history.proofs.PgMachine.Sequences.{run_there}
 use Rattle.pg_examples.proofs.Trace.{Move, AllMake, walked, walk, part, none_ended, merged_at, look_delete}
 use Rattle.pg_examples.proofs.Trace.{answers_lock, asked, asks_peer, asks_rest, round_one, named_as, looked, opens}
 use Rattle.pg_examples.specs.Outcomes.{FormationOfThree}

@@ -1,30 +1,30 @@
 -- One node gathers replies.
 use Rattle.std.proofs.Common.{◌≡◌, true, false, [], ◌∷◌, ◌++◌, Some, None}
 use Rattle.std.proofs.Common.{Ok, refl, ap, sym, subst, ℕ, List, take, drop}
-use Rattle.pg_group.specs.Functions.{upd}
-use Rattle.pg_group.specs.Value.{nobody}
+use Rattle.pg_history.specs.PgGroup.Functions.{upd}
+use Rattle.pg_history.specs.PgGroup.Value.{nobody}
 use Rattle.pg_term.specs.declared.term.Term.{Term}
 use Rattle.pg_term.specs.Same.{same_term, same_atom}
-use Rattle.pg_message.specs.Name.{is_name}
-use Rattle.pg_group.specs.declared.update.Update.{Update}
-use Rattle.pg_group.specs.declared.update.Update.TheVariants as update
-use Rattle.pg_refs.specs.Numbered.{numbered}
-use Rattle.pg_lock.specs.Locks.{is_free, is_holder}
-use Rattle.pg_machine.specs.Machine.{Take, Do}
-use Rattle.pg_machine.specs.Runs.{Leads}
-use Rattle.pg_step.specs.declared.command.Command.TheVariants as command
-use Rattle.pg_step.specs.FrameMachine.{machine_of, FrameWorld}
-use Rattle.pg_step.specs.Config.{nodes_at, groups_at}
-use Rattle.pg_step.specs.Nodes.{Nodes}
-use Rattle.pg_step.specs.State.Status.{Yes}
-use Rattle.pg_step.specs.Step.{Issue}
-use Rattle.pg_step.specs.Turns.{NodeTurn, and_then, becomes}
-use Rattle.pg_step.specs.Peers.{exchange}
-use Rattle.pg_step.specs.declared.answer.Odd.TheVariants.{Stranger, Double}
+use Rattle.pg_history.specs.PgMessage.Name.{is_name}
+use Rattle.pg_history.specs.PgGroup.declared.update.Update.{Update}
+use Rattle.pg_history.specs.PgGroup.declared.update.Update.TheVariants as update
+use Rattle.pg_history.specs.PgRefs.Numbered.{numbered}
+use Rattle.pg_history.specs.PgLock.Locks.{is_free, is_holder}
+use Rattle.pg_history.specs.PgMachine.Machine.{Take, Do}
+use Rattle.pg_history.specs.PgMachine.Runs.{Leads}
+use Rattle.pg_history.specs.PgStep.declared.command.Command.TheVariants as command
+use Rattle.pg_history.specs.PgStep.FrameMachine.{machine_of, FrameWorld}
+use Rattle.pg_history.specs.PgStep.Config.{nodes_at, groups_at}
+use Rattle.pg_history.specs.PgStep.Nodes.{Nodes}
+use Rattle.pg_history.specs.PgStep.State.Status.{Yes}
+use Rattle.pg_history.specs.PgStep.Step.{Issue}
+use Rattle.pg_history.specs.PgStep.Turns.{NodeTurn, and_then, becomes}
+use Rattle.pg_history.specs.PgStep.Peers.{exchange}
+use Rattle.pg_history.specs.PgStep.declared.answer.Odd.TheVariants.{Stranger, Double}
 use Rattle.pg_examples.specs.Examples.{behind, AllHappen, a, b, c, op_at, stands, three_nodes}
 use Rattle.pg_examples.specs.Examples.{with_replies, asked_greatest, gathering_events, completed}
-use Rattle.pg_step.specs.Attempts.{strange, count_ok}
-use Rattle.pg_machine.proofs.Sequences.{run_there}
+use Rattle.pg_history.specs.PgStep.Attempts.{strange, count_ok}
+use Rattle.pg_history.proofs.PgMachine.Sequences.{run_there}
 use Rattle.pg_examples.proofs.Trace.{Move, AllMake, walked, walk, part, held_at, changed_at, all_of_group, asks_peer}
 use Rattle.pg_examples.proofs.Trace.{asks_rest, asks_rest_as, round_one, round_two, named_as, begins, finishes, opens}
 use Rattle.pg_examples.specs.Outcomes.{GatheredReplies}

@@ -1,21 +1,21 @@
 -- A ready command keeps its lock, and another is denied, until it is tried again.
 use Rattle.std.proofs.Common.{◌≡◌, ℕ, take, true, false, List, [], ◌∷◌, ◌++◌, Some, None, Ok, refl, ap, ◌∙◌}
-use Rattle.pg_group.specs.Functions.{upd}
-use Rattle.pg_lock.specs.Locks.{is_holder, is_free, freed_of}
+use Rattle.pg_history.specs.PgGroup.Functions.{upd}
+use Rattle.pg_history.specs.PgLock.Locks.{is_holder, is_free, freed_of}
 use Rattle.pg_term.specs.declared.term.Term.{Term}
 use Rattle.pg_term.specs.Same.{same_term, same_atom}
-use Rattle.pg_message.specs.Name.{is_name}
-use Rattle.pg_refs.specs.Numbered.{numbered}
-use Rattle.pg_group.specs.declared.update.Update.TheVariants as update
-use Rattle.pg_machine.specs.Machine.{Take, Do}
-use Rattle.pg_step.specs.declared.command.Command.TheVariants as command
-use Rattle.pg_step.specs.Nodes.{Node, Nodes}
-use Rattle.pg_step.specs.State.{Status, live_nodes}
-use Rattle.pg_step.specs.State.Status.{Unasked, Yes}
-use Rattle.pg_step.specs.Step.{Issue, Retry}
-use Rattle.pg_step.specs.Turns.{becomes, and_then}
-use Rattle.pg_step.specs.Attempts.{locks_in}
-use Rattle.pg_step.specs.Peers.{update_request}
+use Rattle.pg_history.specs.PgMessage.Name.{is_name}
+use Rattle.pg_history.specs.PgRefs.Numbered.{numbered}
+use Rattle.pg_history.specs.PgGroup.declared.update.Update.TheVariants as update
+use Rattle.pg_history.specs.PgMachine.Machine.{Take, Do}
+use Rattle.pg_history.specs.PgStep.declared.command.Command.TheVariants as command
+use Rattle.pg_history.specs.PgStep.Nodes.{Node, Nodes}
+use Rattle.pg_history.specs.PgStep.State.{Status, live_nodes}
+use Rattle.pg_history.specs.PgStep.State.Status.{Unasked, Yes}
+use Rattle.pg_history.specs.PgStep.Step.{Issue, Retry}
+use Rattle.pg_history.specs.PgStep.Turns.{becomes, and_then}
+use Rattle.pg_history.specs.PgStep.Attempts.{locks_in}
+use Rattle.pg_history.specs.PgStep.Peers.{update_request}
 use Rattle.pg_examples.specs.Examples.{a, b, c, op_at, stands, three_nodes, lock_ref}
 use Rattle.pg_examples.specs.LossExamples.{HeldUntilRetry, LosingFrameWorld, losing_start}
 use Rattle.pg_examples.proofs.Trace.{held_at, all_of_group, answers_lock, asked, ask_as, asks_rest, asks_nobody}

@@ -1,31 +1,31 @@
 -- Two nodes begin with different tables.
 use Rattle.std.proofs.Common.{◌≡◌, true, false, [], ◌∷◌, ◌++◌, Some, None, Ok}
 use Rattle.std.proofs.Common.{refl, ap, sym, subst, ◌∙◌, ℕ, List, take, drop}
-use Rattle.pg_group.specs.Functions.{upd}
-use Rattle.pg_group.specs.Value.{nobody}
-use Rattle.pg_group.specs.Table.{exchanged}
+use Rattle.pg_history.specs.PgGroup.Functions.{upd}
+use Rattle.pg_history.specs.PgGroup.Value.{nobody}
+use Rattle.pg_history.specs.PgGroup.Table.{exchanged}
 use Rattle.pg_term.specs.declared.term.Term.{Term}
 use Rattle.pg_term.specs.Same.{same_term, same_atom}
-use Rattle.pg_message.specs.Name.{is_name}
-use Rattle.pg_group.specs.declared.update.Update.{Update}
-use Rattle.pg_group.specs.declared.update.Update.TheVariants as update
-use Rattle.pg_refs.specs.Numbered.{numbered}
-use Rattle.pg_lock.specs.Locks.{is_free, is_holder}
-use Rattle.pg_machine.specs.Machine.{Take, Do}
-use Rattle.pg_machine.specs.Runs.{Leads}
-use Rattle.pg_step.specs.declared.command.Command.TheVariants as command
-use Rattle.pg_step.specs.FrameMachine.{machine_of, FrameWorld}
-use Rattle.pg_step.specs.Config.{nodes_at, groups_at}
-use Rattle.pg_step.specs.Nodes.{Nodes}
-use Rattle.pg_step.specs.State.Response.{Read}
-use Rattle.pg_step.specs.Step.{Issue, Retry}
-use Rattle.pg_step.specs.Turns.{NodeTurn}
-use Rattle.pg_step.specs.Peers.{update_request, exchange}
+use Rattle.pg_history.specs.PgMessage.Name.{is_name}
+use Rattle.pg_history.specs.PgGroup.declared.update.Update.{Update}
+use Rattle.pg_history.specs.PgGroup.declared.update.Update.TheVariants as update
+use Rattle.pg_history.specs.PgRefs.Numbered.{numbered}
+use Rattle.pg_history.specs.PgLock.Locks.{is_free, is_holder}
+use Rattle.pg_history.specs.PgMachine.Machine.{Take, Do}
+use Rattle.pg_history.specs.PgMachine.Runs.{Leads}
+use Rattle.pg_history.specs.PgStep.declared.command.Command.TheVariants as command
+use Rattle.pg_history.specs.PgStep.FrameMachine.{machine_of, FrameWorld}
+use Rattle.pg_history.specs.PgStep.Config.{nodes_at, groups_at}
+use Rattle.pg_history.specs.PgStep.Nodes.{Nodes}
+use Rattle.pg_history.specs.PgStep.State.Response.{Read}
+use Rattle.pg_history.specs.PgStep.Step.{Issue, Retry}
+use Rattle.pg_history.specs.PgStep.Turns.{NodeTurn}
+use Rattle.pg_history.specs.PgStep.Peers.{update_request, exchange}
 use Rattle.pg_examples.specs.Examples.{start, behind, AllHappen, a, b, a1, b1}
 use Rattle.pg_examples.specs.Examples.{op_at, two_tables, tables_met, created_later}
-use Rattle.pg_step.specs.Commands.{answer, look}
+use Rattle.pg_history.specs.PgStep.Commands.{answer, look}
 use Rattle.std.specs.Prelude.{is_some}
-use Rattle.pg_machine.proofs.Sequences.{run_there}
+use Rattle.pg_history.proofs.PgMachine.Sequences.{run_there}
 use Rattle.pg_examples.proofs.Trace.{Move, AllMake, walked, walk, part, none_ended, held_at, changed_at}
 use Rattle.pg_examples.proofs.Trace.{unchanged_at, merged_at, not_merged_at, answers_lock, asked, frees, freed}
 use Rattle.pg_examples.proofs.Trace.{asks_own, attempt_own, asks_nobody, asks_rest, asks_rest_as, round_one}

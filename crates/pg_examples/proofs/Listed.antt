@@ -1,17 +1,17 @@
 -- What a query reads of a group whose members are the first processes of a and of b.
 use Rattle.std.proofs.Common.{◌≡◌, Bool, true, false, List, [], ◌∷◌, Some, None, refl, ap, sym, subst, ◌∙◌}
 use Rattle.std.specs.Prelude.{count_by, is_some}
-use Rattle.pg_group.specs.declared.update.Update.TheVariants as update
+use Rattle.pg_history.specs.PgGroup.declared.update.Update.TheVariants as update
 use Rattle.pg_term.specs.declared.pid.Pid.{Pid}
 use Rattle.pg_term.specs.declared.term.Term.{Term}
 use Rattle.pg_term.specs.Same.{same_pid, same_atom}
 use Rattle.pg_term.proofs.Same.{pid_is}
-use Rattle.pg_group.specs.Functions.{upd}
-use Rattle.pg_group.specs.Value.{Value, nobody, with_one_more, with_one_less, less, listed}
-use Rattle.pg_group.specs.Scope.{anywhere}
-use Rattle.pg_group.specs.Members.{IsMemberList, count_among}
-use Rattle.pg_group.specs.Table.{applied, exchanged}
-use Rattle.pg_step.specs.declared.answer.Reply.TheVariants as reply
+use Rattle.pg_history.specs.PgGroup.Functions.{upd}
+use Rattle.pg_history.specs.PgGroup.Value.{Value, nobody, with_one_more, with_one_less, less, listed}
+use Rattle.pg_history.specs.PgGroup.Scope.{anywhere}
+use Rattle.pg_history.specs.PgGroup.Members.{IsMemberList, count_among}
+use Rattle.pg_history.specs.PgGroup.Table.{applied, exchanged}
+use Rattle.pg_history.specs.PgStep.declared.answer.Reply.TheVariants as reply
 use Rattle.std.specs.List.{list_any, IsDistinct}
 use Rattle.std.specs.List.Sorted.{IsSorted}
 use Rattle.std.proofs.lemmas.Map.Made.{IsDistinct-from_AllPairs}
@@ -19,9 +19,9 @@ use Rattle.std.proofs.Common.{arith}
 use Rattle.std.proofs.Common.{◌||◌}
 use Rattle.pg_term.specs.Same.{same_term, term_cmp}
 use Rattle.pg_term.proofs.Same.{same_term as same_is}
-use Rattle.pg_group.specs.Table.{Table}
+use Rattle.pg_history.specs.PgGroup.Table.{Table}
 use Rattle.pg_examples.proofs.Trace.{same_to_itself, apart_too, none_ended}
-use Rattle.pg_step.specs.Commands.{ListsMembers, ListsGroups}
+use Rattle.pg_history.specs.PgStep.Commands.{ListsMembers, ListsGroups}
 use Rattle.pg_examples.specs.Examples.{a, a1, b1}
 
 clash : true ≡ false → ⊥

@@ -1,19 +1,19 @@
 -- A lock that a lost node holds is freed, and the others go on.
 use Rattle.std.proofs.Common.{◌≡◌, ℕ, take, true, List, [], ◌∷◌, ◌++◌, Some, None, Ok, refl, ap}
 use Rattle.std.specs.Prelude.{is_some}
-use Rattle.pg_group.specs.Functions.{upd}
-use Rattle.pg_lock.specs.Locks.{is_holder, is_free, freed_of}
+use Rattle.pg_history.specs.PgGroup.Functions.{upd}
+use Rattle.pg_history.specs.PgLock.Locks.{is_holder, is_free, freed_of}
 use Rattle.pg_term.specs.declared.term.Term.{Term}
 use Rattle.pg_term.specs.RefParts.{RefParts}
 use Rattle.pg_term.specs.Same.{same_term, same_atom}
-use Rattle.pg_message.specs.Name.{is_name}
-use Rattle.pg_refs.specs.Numbered.{numbered}
-use Rattle.pg_machine.specs.Machine.{Take, Do}
-use Rattle.pg_step.specs.declared.command.Command.TheVariants as command
-use Rattle.pg_step.specs.Nodes.{Nodes}
-use Rattle.pg_step.specs.State.{live_nodes}
-use Rattle.pg_step.specs.Step.{Issue}
-use Rattle.pg_step.specs.Peers.{update_request}
+use Rattle.pg_history.specs.PgMessage.Name.{is_name}
+use Rattle.pg_history.specs.PgRefs.Numbered.{numbered}
+use Rattle.pg_history.specs.PgMachine.Machine.{Take, Do}
+use Rattle.pg_history.specs.PgStep.declared.command.Command.TheVariants as command
+use Rattle.pg_history.specs.PgStep.Nodes.{Nodes}
+use Rattle.pg_history.specs.PgStep.State.{live_nodes}
+use Rattle.pg_history.specs.PgStep.Step.{Issue}
+use Rattle.pg_history.specs.PgStep.Peers.{update_request}
 use Rattle.pg_examples.specs.Examples.{a, b, c, op_at, three_nodes, lock_ref}
 use Rattle.pg_examples.specs.LossExamples.{LosingFrameWorld, losing_start, LockOfTheLost}
 use Rattle.pg_examples.proofs.Trace.{held_at, changed_at, answers_lock, asked, frees, freed, asks_peer}

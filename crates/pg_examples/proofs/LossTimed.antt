@@ -1,11 +1,11 @@
 -- A loss among nodes with clocks.
 use Rattle.std.proofs.Common.{◌≡◌, List, [], ◌∷◌, Option, Some, None, refl}
-use Rattle.pg_group.specs.Functions.{upd}
-use Rattle.pg_machine.specs.Machine.{Take, Do, happens}
-use Rattle.pg_machine.specs.Losing.{LosingEvent, Step, Lose, losing_happens}
-use Rattle.pg_step.specs.declared.command.Command.TheVariants as command
-use Rattle.pg_step.specs.FrameMachine.{losing_frame_machine, last_notice}
-use Rattle.pg_step.specs.Step.{Action}
+use Rattle.pg_history.specs.PgGroup.Functions.{upd}
+use Rattle.pg_history.specs.PgMachine.Machine.{Take, Do, happens}
+use Rattle.pg_history.specs.PgMachine.Losing.{LosingEvent, Step, Lose, losing_happens}
+use Rattle.pg_history.specs.PgStep.declared.command.Command.TheVariants as command
+use Rattle.pg_history.specs.PgStep.FrameMachine.{losing_frame_machine, last_notice}
+use Rattle.pg_history.specs.PgStep.Step.{Action}
 use Rattle.pg_examples.specs.Examples.{at, two_nodes}
 use Rattle.pg_examples.specs.LossExamples.{TimedLosing, timed_start, sees, LossWithClocks}
 

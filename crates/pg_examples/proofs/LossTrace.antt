@@ -3,20 +3,20 @@ use Rattle.std.proofs.Common.{◌≡◌, ℕ, Bool, true, false, not, ◌&&◌, 
 use Rattle.std.proofs.Common.{◌++◌, map, Option, Some, None, Result, Ok, Err, refl, ap, ◌∙◌}
 use Rattle.std.specs.Cmp.{first_so, second_so}
 use Rattle.std.specs.Prelude.{option_map, option_and_then}
-use Rattle.pg_message.specs.declared.message.Message.{Message}
-use Rattle.pg_machine.specs.Places.{is_place, set_at}
-use Rattle.pg_machine.specs.Machine.{Event, Take, Do, node_of, is_there, first_from}
-use Rattle.pg_machine.specs.Machine.{without_input, turn_of, perform, happens}
-use Rattle.pg_machine.specs.Losing.{Noticed, Sent, Last, LosingEvent, Step, Lose}
-use Rattle.pg_machine.specs.Losing.{mapped_turn, can_keep, stopped, losing_happens}
-use Rattle.pg_step.specs.declared.refusal.Refusal.{Refusal}
-use Rattle.pg_step.specs.declared.refusal.Refusal.TheVariants.{NoSuchPlace}
-use Rattle.pg_step.specs.State.{State}
-use Rattle.pg_step.specs.Turns.{NodeTurn}
-use Rattle.pg_step.specs.Step.{Action, node_takes, node_acts}
-use Rattle.pg_step.specs.Losses.{see_loss}
-use Rattle.pg_step.specs.Config.{Config, name_at, nodes_at, ports_at}
-use Rattle.pg_step.specs.FrameMachine.{placed, place_turn, losing_machine_of}
+use Rattle.pg_history.specs.PgMessage.declared.message.Message.{Message}
+use Rattle.pg_history.specs.PgMachine.Places.{is_place, set_at}
+use Rattle.pg_history.specs.PgMachine.Machine.{Event, Take, Do, node_of, is_there, first_from}
+use Rattle.pg_history.specs.PgMachine.Machine.{without_input, turn_of, perform, happens}
+use Rattle.pg_history.specs.PgMachine.Losing.{Noticed, Sent, Last, LosingEvent, Step, Lose}
+use Rattle.pg_history.specs.PgMachine.Losing.{mapped_turn, can_keep, stopped, losing_happens}
+use Rattle.pg_history.specs.PgStep.declared.refusal.Refusal.{Refusal}
+use Rattle.pg_history.specs.PgStep.declared.refusal.Refusal.TheVariants.{NoSuchPlace}
+use Rattle.pg_history.specs.PgStep.State.{State}
+use Rattle.pg_history.specs.PgStep.Turns.{NodeTurn}
+use Rattle.pg_history.specs.PgStep.Step.{Action, node_takes, node_acts}
+use Rattle.pg_history.specs.PgStep.Losses.{see_loss}
+use Rattle.pg_history.specs.PgStep.Config.{Config, name_at, nodes_at, ports_at}
+use Rattle.pg_history.specs.PgStep.FrameMachine.{placed, place_turn, losing_machine_of}
 use Rattle.pg_examples.specs.LossExamples.{LosingFrameWorld, the_last, is_last, sees, Come}
 
 -- an event with what its node makes of it, by its state; a loss that a node sees; a loss

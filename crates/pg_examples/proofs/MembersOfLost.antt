@@ -1,26 +1,26 @@
 -- The processes of a lost node are in no group, and come into none.
 use Rattle.std.proofs.Common.{◌≡◌, ℕ, Bool, true, false, take, List, [], ◌∷◌, Some, None, Ok, refl, ap, ◌∙◌}
-use Rattle.pg_group.specs.Functions.{upd}
-use Rattle.pg_group.specs.Value.{Value, less, count_in}
-use Rattle.pg_group.specs.Table.{applied, exchanged}
-use Rattle.pg_lock.specs.Locks.{is_holder, is_free}
+use Rattle.pg_history.specs.PgGroup.Functions.{upd}
+use Rattle.pg_history.specs.PgGroup.Value.{Value, less, count_in}
+use Rattle.pg_history.specs.PgGroup.Table.{applied, exchanged}
+use Rattle.pg_history.specs.PgLock.Locks.{is_holder, is_free}
 use Rattle.pg_term.specs.declared.term.Term.{Term}
 use Rattle.pg_term.specs.Same.{same_term, same_atom}
-use Rattle.pg_message.specs.Name.{is_name}
-use Rattle.pg_group.specs.declared.update.Update.{Update}
-use Rattle.pg_group.specs.declared.update.Update.TheVariants as update
-use Rattle.pg_refs.specs.Numbered.{numbered}
-use Rattle.pg_machine.specs.Machine.{Take, Do}
-use Rattle.pg_step.specs.declared.command.Command.TheVariants as command
-use Rattle.pg_step.specs.Config.{nodes_at, groups_at}
-use Rattle.pg_step.specs.Nodes.{Nodes, greatest}
-use Rattle.pg_step.specs.State.{State, live_nodes}
-use Rattle.pg_step.specs.Step.{Issue}
-use Rattle.pg_step.specs.Turns.{NodeTurn, and_then}
-use Rattle.pg_step.specs.Attempts.{new_attempt, begin}
-use Rattle.pg_step.specs.Peers.{exchange}
-use Rattle.pg_step.specs.Commands.{answer, look}
-use Rattle.pg_step.specs.State.Response.{Read}
+use Rattle.pg_history.specs.PgMessage.Name.{is_name}
+use Rattle.pg_history.specs.PgGroup.declared.update.Update.{Update}
+use Rattle.pg_history.specs.PgGroup.declared.update.Update.TheVariants as update
+use Rattle.pg_history.specs.PgRefs.Numbered.{numbered}
+use Rattle.pg_history.specs.PgMachine.Machine.{Take, Do}
+use Rattle.pg_history.specs.PgStep.declared.command.Command.TheVariants as command
+use Rattle.pg_history.specs.PgStep.Config.{nodes_at, groups_at}
+use Rattle.pg_history.specs.PgStep.Nodes.{Nodes, greatest}
+use Rattle.pg_history.specs.PgStep.State.{State, live_nodes}
+use Rattle.pg_history.specs.PgStep.Step.{Issue}
+use Rattle.pg_history.specs.PgStep.Turns.{NodeTurn, and_then}
+use Rattle.pg_history.specs.PgStep.Attempts.{new_attempt, begin}
+use Rattle.pg_history.specs.PgStep.Peers.{exchange}
+use Rattle.pg_history.specs.PgStep.Commands.{answer, look}
+use Rattle.pg_history.specs.PgStep.State.Response.{Read}
 use Rattle.pg_examples.specs.Examples.{a, b, op_at, a1, b1}
 use Rattle.pg_examples.specs.LossExamples.{LosingFrameWorld, losing_start, MembersOfTheLost, two_members}
 use Rattle.pg_examples.proofs.Listed.{both_listed, left_listed, read_list}

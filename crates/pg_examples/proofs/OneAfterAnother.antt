@@ -1,24 +1,24 @@
 -- A client at one node begins after a client at another was answered.
 use Rattle.std.proofs.Common.{◌≡◌, ℕ, take, true, false, List, [], ◌∷◌, Some, None, Ok, refl, ap, ◌∙◌}
 use Rattle.std.specs.Prelude.{is_some}
-use Rattle.pg_group.specs.Functions.{upd}
-use Rattle.pg_group.specs.Value.{nobody}
+use Rattle.pg_history.specs.PgGroup.Functions.{upd}
+use Rattle.pg_history.specs.PgGroup.Value.{nobody}
 use Rattle.pg_term.specs.declared.term.Term.{Term}
 use Rattle.pg_term.specs.Same.{same_term, same_atom}
-use Rattle.pg_message.specs.Name.{is_name}
-use Rattle.pg_group.specs.declared.update.Update.{Update}
-use Rattle.pg_group.specs.declared.update.Update.TheVariants as update
-use Rattle.pg_refs.specs.Numbered.{numbered}
-use Rattle.pg_lock.specs.Locks.{is_free, is_holder}
-use Rattle.pg_machine.specs.Machine.{Take, Do}
-use Rattle.pg_step.specs.declared.command.Command.TheVariants as command
-use Rattle.pg_step.specs.Commands.{answer}
-use Rattle.pg_step.specs.Config.{nodes_at, groups_at}
-use Rattle.pg_step.specs.FrameMachine.{FrameWorld}
-use Rattle.pg_step.specs.Nodes.{Nodes}
-use Rattle.pg_step.specs.Peers.{exchange, update_request}
-use Rattle.pg_step.specs.State.Response.{Read}
-use Rattle.pg_step.specs.Step.{Issue}
+use Rattle.pg_history.specs.PgMessage.Name.{is_name}
+use Rattle.pg_history.specs.PgGroup.declared.update.Update.{Update}
+use Rattle.pg_history.specs.PgGroup.declared.update.Update.TheVariants as update
+use Rattle.pg_history.specs.PgRefs.Numbered.{numbered}
+use Rattle.pg_history.specs.PgLock.Locks.{is_free, is_holder}
+use Rattle.pg_history.specs.PgMachine.Machine.{Take, Do}
+use Rattle.pg_history.specs.PgStep.declared.command.Command.TheVariants as command
+use Rattle.pg_history.specs.PgStep.Commands.{answer}
+use Rattle.pg_history.specs.PgStep.Config.{nodes_at, groups_at}
+use Rattle.pg_history.specs.PgStep.FrameMachine.{FrameWorld}
+use Rattle.pg_history.specs.PgStep.Nodes.{Nodes}
+use Rattle.pg_history.specs.PgStep.Peers.{exchange, update_request}
+use Rattle.pg_history.specs.PgStep.State.Response.{Read}
+use Rattle.pg_history.specs.PgStep.Step.{Issue}
 use Rattle.pg_examples.specs.Examples.{a, b, op_at, stands, start, two_nodes}
 use Rattle.pg_examples.specs.Outcomes.{OneAfterAnother}
 use Rattle.pg_examples.proofs.Trace.{Move, AllMake, walked, walk, held_at, changed_at, all_of_group, look_delete}

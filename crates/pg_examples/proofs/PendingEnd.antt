@@ -1,30 +1,30 @@
 -- An end is pending until the other node has taken it.
 use Rattle.std.proofs.Common.{◌≡◌, true, false, ◌&&◌, nat_eq, [], ◌∷◌, ◌++◌, Some}
 use Rattle.std.proofs.Common.{None, Ok, refl, ap, sym, subst, ◌∙◌, ℕ, List, take, drop}
-use Rattle.pg_group.specs.Functions.{upd}
-use Rattle.pg_group.specs.Value.{less, count_in}
-use Rattle.pg_group.specs.Table.{exchanged}
+use Rattle.pg_history.specs.PgGroup.Functions.{upd}
+use Rattle.pg_history.specs.PgGroup.Value.{less, count_in}
+use Rattle.pg_history.specs.PgGroup.Table.{exchanged}
 use Rattle.pg_term.specs.declared.term.Term.{Term}
 use Rattle.pg_term.specs.Same.{same_term, same_atom, same_pid}
-use Rattle.pg_message.specs.Name.{is_name}
-use Rattle.pg_group.specs.declared.update.Update.{Update}
-use Rattle.pg_group.specs.declared.update.Update.TheVariants as update
-use Rattle.pg_refs.specs.Numbered.{numbered}
-use Rattle.pg_lock.specs.Locks.{is_free, is_holder}
-use Rattle.pg_machine.specs.Machine.{Take, Do}
-use Rattle.pg_machine.specs.Runs.{Leads}
-use Rattle.pg_step.specs.declared.command.Command.TheVariants as command
-use Rattle.pg_step.specs.FrameMachine.{machine_of, FrameWorld}
-use Rattle.pg_step.specs.Config.{nodes_at, groups_at}
-use Rattle.pg_step.specs.Nodes.{Nodes}
-use Rattle.pg_step.specs.Step.{Issue}
-use Rattle.pg_step.specs.Turns.{NodeTurn}
-use Rattle.pg_step.specs.Peers.{update_request, exchange, process_end}
+use Rattle.pg_history.specs.PgMessage.Name.{is_name}
+use Rattle.pg_history.specs.PgGroup.declared.update.Update.{Update}
+use Rattle.pg_history.specs.PgGroup.declared.update.Update.TheVariants as update
+use Rattle.pg_history.specs.PgRefs.Numbered.{numbered}
+use Rattle.pg_history.specs.PgLock.Locks.{is_free, is_holder}
+use Rattle.pg_history.specs.PgMachine.Machine.{Take, Do}
+use Rattle.pg_history.specs.PgMachine.Runs.{Leads}
+use Rattle.pg_history.specs.PgStep.declared.command.Command.TheVariants as command
+use Rattle.pg_history.specs.PgStep.FrameMachine.{machine_of, FrameWorld}
+use Rattle.pg_history.specs.PgStep.Config.{nodes_at, groups_at}
+use Rattle.pg_history.specs.PgStep.Nodes.{Nodes}
+use Rattle.pg_history.specs.PgStep.Step.{Issue}
+use Rattle.pg_history.specs.PgStep.Turns.{NodeTurn}
+use Rattle.pg_history.specs.PgStep.Peers.{update_request, exchange, process_end}
 use Rattle.pg_examples.specs.Examples.{start, behind, AllHappen, a, b, a1, op_at}
 use Rattle.pg_examples.specs.Examples.{two_and_member, ended_at_home, joined_after}
-use Rattle.pg_step.specs.Commands.{end_process, look}
+use Rattle.pg_history.specs.PgStep.Commands.{end_process, look}
 use Rattle.std.specs.Prelude.{is_some}
-use Rattle.pg_machine.proofs.Sequences.{run_there}
+use Rattle.pg_history.proofs.PgMachine.Sequences.{run_there}
 use Rattle.pg_examples.proofs.Trace.{Move, AllMake, walked, walk, part, none_ended, held_at, changed_at, merged_at}
 use Rattle.pg_examples.proofs.Trace.{answers_lock, asked, frees, freed, asks_own, attempt_own, asks_rest, asks_rest_as}
 use Rattle.pg_examples.proofs.Trace.{round_one, round_two, named_as, looked, begins, finishes, comes_in, opens}

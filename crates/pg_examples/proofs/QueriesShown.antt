@@ -4,9 +4,9 @@ use Rattle.std.specs.Prelude.{count_by}
 use Rattle.pg_term.specs.declared.pid.Pid.{Pid}
 use Rattle.pg_term.specs.declared.term.Term.{Term}
 use Rattle.pg_term.specs.Same.{same_atom, same_pid}
-use Rattle.pg_group.specs.Members.{IsMemberList, count_among}
-use Rattle.pg_group.specs.Scope.{anywhere, at_node}
-use Rattle.pg_group.specs.Value.{nobody}
+use Rattle.pg_history.specs.PgGroup.Members.{IsMemberList, count_among}
+use Rattle.pg_history.specs.PgGroup.Scope.{anywhere, at_node}
+use Rattle.pg_history.specs.PgGroup.Value.{nobody}
 use Rattle.pg_examples.specs.Examples.{a, b, c, a1, b1}
 use Rattle.pg_examples.specs.QueriesRead.{members, QueriesRead}
 use Rattle.pg_examples.proofs.Listed.{by_pid}

@@ -1,20 +1,20 @@
 -- A retry goes on once the greatest, which was asked alone, is lost.
 use Rattle.std.proofs.Common.{◌≡◌, ℕ, take, true, false, List, [], ◌∷◌, ◌++◌, Some, None, Ok, refl, ap}
 use Rattle.std.specs.Prelude.{is_some}
-use Rattle.pg_group.specs.Functions.{upd}
-use Rattle.pg_lock.specs.Locks.{is_holder, is_free}
+use Rattle.pg_history.specs.PgGroup.Functions.{upd}
+use Rattle.pg_history.specs.PgLock.Locks.{is_holder, is_free}
 use Rattle.pg_term.specs.declared.term.Term.{Term}
 use Rattle.pg_term.specs.Same.{same_term, same_atom}
-use Rattle.pg_message.specs.Name.{is_name}
-use Rattle.pg_refs.specs.Numbered.{numbered}
-use Rattle.pg_machine.specs.Machine.{Take, Do}
-use Rattle.pg_step.specs.Nodes.{Node, Nodes}
-use Rattle.pg_step.specs.State.{Status, live_nodes}
-use Rattle.pg_step.specs.State.Status.{Unasked, Yes}
-use Rattle.pg_step.specs.Step.{Retry}
-use Rattle.pg_step.specs.Turns.{becomes, and_then}
-use Rattle.pg_step.specs.Attempts.{count_answer, locks_in}
-use Rattle.pg_step.specs.Peers.{update_request}
+use Rattle.pg_history.specs.PgMessage.Name.{is_name}
+use Rattle.pg_history.specs.PgRefs.Numbered.{numbered}
+use Rattle.pg_history.specs.PgMachine.Machine.{Take, Do}
+use Rattle.pg_history.specs.PgStep.Nodes.{Node, Nodes}
+use Rattle.pg_history.specs.PgStep.State.{Status, live_nodes}
+use Rattle.pg_history.specs.PgStep.State.Status.{Unasked, Yes}
+use Rattle.pg_history.specs.PgStep.Step.{Retry}
+use Rattle.pg_history.specs.PgStep.Turns.{becomes, and_then}
+use Rattle.pg_history.specs.PgStep.Attempts.{count_answer, locks_in}
+use Rattle.pg_history.specs.PgStep.Peers.{update_request}
 use Rattle.pg_examples.specs.Examples.{a, b, c, op_at, three_nodes, lock_ref}
 use Rattle.pg_examples.specs.LossExamples.{LosingFrameWorld, losing_start, ReadyByLoss}
 use Rattle.pg_examples.proofs.Trace.{held_at, changed_at, answers_lock, asked, ask_as, frees}

@@ -1,15 +1,15 @@
 -- Commands that are refused: what a name is found to be, and the rest computes.
 use Rattle.std.proofs.Common.{◌≡◌, ℕ, Bool, true, false, not, cond, Some, None, Option, Ok, refl, ap}
 use Rattle.pg_term.specs.declared.term.Term.{Term}
-use Rattle.pg_group.specs.Functions.{upd}
-use Rattle.pg_message.specs.Name.{is_name}
-use Rattle.pg_step.specs.declared.command.Command.{Command}
-use Rattle.pg_step.specs.declared.command.Command.TheVariants as command
-use Rattle.pg_step.specs.declared.command_fault.CommandFault.{CommandFault}
-use Rattle.pg_step.specs.declared.command_fault.CommandFault.TheVariants.{NameTooLarge, ForeignPid}
-use Rattle.pg_step.specs.Commands.{command_by, count_command, next_op}
-use Rattle.pg_step.specs.State.{State, Response, live_nodes}
-use Rattle.pg_step.specs.Turns.{and_then}
+use Rattle.pg_history.specs.PgGroup.Functions.{upd}
+use Rattle.pg_history.specs.PgMessage.Name.{is_name}
+use Rattle.pg_history.specs.PgStep.declared.command.Command.{Command}
+use Rattle.pg_history.specs.PgStep.declared.command.Command.TheVariants as command
+use Rattle.pg_history.specs.PgStep.declared.command_fault.CommandFault.{CommandFault}
+use Rattle.pg_history.specs.PgStep.declared.command_fault.CommandFault.TheVariants.{NameTooLarge, ForeignPid}
+use Rattle.pg_history.specs.PgStep.Commands.{command_by, count_command, next_op}
+use Rattle.pg_history.specs.PgStep.State.{State, Response, live_nodes}
+use Rattle.pg_history.specs.PgStep.Turns.{and_then}
 use Rattle.pg_examples.specs.Examples.{a1, b1, c1, busy_node, keeping_node}
 use Rattle.pg_examples.specs.RefusedCommands.{at_a, answer_in, answer_to, opened_in, LargeNames, ForeignMembers}
 use Rattle.pg_examples.specs.RefusedCommands.{RefusedEnds, ProcessesMade, LookedFor, OpenCommands}

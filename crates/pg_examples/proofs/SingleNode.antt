@@ -1,25 +1,25 @@
 -- A single node creates a group.
 use Rattle.std.proofs.Common.{◌≡◌, true, false, List, [], ◌∷◌, Some, None, Ok, refl, ap, sym, subst, ◌∙◌, ℕ}
 use Rattle.std.specs.Prelude.{is_some, Bool}
-use Rattle.pg_group.specs.Functions.{upd}
-use Rattle.pg_lock.specs.Locks.{is_free, is_holder}
+use Rattle.pg_history.specs.PgGroup.Functions.{upd}
+use Rattle.pg_history.specs.PgLock.Locks.{is_free, is_holder}
 use Rattle.pg_term.specs.declared.term.Term.{Term}
 use Rattle.pg_term.specs.Same.{same_term}
-use Rattle.pg_message.specs.Name.{is_name}
-use Rattle.pg_group.specs.declared.update.Update.{Update}
-use Rattle.pg_group.specs.declared.update.Update.TheVariants as update
-use Rattle.pg_machine.specs.Machine.{Do}
-use Rattle.pg_machine.specs.Runs.{Leads}
-use Rattle.pg_machine.proofs.Sequences.{run_there}
-use Rattle.pg_step.specs.declared.command.Command.TheVariants as command
-use Rattle.pg_step.specs.declared.command.OpId.{OpId}
-use Rattle.pg_step.specs.Attempts.{begin, new_attempt}
-use Rattle.pg_step.specs.Config.{nodes_at}
-use Rattle.pg_step.specs.FrameMachine.{FrameWorld, machine_of}
-use Rattle.pg_step.specs.Nodes.{Nodes, greatest}
-use Rattle.pg_step.specs.State.{State}
-use Rattle.pg_step.specs.Step.{Issue}
-use Rattle.pg_step.specs.Turns.{NodeTurn, and_then}
+use Rattle.pg_history.specs.PgMessage.Name.{is_name}
+use Rattle.pg_history.specs.PgGroup.declared.update.Update.{Update}
+use Rattle.pg_history.specs.PgGroup.declared.update.Update.TheVariants as update
+use Rattle.pg_history.specs.PgMachine.Machine.{Do}
+use Rattle.pg_history.specs.PgMachine.Runs.{Leads}
+use Rattle.pg_history.proofs.PgMachine.Sequences.{run_there}
+use Rattle.pg_history.specs.PgStep.declared.command.Command.TheVariants as command
+use Rattle.pg_history.specs.PgStep.declared.command.OpId.{OpId}
+use Rattle.pg_history.specs.PgStep.Attempts.{begin, new_attempt}
+use Rattle.pg_history.specs.PgStep.Config.{nodes_at}
+use Rattle.pg_history.specs.PgStep.FrameMachine.{FrameWorld, machine_of}
+use Rattle.pg_history.specs.PgStep.Nodes.{Nodes, greatest}
+use Rattle.pg_history.specs.PgStep.State.{State}
+use Rattle.pg_history.specs.PgStep.Step.{Issue}
+use Rattle.pg_history.specs.PgStep.Turns.{NodeTurn, and_then}
 use Rattle.pg_examples.specs.Examples.{start, behind, AllHappen, op_at, stands, one_node, lock_ref, created_alone}
 use Rattle.pg_examples.specs.Outcomes.{SingleNode}
 use Rattle.pg_examples.proofs.Trace.{Move, AllMake, walked, walk, held_at, changed_at, all_of_group, ask_as}

@@ -1,16 +1,16 @@
 -- How the examples of losses among three nodes begin: all have exchanged their tables, and a asks c alone for the lock of a new group.
 use Rattle.std.proofs.Common.{◌≡◌, true, List, [], ◌∷◌, ◌++◌, refl, ap}
-use Rattle.pg_group.specs.Functions.{upd}
-use Rattle.pg_group.specs.declared.update.Update.{Update}
-use Rattle.pg_group.specs.declared.update.Update.TheVariants as update
+use Rattle.pg_history.specs.PgGroup.Functions.{upd}
+use Rattle.pg_history.specs.PgGroup.declared.update.Update.{Update}
+use Rattle.pg_history.specs.PgGroup.declared.update.Update.TheVariants as update
 use Rattle.pg_term.specs.declared.term.Term.{Term}
-use Rattle.pg_message.specs.Name.{is_name}
-use Rattle.pg_machine.specs.Machine.{Take, Do}
-use Rattle.pg_step.specs.declared.command.Command.TheVariants as command
-use Rattle.pg_step.specs.Config.{nodes_at, groups_at}
-use Rattle.pg_step.specs.Nodes.{Nodes}
-use Rattle.pg_step.specs.Peers.{exchange}
-use Rattle.pg_step.specs.Step.{Issue}
+use Rattle.pg_history.specs.PgMessage.Name.{is_name}
+use Rattle.pg_history.specs.PgMachine.Machine.{Take, Do}
+use Rattle.pg_history.specs.PgStep.declared.command.Command.TheVariants as command
+use Rattle.pg_history.specs.PgStep.Config.{nodes_at, groups_at}
+use Rattle.pg_history.specs.PgStep.Nodes.{Nodes}
+use Rattle.pg_history.specs.PgStep.Peers.{exchange}
+use Rattle.pg_history.specs.PgStep.Step.{Issue}
 use Rattle.pg_examples.specs.Examples.{a, b, c, op_at, three_nodes}
 use Rattle.pg_examples.specs.LossExamples.{LosingFrameWorld, losing_start}
 use Rattle.pg_examples.proofs.Trace.{asks_peer, named_as, opens}

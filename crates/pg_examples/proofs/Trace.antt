@@ -1,6 +1,6 @@
 -- Events one at a time, each with the turn that it makes. Where a turn looks at a lock, what it finds is given.
 use Rattle.std.specs.Cmp.{first_so, second_so}
-use Rattle.pg_machine.specs.Runs.{Leads}
+use Rattle.pg_history.specs.PgMachine.Runs.{Leads}
 use Rattle.std.proofs.Common.{zero, suc, take, drop, map, ◌≡◌, ℕ, Bool, true, false, not, ◌&&◌, cond, List, []}
 use Rattle.std.proofs.Common.{◌∷◌, ◌++◌, Option, Some, None, Result, Ok, Err, refl, ap, sym, subst, ◌∙◌, nat_eq}
 use Rattle.std.specs.List.{AllByRecursion}
@@ -11,39 +11,39 @@ use Rattle.pg_term.specs.RefParts.{RefParts}
 use Rattle.pg_term.specs.contracts.term.TermEq.TheImpl.Laws.{laws-law}
 use Rattle.pg_term.proofs.Same.{same_term as same_is}
 use Rattle.pg_term.specs.Same.{same_term, same_atom}
-use Rattle.pg_group.specs.declared.update.Update.{Update}
-use Rattle.pg_group.specs.declared.update.Update.TheVariants as update
-use Rattle.pg_group.specs.Functions.{upd}
-use Rattle.pg_group.specs.Table.{Table, applied, changed, exchanged, merged}
-use Rattle.pg_group.specs.Value.{Value, name_of}
-use Rattle.pg_lock.specs.Locks.{Locks, held, after_ask, given_up, is_holder}
-use Rattle.pg_message.specs.declared.message.Message.{Message}
-use Rattle.pg_message.specs.declared.message.Message.TheVariants.{Call, Reply, DelLock}
-use Rattle.pg_message.specs.declared.message.Request.TheVariants.{SetLock}
-use Rattle.pg_step.specs.declared.command.Command.{Command}
-use Rattle.pg_step.specs.declared.command.OpId.{OpId}
-use Rattle.pg_step.specs.declared.answer.Reply.{Reply as Answer}
-use Rattle.pg_step.specs.declared.answer.Reply.TheVariants as reply
-use Rattle.pg_step.specs.declared.refusal.Refusal.{Refusal}
-use Rattle.pg_step.specs.declared.refusal.Refusal.TheVariants.{NoSuchPlace}
-use Rattle.pg_machine.specs.Machine.{Event, Take, Do, node_of, is_there, first_from}
-use Rattle.pg_machine.specs.Machine.{without_input, turn_of, perform, happens}
-use Rattle.pg_step.specs.Nodes.{Node, Nodes, greatest, to_one, to_peers}
-use Rattle.pg_step.specs.State.{State, Status}
-use Rattle.pg_step.specs.State.Status.{Unasked, Yes}
-use Rattle.pg_step.specs.State.Use.{Locking, Spent}
-use Rattle.pg_step.specs.State.Stage.{Closed, Waiting}
-use Rattle.pg_step.specs.State.Response.{Given}
-use Rattle.pg_step.specs.Turns.{NodeTurn, nothing, becomes, becomes_and_sends, and_then}
-use Rattle.pg_step.specs.Peers.{would_grant, verdict}
-use Rattle.pg_step.specs.Attempts.{own_reference, same_op, is_yes, asks, with_asked, new_attempt}
-use Rattle.pg_step.specs.Attempts.{count_answer, count_ok, give_up, begin, go_on, locks_in}
-use Rattle.pg_step.specs.Commands.{look, open_command, change_by, count_command, command_by}
-use Rattle.pg_step.specs.Step.{Action, taken, node_takes, node_acts}
-use Rattle.pg_step.specs.FrameMachine.{FrameWorld, placed, node_step, place_turn, machine_of}
+use Rattle.pg_history.specs.PgGroup.declared.update.Update.{Update}
+use Rattle.pg_history.specs.PgGroup.declared.update.Update.TheVariants as update
+use Rattle.pg_history.specs.PgGroup.Functions.{upd}
+use Rattle.pg_history.specs.PgGroup.Table.{Table, applied, changed, exchanged, merged}
+use Rattle.pg_history.specs.PgGroup.Value.{Value, name_of}
+use Rattle.pg_history.specs.PgLock.Locks.{Locks, held, after_ask, given_up, is_holder}
+use Rattle.pg_history.specs.PgMessage.declared.message.Message.{Message}
+use Rattle.pg_history.specs.PgMessage.declared.message.Message.TheVariants.{Call, Reply, DelLock}
+use Rattle.pg_history.specs.PgMessage.declared.message.Request.TheVariants.{SetLock}
+use Rattle.pg_history.specs.PgStep.declared.command.Command.{Command}
+use Rattle.pg_history.specs.PgStep.declared.command.OpId.{OpId}
+use Rattle.pg_history.specs.PgStep.declared.answer.Reply.{Reply as Answer}
+use Rattle.pg_history.specs.PgStep.declared.answer.Reply.TheVariants as reply
+use Rattle.pg_history.specs.PgStep.declared.refusal.Refusal.{Refusal}
+use Rattle.pg_history.specs.PgStep.declared.refusal.Refusal.TheVariants.{NoSuchPlace}
+use Rattle.pg_history.specs.PgMachine.Machine.{Event, Take, Do, node_of, is_there, first_from}
+use Rattle.pg_history.specs.PgMachine.Machine.{without_input, turn_of, perform, happens}
+use Rattle.pg_history.specs.PgStep.Nodes.{Node, Nodes, greatest, to_one, to_peers}
+use Rattle.pg_history.specs.PgStep.State.{State, Status}
+use Rattle.pg_history.specs.PgStep.State.Status.{Unasked, Yes}
+use Rattle.pg_history.specs.PgStep.State.Use.{Locking, Spent}
+use Rattle.pg_history.specs.PgStep.State.Stage.{Closed, Waiting}
+use Rattle.pg_history.specs.PgStep.State.Response.{Given}
+use Rattle.pg_history.specs.PgStep.Turns.{NodeTurn, nothing, becomes, becomes_and_sends, and_then}
+use Rattle.pg_history.specs.PgStep.Peers.{would_grant, verdict}
+use Rattle.pg_history.specs.PgStep.Attempts.{own_reference, same_op, is_yes, asks, with_asked, new_attempt}
+use Rattle.pg_history.specs.PgStep.Attempts.{count_answer, count_ok, give_up, begin, go_on, locks_in}
+use Rattle.pg_history.specs.PgStep.Commands.{look, open_command, change_by, count_command, command_by}
+use Rattle.pg_history.specs.PgStep.Step.{Action, taken, node_takes, node_acts}
+use Rattle.pg_history.specs.PgStep.FrameMachine.{FrameWorld, placed, node_step, place_turn, machine_of}
 use Rattle.pg_history.specs.History.{Entry, of_group}
-use Rattle.pg_step.specs.Config.{Config, name_at, nodes_at, ports_at}
-use Rattle.pg_step.specs.declared.command_fault.CommandFault.TheVariants.{NameTooLarge}
+use Rattle.pg_history.specs.PgStep.Config.{Config, name_at, nodes_at, ports_at}
+use Rattle.pg_history.specs.PgStep.declared.command_fault.CommandFault.TheVariants.{NameTooLarge}
 
 -- the world behind an event that makes this turn
 abbrev pub turned : Config → FrameWorld → Event Action → NodeTurn → FrameWorld

@@ -5,30 +5,30 @@ use Rattle.pg_term.specs.declared.pid.Pid.{Pid}
 use Rattle.pg_term.specs.declared.term.Term.{Term}
 use Rattle.pg_term.specs.RefParts.{RefParts}
 use Rattle.pg_term.specs.Same.{same_pid}
-use Rattle.pg_group.specs.declared.update.Update.{Update}
-use Rattle.pg_group.specs.Table.{Table}
-use Rattle.pg_group.specs.Value.{count_in, nobody}
-use Rattle.pg_message.specs.declared.message.Message.{Message}
-use Rattle.pg_message.specs.declared.message.Message.TheVariants.{Reply}
-use Rattle.pg_message.specs.declared.message.Said.TheVariants.{Granted, Denied, Applied}
-use Rattle.pg_refs.specs.Numbered.{numbered}
-use Rattle.pg_ends.specs.Numbers.{pid_of}
-use Rattle.pg_exchange.specs.GroupList.{GroupList}
-use Rattle.pg_step.specs.declared.start.Start.{Start}
-use Rattle.pg_step.specs.declared.command.Command.{Command}
-use Rattle.pg_step.specs.declared.command.Command.TheVariants as command
-use Rattle.pg_step.specs.declared.command.OpId.{OpId}
-use Rattle.pg_step.specs.declared.answer.Odd.{Odd}
-use Rattle.pg_step.specs.declared.answer.Reply.TheVariants as reply
-use Rattle.pg_machine.specs.Places.{set_way}
-use Rattle.pg_machine.specs.Machine.{Event, Take, Do, start_of}
-use Rattle.pg_machine.specs.Runs.{Leads, run}
-use Rattle.pg_step.specs.Nodes.{Node}
-use Rattle.pg_step.specs.State.{Response, State, new_state}
-use Rattle.pg_step.specs.State.Response.{Given, Read}
-use Rattle.pg_step.specs.Step.{Action, Issue, Retry}
-use Rattle.pg_step.specs.Config.{Config}
-use Rattle.pg_step.specs.FrameMachine.{machine_of, FrameWorld}
+use Rattle.pg_history.specs.PgGroup.declared.update.Update.{Update}
+use Rattle.pg_history.specs.PgGroup.Table.{Table}
+use Rattle.pg_history.specs.PgGroup.Value.{count_in, nobody}
+use Rattle.pg_history.specs.PgMessage.declared.message.Message.{Message}
+use Rattle.pg_history.specs.PgMessage.declared.message.Message.TheVariants.{Reply}
+use Rattle.pg_history.specs.PgMessage.declared.message.Said.TheVariants.{Granted, Denied, Applied}
+use Rattle.pg_history.specs.PgRefs.Numbered.{numbered}
+use Rattle.pg_history.specs.PgEnds.Numbers.{pid_of}
+use Rattle.pg_history.specs.PgExchange.GroupList.{GroupList}
+use Rattle.pg_history.specs.PgStep.declared.start.Start.{Start}
+use Rattle.pg_history.specs.PgStep.declared.command.Command.{Command}
+use Rattle.pg_history.specs.PgStep.declared.command.Command.TheVariants as command
+use Rattle.pg_history.specs.PgStep.declared.command.OpId.{OpId}
+use Rattle.pg_history.specs.PgStep.declared.answer.Odd.{Odd}
+use Rattle.pg_history.specs.PgStep.declared.answer.Reply.TheVariants as reply
+use Rattle.pg_history.specs.PgMachine.Places.{set_way}
+use Rattle.pg_history.specs.PgMachine.Machine.{Event, Take, Do, start_of}
+use Rattle.pg_history.specs.PgMachine.Runs.{Leads, run}
+use Rattle.pg_history.specs.PgStep.Nodes.{Node}
+use Rattle.pg_history.specs.PgStep.State.{Response, State, new_state}
+use Rattle.pg_history.specs.PgStep.State.Response.{Given, Read}
+use Rattle.pg_history.specs.PgStep.Step.{Action, Issue, Retry}
+use Rattle.pg_history.specs.PgStep.Config.{Config}
+use Rattle.pg_history.specs.PgStep.FrameMachine.{machine_of, FrameWorld}
 use Rattle.pg_history.specs.History.{Entry, answers_by}
 
 -- ---- words

@@ -2,32 +2,32 @@
 use Rattle.std.specs.Prelude.{◌≡◌, ℕ, Bool, true, false, not, ◌||◌, cond, nat_eq, length}
 use Rattle.std.specs.Prelude.{List, [], ◌∷◌, ◌++◌, map, Option, Some, None, is_some}
 use Rattle.pg_term.specs.declared.term.Term.{Term}
-use Rattle.pg_group.specs.Value.{count_in}
-use Rattle.pg_group.specs.declared.update.Update.TheVariants as update
-use Rattle.pg_message.specs.declared.message.Message.{Message}
-use Rattle.pg_message.specs.declared.message.Message.TheVariants.{Call}
-use Rattle.pg_message.specs.declared.message.Request.TheVariants.{SetLock}
-use Rattle.pg_step.specs.declared.answer.Reply.TheVariants as reply
-use Rattle.pg_step.specs.declared.command.Command.TheVariants as command
-use Rattle.pg_step.specs.Commands.{Reads}
-use Rattle.pg_machine.specs.Places.{is_pair, set_at}
-use Rattle.pg_machine.specs.Machine.{Event, Take, start_of}
-use Rattle.pg_step.specs.State.{State, live_nodes}
-use Rattle.pg_step.specs.State.Stage.{Waiting}
-use Rattle.pg_step.specs.Attempts.{is_complete}
-use Rattle.pg_step.specs.Turns.{Report}
-use Rattle.pg_step.specs.Step.{Action}
-use Rattle.pg_step.specs.declared.refusal.Refusal.{Refusal}
-use Rattle.pg_step.specs.declared.refusal.Refusal.TheVariants.{NoSuchPlace, NodeLost, NotLost, NotDrained, ClockFull}
-use Rattle.pg_machine.specs.Losing.{Noticed, Sent, Last, LosingWorld, LosingEvent, Step, Lose, LosingLeads, nobody_gone}
-use Rattle.pg_step.specs.LossLaws.{LosingFrameWorld as TimedLosingFrames}
-use Rattle.pg_step.specs.LossLaws.{see_refusal as timed_see_refusal, lose_refusal as timed_lose_refusal}
-use Rattle.pg_step.specs.Config.{Config, name_at, nodes_at}
-use Rattle.pg_step.specs.FrameMachine.{losing_machine_of, losing_frame_machine, last_notice}
+use Rattle.pg_history.specs.PgGroup.Value.{count_in}
+use Rattle.pg_history.specs.PgGroup.declared.update.Update.TheVariants as update
+use Rattle.pg_history.specs.PgMessage.declared.message.Message.{Message}
+use Rattle.pg_history.specs.PgMessage.declared.message.Message.TheVariants.{Call}
+use Rattle.pg_history.specs.PgMessage.declared.message.Request.TheVariants.{SetLock}
+use Rattle.pg_history.specs.PgStep.declared.answer.Reply.TheVariants as reply
+use Rattle.pg_history.specs.PgStep.declared.command.Command.TheVariants as command
+use Rattle.pg_history.specs.PgStep.Commands.{Reads}
+use Rattle.pg_history.specs.PgMachine.Places.{is_pair, set_at}
+use Rattle.pg_history.specs.PgMachine.Machine.{Event, Take, start_of}
+use Rattle.pg_history.specs.PgStep.State.{State, live_nodes}
+use Rattle.pg_history.specs.PgStep.State.Stage.{Waiting}
+use Rattle.pg_history.specs.PgStep.Attempts.{is_complete}
+use Rattle.pg_history.specs.PgStep.Turns.{Report}
+use Rattle.pg_history.specs.PgStep.Step.{Action}
+use Rattle.pg_history.specs.PgStep.declared.refusal.Refusal.{Refusal}
+use Rattle.pg_history.specs.PgStep.declared.refusal.Refusal.TheVariants.{NoSuchPlace, NodeLost, NotLost, NotDrained, ClockFull}
+use Rattle.pg_history.specs.PgMachine.Losing.{Noticed, Sent, Last, LosingWorld, LosingEvent, Step, Lose, LosingLeads, nobody_gone}
+use Rattle.pg_history.specs.PgStep.LossLaws.{LosingFrameWorld as TimedLosingFrames}
+use Rattle.pg_history.specs.PgStep.LossLaws.{see_refusal as timed_see_refusal, lose_refusal as timed_lose_refusal}
+use Rattle.pg_history.specs.PgStep.Config.{Config, name_at, nodes_at}
+use Rattle.pg_history.specs.PgStep.FrameMachine.{losing_machine_of, losing_frame_machine, last_notice}
 use Rattle.pg_history.specs.History.{history, answers_by}
 use Rattle.pg_examples.specs.Examples.{node, a, b, a1, b1, at, again, is_ok, op_at, query_answer, stands}
 use Rattle.pg_examples.specs.Examples.{two_meet, two_nodes, three_nodes, three_meet, lock_ref}
-use Rattle.pg_step.specs.Faults.{first_that_holds}
+use Rattle.pg_history.specs.PgStep.Faults.{first_that_holds}
 
 -- ---- words
 

@@ -1,23 +1,23 @@
 -- What the worked examples come to.
 use Rattle.std.specs.Prelude.{◌≡◌, true, false, [], ◌∷◌, ◌++◌, Some, None, Ok, Err}
 use Rattle.pg_term.specs.declared.term.Term.{Term}
-use Rattle.pg_group.specs.declared.update.Update.TheVariants as update
-use Rattle.pg_refs.specs.Numbered.{numbered}
-use Rattle.pg_message.specs.declared.message.Message.TheVariants.{Call, Exchange}
-use Rattle.pg_message.specs.declared.message.Request.TheVariants.{SetLock}
-use Rattle.pg_step.specs.declared.command.Command.TheVariants as command
-use Rattle.pg_step.specs.declared.answer.Reply.TheVariants as reply
-use Rattle.pg_step.specs.declared.answer.Odd.TheVariants.{Stranger, Double}
-use Rattle.pg_step.specs.declared.refusal.Refusal.TheVariants.{NotAMessage}
-use Rattle.pg_step.specs.State.Response.{Given}
-use Rattle.pg_step.specs.State.Stage.{Waiting, Changing}
-use Rattle.pg_step.specs.Attempts.{strange}
-use Rattle.pg_step.specs.Commands.{Reads}
-use Rattle.pg_step.specs.Step.{taken}
-use Rattle.pg_step.specs.Config.{groups_at, nodes_at}
-use Rattle.pg_machine.specs.Machine.{Take}
-use Rattle.pg_machine.specs.Runs.{Leads}
-use Rattle.pg_step.specs.FrameMachine.{FrameWorld, machine_of}
+use Rattle.pg_history.specs.PgGroup.declared.update.Update.TheVariants as update
+use Rattle.pg_history.specs.PgRefs.Numbered.{numbered}
+use Rattle.pg_history.specs.PgMessage.declared.message.Message.TheVariants.{Call, Exchange}
+use Rattle.pg_history.specs.PgMessage.declared.message.Request.TheVariants.{SetLock}
+use Rattle.pg_history.specs.PgStep.declared.command.Command.TheVariants as command
+use Rattle.pg_history.specs.PgStep.declared.answer.Reply.TheVariants as reply
+use Rattle.pg_history.specs.PgStep.declared.answer.Odd.TheVariants.{Stranger, Double}
+use Rattle.pg_history.specs.PgStep.declared.refusal.Refusal.TheVariants.{NotAMessage}
+use Rattle.pg_history.specs.PgStep.State.Response.{Given}
+use Rattle.pg_history.specs.PgStep.State.Stage.{Waiting, Changing}
+use Rattle.pg_history.specs.PgStep.Attempts.{strange}
+use Rattle.pg_history.specs.PgStep.Commands.{Reads}
+use Rattle.pg_history.specs.PgStep.Step.{taken}
+use Rattle.pg_history.specs.PgStep.Config.{groups_at, nodes_at}
+use Rattle.pg_history.specs.PgMachine.Machine.{Take}
+use Rattle.pg_history.specs.PgMachine.Runs.{Leads}
+use Rattle.pg_history.specs.PgStep.FrameMachine.{FrameWorld, machine_of}
 use Rattle.pg_history.specs.History.{history, is_formed}
 use Rattle.pg_examples.specs.Examples.{a, b, c, a1, b1, op_at, start, answers_of, table_of, has_group}
 use Rattle.pg_examples.specs.Examples.{has_counts, holder_at, is_ok, query_answer, stands, odd_of, yes, no}

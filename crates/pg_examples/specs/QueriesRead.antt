@@ -1,11 +1,11 @@
 -- What queries read, by example.
 use Rattle.std.specs.Prelude.{[], ◌∷◌, Some, None}
 use Rattle.pg_term.specs.declared.term.Term.{Term}
-use Rattle.pg_group.specs.Table.{Table}
-use Rattle.pg_group.specs.Value.{Value, listed, nobody}
-use Rattle.pg_step.specs.Commands.{Reads}
-use Rattle.pg_step.specs.declared.answer.Reply.TheVariants as reply
-use Rattle.pg_step.specs.declared.command.Command.TheVariants as command
+use Rattle.pg_history.specs.PgGroup.Table.{Table}
+use Rattle.pg_history.specs.PgGroup.Value.{Value, listed, nobody}
+use Rattle.pg_history.specs.PgStep.Commands.{Reads}
+use Rattle.pg_history.specs.PgStep.declared.answer.Reply.TheVariants as reply
+use Rattle.pg_history.specs.PgStep.declared.command.Command.TheVariants as command
 use Rattle.pg_examples.specs.Examples.{a, b, c, a1, b1}
 
 -- a table in which each name has this group

@@ -1,18 +1,18 @@
 -- Which commands a node refuses, and what it answers at once, by example: the answer that the step gives.
 use Rattle.std.specs.Prelude.{◌≡◌, ℕ, true, false, Option, Some, None, Result, Ok, Err, option_map}
 use Rattle.pg_term.specs.declared.term.Term.{Term}
-use Rattle.pg_ends.specs.Numbers.{pid_of}
-use Rattle.pg_step.specs.declared.answer.Reply.TheVariants as reply
-use Rattle.pg_step.specs.declared.command.Command.{Command}
-use Rattle.pg_step.specs.declared.command.Command.TheVariants as command
-use Rattle.pg_step.specs.declared.refusal.Refusal.{Refusal}
-use Rattle.pg_step.specs.declared.refusal.Refusal.TheVariants.{NotWaiting}
-use Rattle.pg_step.specs.Config.{nodes_at}
-use Rattle.pg_step.specs.Nodes.{Nodes}
-use Rattle.pg_step.specs.State.{State, Response}
-use Rattle.pg_step.specs.State.Response.{Given}
-use Rattle.pg_step.specs.Step.{Issue, Retry, node_acts}
-use Rattle.pg_step.specs.Turns.{NodeTurn}
+use Rattle.pg_history.specs.PgEnds.Numbers.{pid_of}
+use Rattle.pg_history.specs.PgStep.declared.answer.Reply.TheVariants as reply
+use Rattle.pg_history.specs.PgStep.declared.command.Command.{Command}
+use Rattle.pg_history.specs.PgStep.declared.command.Command.TheVariants as command
+use Rattle.pg_history.specs.PgStep.declared.refusal.Refusal.{Refusal}
+use Rattle.pg_history.specs.PgStep.declared.refusal.Refusal.TheVariants.{NotWaiting}
+use Rattle.pg_history.specs.PgStep.Config.{nodes_at}
+use Rattle.pg_history.specs.PgStep.Nodes.{Nodes}
+use Rattle.pg_history.specs.PgStep.State.{State, Response}
+use Rattle.pg_history.specs.PgStep.State.Response.{Given}
+use Rattle.pg_history.specs.PgStep.Step.{Issue, Retry, node_acts}
+use Rattle.pg_history.specs.PgStep.Turns.{NodeTurn}
 use Rattle.pg_examples.specs.Examples.{a, a1, b1, c1, op_at, two_nodes, busy_node, mourning_node, keeping_node}
 
 -- the node a of a and b

@@ -1,6 +1,6 @@
 ghost use Rattle.std.specs.Prelude.{◌≡◌, true, false};
 ghost use Rattle.pg_term.specs.declared.term.Term.{Term};
-ghost use Rattle.pg_message.specs.Name.{is_name};
+ghost use Rattle.pg_history.specs.PgMessage.Name.{is_name};
 ghost use Rattle.pg_examples.specs.RefusedCommands.{LargeNames, ForeignMembers, RefusedEnds};
 ghost use Rattle.pg_examples.specs.RefusedCommands.{ProcessesMade, LookedFor, OpenCommands};
 

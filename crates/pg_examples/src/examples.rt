@@ -1,14 +1,14 @@
 ghost use Rattle.std.specs.Prelude.{◌≡◌, ◌++◌, true, false};
 ghost use Rattle.pg_term.specs.declared.term.Term.{Term};
 ghost use Rattle.pg_term.specs.Same.{same_term};
-ghost use Rattle.pg_message.specs.Name.{is_name};
+ghost use Rattle.pg_history.specs.PgMessage.Name.{is_name};
 ghost use Rattle.pg_examples.specs.Examples.{behind, start, AllHappen, one_node, two_nodes, two_and_member, two_tables};
 ghost use Rattle.pg_examples.specs.Examples.{three_nodes, three_tables, with_replies, joined_twice, left_once};
 ghost use Rattle.pg_examples.specs.Examples.{deleted_between, created_by_two, tables_met, created_later, ended_between};
 ghost use Rattle.pg_examples.specs.Examples.{joined_late, asked_greatest, gathering_events, completed, met_one, met_both};
 ghost use Rattle.pg_examples.specs.Examples.{ended_at_home, joined_after, first_request, asked_unformed, given_back};
 ghost use Rattle.pg_examples.specs.Examples.{granted_at_home, denied_by_b, created_alone, created_by_three};
-ghost use Rattle.pg_step.specs.Config.{IsConfig};
+ghost use Rattle.pg_history.specs.PgStep.Config.{IsConfig};
 ghost use Rattle.pg_examples.specs.Outcomes.{JoinTwiceLeaveOnce, DeleteBetween, TwoCreators, InitialTables};
 ghost use Rattle.pg_examples.specs.Outcomes.{EndBeatsLateJoin, GatheredReplies, FormationOfThree, PendingEnd};
 ghost use Rattle.pg_examples.specs.Outcomes.{OneAfterAnother};

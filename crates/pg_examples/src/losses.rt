@@ -1,7 +1,7 @@
 ghost use Rattle.std.specs.Prelude.{◌≡◌, Some, true};
 ghost use Rattle.pg_term.specs.declared.term.Term.{Term};
-ghost use Rattle.pg_message.specs.Name.{is_name};
-ghost use Rattle.pg_step.specs.declared.refusal.Refusal.TheVariants.{NotLost};
+ghost use Rattle.pg_history.specs.PgMessage.Name.{is_name};
+ghost use Rattle.pg_history.specs.PgStep.declared.refusal.Refusal.TheVariants.{NotLost};
 ghost use Rattle.pg_examples.specs.Examples.{two_nodes};
 ghost use Rattle.pg_examples.specs.LossExamples.{losing_start, see_refusal, ReadyByLoss, HeldUntilRetry, Drained};
 ghost use Rattle.pg_examples.specs.LossExamples.{LockOfTheLost, MembersOfTheLost, LossWithClocks};

@@ -6,8 +6,8 @@ use Rattle.std.proofs.lemmas.List.{get_or-take, take_more, take_all, nil_from_le
 use Rattle.std.proofs.lemmas.List.Elements.{Contains-append_left, Contains-append_right}
 use Rattle.std.proofs.lemmas.List.Elements.{Contains-push, Contains-push_cases, Contains-append_cases}
 use Rattle.std.specs.List.{Contains}
-use Rattle.pg_machine.specs.Clocked.{Stamped}
-use Rattle.pg_message.specs.declared.message.Message.{Message}
+use Rattle.pg_frame_world.specs.PgMachine.Clocked.{Stamped}
+use Rattle.pg_frame_world.specs.PgMessage.declared.message.Message.{Message}
 use Rattle.pg_frame_world.specs.Views.{CanStay}
 use Rattle.pg_explore.specs.Keeping.{AddsLonger, AreLonger, AreUpTo, IsLonger, IsOneLonger, IsUpTo}
 

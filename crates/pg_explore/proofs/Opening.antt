@@ -6,14 +6,14 @@ use Rattle.std.proofs.lemmas.List.Elements.{Contains-append_left, Contains-push,
 use Rattle.std.proofs.lemmas.Option.{slice_get_read}
 use Rattle.std.specs.Prelude.{slice_get, Option, Some, None, Result, Ok, Err, IfOk}
 use Rattle.std.specs.List.{Contains, IsDistinct, list_any}
-use Rattle.pg_machine.specs.Clocked.{Stamped}
-use Rattle.pg_machine.specs.Places.{is_pair}
-use Rattle.pg_message.specs.declared.message.Message.{Message}
-use Rattle.pg_opens.proofs.Followed.{op_is, op_same}
-use Rattle.pg_step.specs.declared.command.OpId.{OpId}
-use Rattle.pg_step.specs.Attempts.{same_op}
+use Rattle.pg_frame_world.specs.PgMachine.Clocked.{Stamped}
+use Rattle.pg_frame_world.specs.PgMachine.Places.{is_pair}
+use Rattle.pg_frame_world.specs.PgMessage.declared.message.Message.{Message}
+use Rattle.pg_frame_world.proofs.PgOpens.Followed.{op_is, op_same}
+use Rattle.pg_frame_world.specs.PgStep.declared.command.OpId.{OpId}
+use Rattle.pg_frame_world.specs.PgStep.Attempts.{same_op}
 use Rattle.pg_frame_world.specs.Losing.{seen_at}
-use Rattle.pg_account.specs.Losses.{is_lost}
+use Rattle.pg_frame_world.specs.PgAccount.Losses.{is_lost}
 use Rattle.pg_frame_world.specs.Views.{CanStay, on_the_way}
 use Rattle.pg_explore.specs.declared.moves.Move.{Move}
 use Rattle.pg_explore.specs.declared.moves.Move.TheVariants.{Take, Next, Loss, Retry, SeeLoss}

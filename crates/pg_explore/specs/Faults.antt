@@ -1,7 +1,7 @@
 -- Why an exploration ends early.
 use Rattle.std.specs.Prelude.{ℕ, List}
-use Rattle.pg_config.specs.declared.config.Config.{Config}
-use Rattle.pg_config.specs.Faults.{world_number_of}
+use Rattle.pg_frame_world.specs.PgConfig.declared.config.Config.{Config}
+use Rattle.pg_frame_world.specs.PgConfig.Faults.{world_number_of}
 use Rattle.pg_frame_world.specs.Openings.{CantBegin}
 use Rattle.pg_explore.specs.declared.fault.ExploreFault.{ExploreFault}
 use Rattle.pg_explore.specs.declared.fault.ExploreFault.TheVariants.{World, OutOfMemory}

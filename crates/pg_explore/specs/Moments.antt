@@ -1,6 +1,6 @@
 -- Moments of runs, as they are seen.
 use Rattle.std.specs.Prelude.{◌≡◌, ℕ, ◌+◌, ◌-◌, zero, suc, map, length, replicate, List, [], ◌∷◌, ◌++◌}
-use Rattle.pg_step.specs.Config.{Config}
+use Rattle.pg_frame_world.specs.PgStep.Config.{Config}
 use Rattle.pg_frame_world.specs.Alike.{AreAlikeWorlds}
 use Rattle.pg_frame_world.specs.FrameWorlds.{view_of, lost_of, given_of}
 use Rattle.pg_frame_world.specs.Starts.{Begins}

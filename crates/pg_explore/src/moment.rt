@@ -13,9 +13,7 @@ use crate::moves::Move;
 use crate::plan::Plan;
 use crate::strand::Strand;
 use crate::strands::{idle_strands, same_strands, strands_after};
-use pg_config::Config;
-use pg_frame_world::FrameWorld;
-use pg_index::IndexTable;
+use pg_frame_world::{Config, FrameWorld, IndexTable};
 use std::alloc::{AllocError, Global};
 
 /// A moment of a run: the world, and how far the plan of each node has come, by the places of the nodes.

@@ -2,7 +2,7 @@
 
 ghost use Rattle.std.specs.Prelude.{◌≡◌, IfOk};
 
-use pg_step::OpId;
+use pg_frame_world::OpId;
 use pg_term::Items;
 use std::alloc::{AllocError, Global};
 

@@ -2,12 +2,12 @@
 
 ghost use Rattle.std.specs.Prelude.{◌≡◌, ◌≢◌, ◌<◌, ◌≤◌, ◌+◌, ◌^◌, [], get_or, length, map};
 ghost use Rattle.pg_frame_world.specs.Views.{peer_place};
-ghost use Rattle.pg_sends.specs.Sent.{stamped_of};
+ghost use Rattle.pg_frame_world.specs.PgSends.Sent.{stamped_of};
 ghost use Rattle.pg_frame_world.specs.FrameWorlds.{traffic_of};
 ghost use Rattle.pg_explore.specs.Moments.{IsSized};
 
 use crate::moment::Moment;
-use pg_message::Packet;
+use pg_frame_world::Packet;
 use std::collections::VecDeque;
 
 /// The packets on the way from a node to its peer at a place, which are the other nodes in their order. It takes no memory.

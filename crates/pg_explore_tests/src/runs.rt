@@ -1,10 +1,8 @@
 //! Runs to ends play as scripts, over bytes, and lead there.
 
 use pg_explore::{Limits, Moment};
-use pg_index::IndexTable;
-use pg_script::{Act, Script, read_script};
+use pg_script::{Act, IndexTable, Script, World, read_script};
 use pg_survey::{Findings, Observer, read_scenario, survey};
-use pg_world::World;
 use std::alloc::{AllocError, Global};
 use std::test::*;
 

@@ -2,16 +2,16 @@
 use Rattle.std.proofs.Common.{◌≡◌, ℕ, Bool, true, false, cond, nat_eq, List, [], ◌∷◌, ◌++◌}
 use Rattle.std.proofs.Common.{Option, Some, None, refl, sym, ap, ◌∙◌, subst, append-nil, ◌≢◌}
 use Rattle.std.proofs.lemmas.Bool.{eq-eqb, ne_eqb, eqb-true}
-use Rattle.pg_group.specs.Functions.{upd}
-use Rattle.pg_step.specs.Commands.{Answers}
-use Rattle.pg_step.specs.declared.answer.Answer.{Answer}
-use Rattle.pg_step.specs.declared.answer.Reply.{Reply}
-use Rattle.pg_step.specs.declared.command.OpId.{OpId}
-use Rattle.pg_step.specs.Nodes.{Node}
-use Rattle.pg_step.specs.State.{Response}
-use Rattle.pg_step.specs.Turns.{Report}
-use Rattle.pg_history.specs.History.{answers_by, answer_at, answer_by}
-use Rattle.pg_history.proofs.steps.Ways.{told_append}
+use Rattle.pg_node_state.specs.PgGroup.Functions.{upd}
+use Rattle.pg_node_state.specs.PgStep.Commands.{Answers}
+use Rattle.pg_node_state.specs.PgStep.declared.answer.Answer.{Answer}
+use Rattle.pg_node_state.specs.PgStep.declared.answer.Reply.{Reply}
+use Rattle.pg_node_state.specs.PgStep.declared.command.OpId.{OpId}
+use Rattle.pg_node_state.specs.PgStep.Nodes.{Node}
+use Rattle.pg_node_state.specs.PgStep.State.{Response}
+use Rattle.pg_node_state.specs.PgStep.Turns.{Report}
+use Rattle.pg_retries.specs.PgHistory.History.{answers_by, answer_at, answer_by}
+use Rattle.pg_retries.proofs.PgHistory.steps.Ways.{told_append}
 use Rattle.pg_node_state.specs.States.{Gave}
 use Rattle.pg_frame_world.specs.Worlds.{AreAnswers}
 

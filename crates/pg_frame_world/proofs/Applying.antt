@@ -1,39 +1,39 @@
 -- What an event applies: the update that a taken packet asks for, else that of the command that got its last grant.
 use Rattle.std.proofs.Common.{◌≡◌, ◌⊎◌, ℕ, Bool, true, false, cond, nat_lt, max, ◌+◌, Option}
 use Rattle.std.proofs.Common.{Some, None, Result, Ok, Err, nat_le, subst, refl, inl, inr}
-use Rattle.pg_group.specs.declared.update.Update.{Update}
-use Rattle.pg_message.specs.declared.message.Message.{Message}
-use Rattle.pg_message.specs.declared.message.Message.TheVariants.{Call, Reply, DelLock, Exchange, Down}
-use Rattle.pg_message.specs.declared.message.Request.TheVariants.{SetLock, Change}
-use Rattle.pg_message.specs.declared.message.Said.{Said}
-use Rattle.pg_machine.specs.Clocked.{Timed, Stamped}
-use Rattle.pg_multicall.specs.declared.gather.Taken.{Taken as Heard}
-use Rattle.pg_multicall.specs.declared.gather.Taken.TheVariants as what
-use Rattle.pg_step.specs.Attempts.{finish, begin, give_up, ask, new_attempt, count_answer, count_ok}
-use Rattle.pg_step.specs.Attempts.{lock_status, replies_in, locks_in, go_on, attempt, tried_again, waits, retry}
-use Rattle.pg_step.specs.Attempts.{counted, reply_by, use_of, all_granted, none_missing, none_denied, round_of}
-use Rattle.pg_step.specs.Commands.{OPEN_LIMIT, answer, refused, open_command, count_command, undertake}
-use Rattle.pg_step.specs.Commands.{change_by, carried_out, command_by, command, fault_of, next_op}
-use Rattle.pg_step.specs.declared.answer.Reply.{Reply as Answer}
-use Rattle.pg_step.specs.declared.command.Command.{Command}
-use Rattle.pg_step.specs.declared.command.Command.TheVariants as commands
-use Rattle.pg_step.specs.declared.command.OpId.{OpId}
-use Rattle.pg_step.specs.declared.command_fault.CommandFault.{CommandFault}
-use Rattle.pg_step.specs.declared.refusal.Refusal.{Refusal}
-use Rattle.pg_step.specs.declared.refusal.Refusal.TheVariants.{NotAMessage, NoSuchPlace, NodeLost}
-use Rattle.pg_step.specs.declared.refusal.Refusal.TheVariants.{NotDrained, NotLost, NotWaiting, ClockFull}
-use Rattle.pg_step.specs.declared.command_fault.CommandFault.TheVariants.{Busy}
+use Rattle.pg_node_state.specs.PgGroup.declared.update.Update.{Update}
+use Rattle.pg_node_state.specs.PgMessage.declared.message.Message.{Message}
+use Rattle.pg_node_state.specs.PgMessage.declared.message.Message.TheVariants.{Call, Reply, DelLock, Exchange, Down}
+use Rattle.pg_node_state.specs.PgMessage.declared.message.Request.TheVariants.{SetLock, Change}
+use Rattle.pg_node_state.specs.PgMessage.declared.message.Said.{Said}
+use Rattle.pg_node_state.specs.PgMachine.Clocked.{Timed, Stamped}
+use Rattle.pg_node_state.specs.PgMulticall.declared.gather.Taken.{Taken as Heard}
+use Rattle.pg_node_state.specs.PgMulticall.declared.gather.Taken.TheVariants as what
+use Rattle.pg_node_state.specs.PgStep.Attempts.{finish, begin, give_up, ask, new_attempt, count_answer, count_ok}
+use Rattle.pg_node_state.specs.PgStep.Attempts.{lock_status, replies_in, locks_in, go_on, attempt, tried_again, waits, retry}
+use Rattle.pg_node_state.specs.PgStep.Attempts.{counted, reply_by, use_of, all_granted, none_missing, none_denied, round_of}
+use Rattle.pg_node_state.specs.PgStep.Commands.{OPEN_LIMIT, answer, refused, open_command, count_command, undertake}
+use Rattle.pg_node_state.specs.PgStep.Commands.{change_by, carried_out, command_by, command, fault_of, next_op}
+use Rattle.pg_node_state.specs.PgStep.declared.answer.Reply.{Reply as Answer}
+use Rattle.pg_node_state.specs.PgStep.declared.command.Command.{Command}
+use Rattle.pg_node_state.specs.PgStep.declared.command.Command.TheVariants as commands
+use Rattle.pg_node_state.specs.PgStep.declared.command.OpId.{OpId}
+use Rattle.pg_node_state.specs.PgStep.declared.command_fault.CommandFault.{CommandFault}
+use Rattle.pg_node_state.specs.PgStep.declared.refusal.Refusal.{Refusal}
+use Rattle.pg_node_state.specs.PgStep.declared.refusal.Refusal.TheVariants.{NotAMessage, NoSuchPlace, NodeLost}
+use Rattle.pg_node_state.specs.PgStep.declared.refusal.Refusal.TheVariants.{NotDrained, NotLost, NotWaiting, ClockFull}
+use Rattle.pg_node_state.specs.PgStep.declared.command_fault.CommandFault.TheVariants.{Busy}
 use Rattle.pg_term.specs.Same.{same_atom}
-use Rattle.pg_lock.specs.Attempts.{after_round, does_wait}
-use Rattle.pg_step.specs.Nodes.{Node, Nodes, every, greatest}
-use Rattle.pg_step.specs.State.{State, Use, Stage, live_nodes}
-use Rattle.pg_step.specs.State.Use.{Fresh, Locking, Owning, Updating, Spent}
-use Rattle.pg_step.specs.Peers.{is_bad_exchange, exchange}
-use Rattle.pg_step.specs.State.Status.{Unasked}
-use Rattle.pg_step.specs.State.Stage.{Closed, Waiting, Asking, Changing}
-use Rattle.pg_step.specs.Step.{Action, Issue, Retry, TimedTurn, taken, acted, node_takes}
-use Rattle.pg_step.specs.Step.{node_acts, timed, at_clock, CLOCK_LIMIT, step_take, step_act}
-use Rattle.pg_step.specs.Turns.{NodeTurn, Report, and_then, becomes}
+use Rattle.pg_node_state.specs.PgLock.Attempts.{after_round, does_wait}
+use Rattle.pg_node_state.specs.PgStep.Nodes.{Node, Nodes, every, greatest}
+use Rattle.pg_node_state.specs.PgStep.State.{State, Use, Stage, live_nodes}
+use Rattle.pg_node_state.specs.PgStep.State.Use.{Fresh, Locking, Owning, Updating, Spent}
+use Rattle.pg_node_state.specs.PgStep.Peers.{is_bad_exchange, exchange}
+use Rattle.pg_node_state.specs.PgStep.State.Status.{Unasked}
+use Rattle.pg_node_state.specs.PgStep.State.Stage.{Closed, Waiting, Asking, Changing}
+use Rattle.pg_node_state.specs.PgStep.Step.{Action, Issue, Retry, TimedTurn, taken, acted, node_takes}
+use Rattle.pg_node_state.specs.PgStep.Step.{node_acts, timed, at_clock, CLOCK_LIMIT, step_take, step_act}
+use Rattle.pg_node_state.specs.PgStep.Turns.{NodeTurn, Report, and_then, becomes}
 use Rattle.pg_account.specs.Histories.{update_asked_by, begun_by}
 
 -- what began is what was applied

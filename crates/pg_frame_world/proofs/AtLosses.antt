@@ -3,19 +3,19 @@ use Rattle.std.proofs.Common.{◌≡◌, ◌↔◌, ◌⊎◌, ℕ, Bool, true, 
 use Rattle.std.proofs.Common.{◌++◌, Some, None, inl, inr, refl, sym, ap, ◌∙◌, subst, append-nil}
 use Rattle.std.proofs.Common.{append_assoc}
 use Rattle.std.specs.Prelude.{option_map}
-use Rattle.pg_machine.specs.Losing.{LosingEvent, Step, Lose, LosingLeads, losing_happens, nobody_gone, stopped}
-use Rattle.pg_machine.specs.Machine.{Event, node_of, happens, start_of}
-use Rattle.pg_machine.specs.Places.{is_place, set_at}
-use Rattle.pg_machine.proofs.Options.{map_is_some, some_is}
-use Rattle.pg_machine.proofs.Places.{set_at_here}
-use Rattle.pg_step.specs.Config.{Config, nodes_at}
-use Rattle.pg_step.specs.FrameMachine.{losing_frame_machine, last_notice}
-use Rattle.pg_step.specs.LossLaws.{LosingFrameWorld}
-use Rattle.pg_step.specs.State.{formed}
-use Rattle.pg_step.specs.Step.{Action}
-use Rattle.pg_history.specs.WithLosses.{FormedAtLosses}
-use Rattle.pg_loss.specs.Reached.{LosingReaches}
-use Rattle.pg_loss.proofs.Lasts.{formed_later, lost_for_good}
+use Rattle.pg_node_state.specs.PgMachine.Losing.{LosingEvent, Step, Lose, LosingLeads, losing_happens, nobody_gone, stopped}
+use Rattle.pg_node_state.specs.PgMachine.Machine.{Event, node_of, happens, start_of}
+use Rattle.pg_node_state.specs.PgMachine.Places.{is_place, set_at}
+use Rattle.pg_node_state.proofs.PgMachine.Options.{map_is_some, some_is}
+use Rattle.pg_node_state.proofs.PgMachine.Places.{set_at_here}
+use Rattle.pg_node_state.specs.PgStep.Config.{Config, nodes_at}
+use Rattle.pg_node_state.specs.PgStep.FrameMachine.{losing_frame_machine, last_notice}
+use Rattle.pg_node_state.specs.PgStep.LossLaws.{LosingFrameWorld}
+use Rattle.pg_node_state.specs.PgStep.State.{formed}
+use Rattle.pg_node_state.specs.PgStep.Step.{Action}
+use Rattle.pg_retries.specs.PgHistory.WithLosses.{FormedAtLosses}
+use Rattle.pg_retries.specs.PgLoss.Reached.{LosingReaches}
+use Rattle.pg_retries.proofs.PgLoss.Lasts.{formed_later, lost_for_good}
 
 abbrev Events : Type 0
 Events = List (LosingEvent Action)

@@ -6,24 +6,24 @@ use Rattle.std.specs.Prelude.{slice_get, OnErr}
 use Rattle.std.specs.Option.{option_map_or}
 use Rattle.std.proofs.lemmas.Bool.{lt-ltb}
 use Rattle.std.proofs.lemmas.Option.{slice_get_cases}
-use Rattle.pg_message.specs.declared.message.Message.{Message}
-use Rattle.pg_machine.specs.Places.{is_place, is_pair}
-use Rattle.pg_machine.specs.Machine.{Event, Input, Take, Do, node_of, first_from, happens}
-use Rattle.pg_machine.specs.Clocked.{Timed, Stamped}
-use Rattle.pg_machine.specs.Losing.{Noticed, LosingEvent, Step, losing_happens, can_keep}
-use Rattle.pg_machine.proofs.Options.{some_is}
-use Rattle.pg_machine.proofs.Steps.{happened}
-use Rattle.pg_step.specs.Config.{Config, names_of, name_at, nodes_at, ports_at}
-use Rattle.pg_step.specs.Faults.{first_that_holds}
-use Rattle.pg_step.specs.FrameMachine.{frame_machine, losing_frame_machine, last_notice, sent_packet}
-use Rattle.pg_step.specs.LossLaws.{LosingFrameWorld, way_is_drained, clock_after}
-use Rattle.pg_step.specs.Nodes.{Node, Nodes}
-use Rattle.pg_step.specs.State.{State}
-use Rattle.pg_step.specs.Step.{Action, Issue, Retry, step_take, step_act}
-use Rattle.pg_step.specs.StepLaws.{refusal_of, port_of, is_full}
-use Rattle.pg_step.specs.declared.refusal.Refusal.{Refusal}
-use Rattle.pg_step.specs.declared.refusal.Refusal.TheVariants.{NoSuchPlace, NodeLost, NotLost, NotDrained, ClockFull}
-use Rattle.pg_opens.specs.Places.{name_at as place_name}
+use Rattle.pg_node_state.specs.PgMessage.declared.message.Message.{Message}
+use Rattle.pg_node_state.specs.PgMachine.Places.{is_place, is_pair}
+use Rattle.pg_node_state.specs.PgMachine.Machine.{Event, Input, Take, Do, node_of, first_from, happens}
+use Rattle.pg_node_state.specs.PgMachine.Clocked.{Timed, Stamped}
+use Rattle.pg_node_state.specs.PgMachine.Losing.{Noticed, LosingEvent, Step, losing_happens, can_keep}
+use Rattle.pg_node_state.proofs.PgMachine.Options.{some_is}
+use Rattle.pg_node_state.proofs.PgMachine.Steps.{happened}
+use Rattle.pg_node_state.specs.PgStep.Config.{Config, names_of, name_at, nodes_at, ports_at}
+use Rattle.pg_node_state.specs.PgStep.Faults.{first_that_holds}
+use Rattle.pg_node_state.specs.PgStep.FrameMachine.{frame_machine, losing_frame_machine, last_notice, sent_packet}
+use Rattle.pg_node_state.specs.PgStep.LossLaws.{LosingFrameWorld, way_is_drained, clock_after}
+use Rattle.pg_node_state.specs.PgStep.Nodes.{Node, Nodes}
+use Rattle.pg_node_state.specs.PgStep.State.{State}
+use Rattle.pg_node_state.specs.PgStep.Step.{Action, Issue, Retry, step_take, step_act}
+use Rattle.pg_node_state.specs.PgStep.StepLaws.{refusal_of, port_of, is_full}
+use Rattle.pg_node_state.specs.PgStep.declared.refusal.Refusal.{Refusal}
+use Rattle.pg_node_state.specs.PgStep.declared.refusal.Refusal.TheVariants.{NoSuchPlace, NodeLost, NotLost, NotDrained, ClockFull}
+use Rattle.pg_node_state.specs.PgOpens.Places.{name_at as place_name}
 use Rattle.pg_node_state.specs.declared.state.fault.NodeFault.{NodeFault}
 use Rattle.pg_node_state.specs.declared.state.fault.NodeFault.TheVariants.{Refused, OutOfMemory}
 use Rattle.pg_node_state.specs.declared.state.fault.NodeFault.TheVariants.{Message as BadMessage, TooLong, Damaged}

@@ -1,10 +1,10 @@
 -- A world whose parts were copied is the same world.
 use Rattle.std.proofs.Common.{◌≡◌, ℕ, List, [], ◌∷◌, map, refl, sym, subst}
 use Rattle.std.specs.List.{AllZip}
-use Rattle.pg_group.specs.declared.table.GroupTable.{Ghosts}
+use Rattle.pg_node_state.specs.PgGroup.declared.table.GroupTable.{Ghosts}
 use Rattle.pg_node_state.specs.declared.state.NodeState.{NodeState}
 use Rattle.pg_node_state.specs.Same.{AreSameNodes}
-use Rattle.pg_step.specs.Config.{Config}
+use Rattle.pg_node_state.specs.PgStep.Config.{Config}
 use Rattle.pg_frame_world.specs.Past.{FramesHavePast}
 use Rattle.pg_starts.specs.Seen.{seen_of}
 use Rattle.pg_frame_world.specs.Views.{Traffic, View, IsWhole}

@@ -3,19 +3,19 @@ use Rattle.std.proofs.Common.{◌≡◌, ◌≤◌, ℕ, Bool, true, false, cond
 use Rattle.std.proofs.Common.{length, List, Some, Result, Ok, Err, refl, ap, ◌∙◌}
 use Rattle.std.specs.Prelude.{slice_get}
 use Rattle.std.proofs.lemmas.Bool.{le-leb, ltb-true}
-use Rattle.pg_group.specs.Table.{Table}
-use Rattle.pg_message.specs.declared.fault.MessageFault.{MessageFault}
-use Rattle.pg_message.specs.declared.fault.MessageFault.TheVariants as faults
+use Rattle.pg_node_state.specs.PgGroup.Table.{Table}
+use Rattle.pg_node_state.specs.PgMessage.declared.fault.MessageFault.{MessageFault}
+use Rattle.pg_node_state.specs.PgMessage.declared.fault.MessageFault.TheVariants as faults
 use Rattle.pg_term.specs.declared.fault.TermFault.TheVariants as terms
-use Rattle.pg_message.specs.declared.packet.Packet.{Packet}
-use Rattle.pg_message.specs.declared.packet.TheConstants.{MAX_STAMP}
-use Rattle.pg_message.specs.Reading.{is_named_once}
-use Rattle.pg_message.specs.Writing.{is_sayable, body_of, length_of, sent, term_of_packet}
-use Rattle.pg_message.proofs.ReadBack.{read_back}
-use Rattle.pg_sends.specs.Opening.{IsAnnouncement}
-use Rattle.pg_step.specs.Nodes.{Node}
-use Rattle.pg_term_io.specs.declared.limits.TheConstants.{MAX_LEN}
-use Rattle.pg_term_io.specs.Writing.{written}
+use Rattle.pg_node_state.specs.PgMessage.declared.packet.Packet.{Packet}
+use Rattle.pg_node_state.specs.PgMessage.declared.packet.TheConstants.{MAX_STAMP}
+use Rattle.pg_node_state.specs.PgMessage.Reading.{is_named_once}
+use Rattle.pg_node_state.specs.PgMessage.Writing.{is_sayable, body_of, length_of, sent, term_of_packet}
+use Rattle.pg_node_state.proofs.PgMessage.ReadBack.{read_back}
+use Rattle.pg_node_state.specs.PgSends.Opening.{IsAnnouncement}
+use Rattle.pg_node_state.specs.PgStep.Nodes.{Node}
+use Rattle.pg_node_state.specs.PgTermIo.declared.limits.TheConstants.{MAX_LEN}
+use Rattle.pg_node_state.specs.PgTermIo.Writing.{written}
 use Rattle.pg_config.specs.declared.fault.WorldFault.{WorldFault}
 use Rattle.pg_config.specs.declared.fault.WorldFault.TheVariants.{BadConfig, NameTooLarge}
 use Rattle.pg_config.specs.declared.fault.WorldFault.TheVariants.{BadCapacity, TooLong, OutOfMemory}

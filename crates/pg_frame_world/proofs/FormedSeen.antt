@@ -6,17 +6,17 @@ use Rattle.std.specs.List.{list_all}
 use Rattle.std.specs.Cmp.{first_so, second_so}
 use Rattle.std.proofs.lemmas.Bool.{eq-eqb, lt-ltb, ltb-true}
 use Rattle.std.proofs.lemmas.Option.{slice_get_within}
-use Rattle.pg_machine.specs.Clocked.{Timed}
-use Rattle.pg_machine.specs.Losing.{LosingEvent, Step, Lose}
-use Rattle.pg_machine.specs.Machine.{Do, Take}
-use Rattle.pg_step.specs.Config.{Config, nodes_at}
-use Rattle.pg_step.specs.LossLaws.{LosingFrameWorld}
-use Rattle.pg_step.specs.Nodes.{Node, Nodes}
-use Rattle.pg_step.specs.State.{State, formed, live_nodes}
-use Rattle.pg_step.specs.Step.{Action, Issue, Retry}
-use Rattle.pg_history.proofs.steps.Lossless.{NoneLost, live_all}
-use Rattle.pg_opens.specs.Places.{whole_in}
-use Rattle.pg_opens.proofs.Alike.{both_true}
+use Rattle.pg_node_state.specs.PgMachine.Clocked.{Timed}
+use Rattle.pg_node_state.specs.PgMachine.Losing.{LosingEvent, Step, Lose}
+use Rattle.pg_node_state.specs.PgMachine.Machine.{Do, Take}
+use Rattle.pg_node_state.specs.PgStep.Config.{Config, nodes_at}
+use Rattle.pg_node_state.specs.PgStep.LossLaws.{LosingFrameWorld}
+use Rattle.pg_node_state.specs.PgStep.Nodes.{Node, Nodes}
+use Rattle.pg_node_state.specs.PgStep.State.{State, formed, live_nodes}
+use Rattle.pg_node_state.specs.PgStep.Step.{Action, Issue, Retry}
+use Rattle.pg_retries.proofs.PgHistory.steps.Lossless.{NoneLost, live_all}
+use Rattle.pg_node_state.specs.PgOpens.Places.{whole_in}
+use Rattle.pg_node_state.proofs.PgOpens.Alike.{both_true}
 use Rattle.pg_node_state.specs.declared.state.fault.NodeFault.{NodeFault}
 use Rattle.pg_account.specs.Losses.{is_lost}
 use Rattle.pg_starts.specs.Seen.{Seen}

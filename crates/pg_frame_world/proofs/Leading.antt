@@ -11,25 +11,25 @@ use Rattle.std.proofs.Math.Seq.{take-length}
 use Rattle.pg_term.specs.declared.term.Term.{Term}
 use Rattle.pg_term.specs.RefParts.{RefParts}
 use Rattle.pg_term.specs.Same.{same_atom}
-use Rattle.pg_machine.specs.Clocked.{Timed, plain}
-use Rattle.pg_machine.specs.Losing.{LosingEvent, Step, Lose, LosingLeads}
-use Rattle.pg_machine.specs.Losing.{losing_happens, nobody_gone, all_steps}
-use Rattle.pg_machine.specs.Machine.{start_of}
-use Rattle.pg_machine.specs.Places.{is_pair, is_place}
-use Rattle.pg_step.specs.Config.{Config, names_of, nodes_at}
-use Rattle.pg_step.specs.FrameMachine.{losing_frame_machine, last_notice}
-use Rattle.pg_step.specs.LossLaws.{LosingFrameWorld}
-use Rattle.pg_step.specs.Nodes.{Node}
-use Rattle.pg_step.specs.State.{State, formed as formed_by}
-use Rattle.pg_step.specs.Step.{Action}
-use Rattle.pg_step.proofs.Unnoticed.{without_losses}
-use Rattle.pg_history.proofs.places.Clauses.{one_history}
-use Rattle.pg_loss.specs.Reached.{LosingReaches, steps_of}
+use Rattle.pg_node_state.specs.PgMachine.Clocked.{Timed, plain}
+use Rattle.pg_node_state.specs.PgMachine.Losing.{LosingEvent, Step, Lose, LosingLeads}
+use Rattle.pg_node_state.specs.PgMachine.Losing.{losing_happens, nobody_gone, all_steps}
+use Rattle.pg_node_state.specs.PgMachine.Machine.{start_of}
+use Rattle.pg_node_state.specs.PgMachine.Places.{is_pair, is_place}
+use Rattle.pg_node_state.specs.PgStep.Config.{Config, names_of, nodes_at}
+use Rattle.pg_node_state.specs.PgStep.FrameMachine.{losing_frame_machine, last_notice}
+use Rattle.pg_node_state.specs.PgStep.LossLaws.{LosingFrameWorld}
+use Rattle.pg_node_state.specs.PgStep.Nodes.{Node}
+use Rattle.pg_node_state.specs.PgStep.State.{State, formed as formed_by}
+use Rattle.pg_node_state.specs.PgStep.Step.{Action}
+use Rattle.pg_node_state.proofs.PgStep.Unnoticed.{without_losses}
+use Rattle.pg_retries.proofs.PgHistory.places.Clauses.{one_history}
+use Rattle.pg_retries.specs.PgLoss.Reached.{LosingReaches, steps_of}
 use Rattle.pg_retries.specs.Survived.{LossesSurvived}
-use Rattle.pg_history.specs.History.{Entry, LockFree, NonePending, history, applied_count, is_formed}
-use Rattle.pg_history.specs.WithLosses.{NonePendingLive}
-use Rattle.pg_history.proofs.steps.Lossless.{NoneLost, nobody_timed}
-use Rattle.pg_loss.proofs.Lasts.{history_later, lost_for_good}
+use Rattle.pg_retries.specs.PgHistory.History.{Entry, LockFree, NonePending, history, applied_count, is_formed}
+use Rattle.pg_retries.specs.PgHistory.WithLosses.{NonePendingLive}
+use Rattle.pg_retries.proofs.PgHistory.steps.Lossless.{NoneLost, nobody_timed}
+use Rattle.pg_retries.proofs.PgLoss.Lasts.{history_later, lost_for_good}
 use Rattle.pg_node_state.specs.declared.state.fault.NodeFault.{NodeFault}
 use Rattle.pg_node_state.specs.declared.state.fault.NodeFault.TheVariants.{Refused, OutOfMemory}
 use Rattle.pg_node_state.specs.declared.state.fault.NodeFault.TheVariants.{Message as BadMessage, TooLong, Damaged}
@@ -51,7 +51,7 @@ use Rattle.pg_frame_world.proofs.AtLosses.{ToldBehind, lost_here, none_told, tol
 use Rattle.pg_frame_world.proofs.FormedSeen.{ToldOf, told_frames}
 use Rattle.pg_frame_world.proofs.Barred.{pair_here, seen_is}
 use Rattle.pg_frame_world.proofs.Ordered.{ordered_length}
-use Rattle.pg_left.specs.Missed.{missed}
+use Rattle.pg_retries.specs.PgLeft.Missed.{missed}
 use Rattle.pg_frame_world.proofs.MissedSeen.{missed_is}
 use Rattle.pg_frame_world.proofs.LosingRunning.{start_shown, losing_leads}
 

@@ -36,3 +36,13 @@ mod Taking
 pub mod Turning
 pub mod Unplaced
 pub mod Viewing
+pub use Rattle.pg_node_state.proofs.PgFrame
+pub use Rattle.pg_node_state.proofs.PgGroup
+pub use Rattle.pg_retries.proofs.PgHistory
+pub use Rattle.pg_retries.proofs.PgLeft
+pub use Rattle.pg_retries.proofs.PgLoss
+pub use Rattle.pg_node_state.proofs.PgMachine
+pub use Rattle.pg_node_state.proofs.PgOpens
+pub use Rattle.pg_node_state.proofs.PgQuery
+pub use Rattle.pg_starts.proofs as PgStarts
+pub use Rattle.pg_node_state.proofs.PgStep

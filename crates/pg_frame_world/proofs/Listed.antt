@@ -11,24 +11,24 @@ use Rattle.std.proofs.lemmas.Bool.Decides.{Decides-ltb}
 use Rattle.std.proofs.lemmas.List.{append-nil, append_assoc, get_or-map, length-map, length-take-le, take_more}
 use Rattle.std.proofs.lemmas.Option.{get_or_from_slice_get, slice_get_within}
 use Rattle.pg_term.specs.declared.pid.Pid.{Pid}
-use Rattle.pg_group.specs.declared.table.GroupTable.{Ghosts}
-use Rattle.pg_ends.specs.Numbers.{first_pids, is_among, number_in, pid_of}
-use Rattle.pg_machine.specs.Clocked.{Timed, plain}
-use Rattle.pg_machine.specs.Losing.{LosingLeads, all_steps}
-use Rattle.pg_machine.specs.Machine.{Event, start_of}
-use Rattle.pg_machine.specs.Places.{is_place}
-use Rattle.pg_machine.specs.Runs.{Leads}
-use Rattle.pg_machine.proofs.Steps.{happened}
-use Rattle.pg_step.specs.Config.{Config, name_at}
-use Rattle.pg_step.specs.FrameMachine.{frame_machine, last_notice, losing_frame_machine}
-use Rattle.pg_step.specs.LossLaws.{LosingFrameWorld}
-use Rattle.pg_step.specs.Nodes.{Node}
-use Rattle.pg_step.specs.State.{State}
-use Rattle.pg_step.specs.Step.{Action}
-use Rattle.pg_history.specs.History.{NonePending}
-use Rattle.pg_history.specs.Reached.{Reaches}
-use Rattle.pg_history.specs.WithLosses.{NonePendingLive}
-use Rattle.pg_loss.specs.Reached.{LosingReaches}
+use Rattle.pg_node_state.specs.PgGroup.declared.table.GroupTable.{Ghosts}
+use Rattle.pg_node_state.specs.PgEnds.Numbers.{first_pids, is_among, number_in, pid_of}
+use Rattle.pg_node_state.specs.PgMachine.Clocked.{Timed, plain}
+use Rattle.pg_node_state.specs.PgMachine.Losing.{LosingLeads, all_steps}
+use Rattle.pg_node_state.specs.PgMachine.Machine.{Event, start_of}
+use Rattle.pg_node_state.specs.PgMachine.Places.{is_place}
+use Rattle.pg_node_state.specs.PgMachine.Runs.{Leads}
+use Rattle.pg_node_state.proofs.PgMachine.Steps.{happened}
+use Rattle.pg_node_state.specs.PgStep.Config.{Config, name_at}
+use Rattle.pg_node_state.specs.PgStep.FrameMachine.{frame_machine, last_notice, losing_frame_machine}
+use Rattle.pg_node_state.specs.PgStep.LossLaws.{LosingFrameWorld}
+use Rattle.pg_node_state.specs.PgStep.Nodes.{Node}
+use Rattle.pg_node_state.specs.PgStep.State.{State}
+use Rattle.pg_node_state.specs.PgStep.Step.{Action}
+use Rattle.pg_retries.specs.PgHistory.History.{NonePending}
+use Rattle.pg_retries.specs.PgHistory.Reached.{Reaches}
+use Rattle.pg_retries.specs.PgHistory.WithLosses.{NonePendingLive}
+use Rattle.pg_retries.specs.PgLoss.Reached.{LosingReaches}
 use Rattle.pg_node_state.specs.declared.state.NodeState.{NodeState}
 use Rattle.pg_frame_world.specs.Losing.{losing_of}
 use Rattle.pg_account.specs.Losses.{is_lost}

@@ -11,23 +11,23 @@ use Rattle.pg_term.specs.declared.term.Term.TheVariants.{Atom, Int, Pid as Proce
 use Rattle.pg_term.specs.Same.{same_pid, same_term}
 use Rattle.pg_term.specs.contracts.term.TermEq.TheImpl.Laws.{laws-law as terms}
 use Rattle.pg_term.proofs.Same.{pid_is, same_term as term_is}
-use Rattle.pg_term_io.specs.Writing.{item_bytes, all_bytes, tuple_head, list_head, written}
-use Rattle.pg_term_io.proofs.Written.{tuple_is, list_is, count_le}
-use Rattle.pg_group.specs.Members.{IsMemberList}
-use Rattle.pg_group.specs.Scope.{anywhere}
-use Rattle.pg_group.specs.Table.{Table}
-use Rattle.pg_group.specs.Value.{Value, count_in, merge, listed}
-use Rattle.pg_group.proofs.Lists.{counted, counted_first}
-use Rattle.pg_exchange.specs.GroupList.{GroupList, IsSnapshot, announced_table, announced_names}
-use Rattle.pg_message.specs.declared.message.Message.TheVariants.{Exchange}
-use Rattle.pg_message.specs.declared.packet.Packet.{Packet}
-use Rattle.pg_message.specs.Writing.{group_term, term_of_packet}
-use Rattle.pg_sends.specs.Opening.{IsAnnouncement}
-use Rattle.pg_opens.specs.Places.{name_at}
-use Rattle.pg_opens.proofs.Alike.{both_true}
-use Rattle.pg_opens.proofs.Named.{clash}
-use Rattle.pg_step.specs.Config.{Config, groups_at, first_table}
-use Rattle.pg_step.specs.Nodes.{Node}
+use Rattle.pg_node_state.specs.PgTermIo.Writing.{item_bytes, all_bytes, tuple_head, list_head, written}
+use Rattle.pg_node_state.proofs.PgTermIo.Written.{tuple_is, list_is, count_le}
+use Rattle.pg_node_state.specs.PgGroup.Members.{IsMemberList}
+use Rattle.pg_node_state.specs.PgGroup.Scope.{anywhere}
+use Rattle.pg_node_state.specs.PgGroup.Table.{Table}
+use Rattle.pg_node_state.specs.PgGroup.Value.{Value, count_in, merge, listed}
+use Rattle.pg_node_state.proofs.PgGroup.Lists.{counted, counted_first}
+use Rattle.pg_node_state.specs.PgExchange.GroupList.{GroupList, IsSnapshot, announced_table, announced_names}
+use Rattle.pg_node_state.specs.PgMessage.declared.message.Message.TheVariants.{Exchange}
+use Rattle.pg_node_state.specs.PgMessage.declared.packet.Packet.{Packet}
+use Rattle.pg_node_state.specs.PgMessage.Writing.{group_term, term_of_packet}
+use Rattle.pg_node_state.specs.PgSends.Opening.{IsAnnouncement}
+use Rattle.pg_node_state.specs.PgOpens.Places.{name_at}
+use Rattle.pg_node_state.proofs.PgOpens.Alike.{both_true}
+use Rattle.pg_node_state.proofs.PgOpens.Named.{clash}
+use Rattle.pg_node_state.specs.PgStep.Config.{Config, groups_at, first_table}
+use Rattle.pg_node_state.specs.PgStep.Nodes.{Node}
 use Rattle.pg_frame_world.specs.Fitting.{FitsFrame}
 use Rattle.pg_frame_world.specs.Openings.{FitsOpening, AllFit, SomeIsTooLong, are_few, have_few}
 use Rattle.pg_starts.specs.Firsts.{seen_first}

@@ -8,17 +8,17 @@ use Rattle.std.proofs.Math.Path.{fun_ext}
 use Rattle.std.proofs.Math.Seq.{take-length}
 use Rattle.std.proofs.lemmas.List.{append-nil, take_more, take_more_set}
 use Rattle.pg_term.specs.Same.{same_atom}
-use Rattle.pg_message.specs.declared.message.Message.{Message}
-use Rattle.pg_machine.specs.Clocked.{Stamped, stamped}
-use Rattle.pg_machine.specs.Losing.{Noticed, Sent, LosingEvent, LosingLeads, nobody_gone}
-use Rattle.pg_machine.specs.Machine.{start_of}
-use Rattle.pg_step.specs.Config.{Config, names_of}
-use Rattle.pg_step.specs.Faults.{refusal_number_of}
-use Rattle.pg_step.specs.FrameMachine.{machine_of, frame_machine, losing_frame_machine, last_notice, sent_packet}
-use Rattle.pg_step.specs.LossLaws.{LosingFrameWorld}
-use Rattle.pg_step.specs.Step.{Action}
-use Rattle.pg_step.specs.declared.refusal.Refusal.{Refusal}
-use Rattle.pg_loss.specs.Reached.{LosingReaches}
+use Rattle.pg_node_state.specs.PgMessage.declared.message.Message.{Message}
+use Rattle.pg_node_state.specs.PgMachine.Clocked.{Stamped, stamped}
+use Rattle.pg_node_state.specs.PgMachine.Losing.{Noticed, Sent, LosingEvent, LosingLeads, nobody_gone}
+use Rattle.pg_node_state.specs.PgMachine.Machine.{start_of}
+use Rattle.pg_node_state.specs.PgStep.Config.{Config, names_of}
+use Rattle.pg_node_state.specs.PgStep.Faults.{refusal_number_of}
+use Rattle.pg_node_state.specs.PgStep.FrameMachine.{machine_of, frame_machine, losing_frame_machine, last_notice, sent_packet}
+use Rattle.pg_node_state.specs.PgStep.LossLaws.{LosingFrameWorld}
+use Rattle.pg_node_state.specs.PgStep.Step.{Action}
+use Rattle.pg_node_state.specs.PgStep.declared.refusal.Refusal.{Refusal}
+use Rattle.pg_retries.specs.PgLoss.Reached.{LosingReaches}
 use Rattle.pg_retries.specs.Survived.{LossesSurvived}
 use Rattle.pg_node_state.specs.NodeFault.{node_number_of}
 use Rattle.pg_node_state.specs.declared.state.fault.NodeFault.{NodeFault}

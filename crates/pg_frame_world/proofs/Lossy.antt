@@ -5,22 +5,22 @@ use Rattle.std.specs.Prelude.{option_map}
 use Rattle.std.proofs.Math.Path.{fun_ext}
 use Rattle.std.proofs.lemmas.Bool.{cases_eq}
 use Rattle.std.proofs.lemmas.List.{map-append, append-nil, length-map}
-use Rattle.pg_message.specs.declared.message.Message.{Message}
-use Rattle.pg_machine.specs.Places.{is_pair}
-use Rattle.pg_machine.specs.Machine.{Event, Input, Turn, World, Take, Do, Taken, Own, node_of}
-use Rattle.pg_machine.specs.Machine.{first_from, input_of, without_input, perform, happens}
-use Rattle.pg_machine.specs.Happened.{Happened, Changes, Takes}
-use Rattle.pg_machine.specs.Clocked.{Timed, Stamped, unstamped, next_clock, timed_turn, timed}
-use Rattle.pg_machine.specs.Losing.{Noticed, Step, losing_happens, mapped_turn}
-use Rattle.pg_machine.proofs.Options.{some_is}
-use Rattle.pg_machine.proofs.Steps.{changes, turn_changes, turn_made, happens_so}
-use Rattle.pg_step.specs.Config.{Config, name_at}
-use Rattle.pg_step.specs.FrameMachine.{node_step, frame_machine, losing_frame_machine, last_notice, sent_packet}
-use Rattle.pg_step.specs.State.{State}
-use Rattle.pg_step.specs.Step.{CLOCK_LIMIT, Action}
-use Rattle.pg_step.specs.Turns.{Report}
-use Rattle.pg_step.proofs.Unnoticed.{frames_embed}
-use Rattle.pg_history.proofs.steps.Lossless.{step_sees_none}
+use Rattle.pg_node_state.specs.PgMessage.declared.message.Message.{Message}
+use Rattle.pg_node_state.specs.PgMachine.Places.{is_pair}
+use Rattle.pg_node_state.specs.PgMachine.Machine.{Event, Input, Turn, World, Take, Do, Taken, Own, node_of}
+use Rattle.pg_node_state.specs.PgMachine.Machine.{first_from, input_of, without_input, perform, happens}
+use Rattle.pg_node_state.specs.PgMachine.Happened.{Happened, Changes, Takes}
+use Rattle.pg_node_state.specs.PgMachine.Clocked.{Timed, Stamped, unstamped, next_clock, timed_turn, timed}
+use Rattle.pg_node_state.specs.PgMachine.Losing.{Noticed, Step, losing_happens, mapped_turn}
+use Rattle.pg_node_state.proofs.PgMachine.Options.{some_is}
+use Rattle.pg_node_state.proofs.PgMachine.Steps.{changes, turn_changes, turn_made, happens_so}
+use Rattle.pg_node_state.specs.PgStep.Config.{Config, name_at}
+use Rattle.pg_node_state.specs.PgStep.FrameMachine.{node_step, frame_machine, losing_frame_machine, last_notice, sent_packet}
+use Rattle.pg_node_state.specs.PgStep.State.{State}
+use Rattle.pg_node_state.specs.PgStep.Step.{CLOCK_LIMIT, Action}
+use Rattle.pg_node_state.specs.PgStep.Turns.{Report}
+use Rattle.pg_node_state.proofs.PgStep.Unnoticed.{frames_embed}
+use Rattle.pg_retries.proofs.PgHistory.steps.Lossless.{step_sees_none}
 use Rattle.pg_frame_world.specs.Effects.{sum_below, op_of, effect_of, effect_in}
 use Rattle.pg_frame_world.specs.Losing.{notices, losing_of}
 use Rattle.pg_account.specs.Losses.{is_lost}

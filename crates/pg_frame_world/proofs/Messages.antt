@@ -10,14 +10,14 @@ use Rattle.pg_term.specs.contracts.pid.PidEq.TheImpl.Laws.{laws-law as pids}
 use Rattle.pg_term.specs.contracts.reference.ReferenceEq.TheImpl.Laws.{laws-law as references}
 use Rattle.pg_term.specs.contracts.term.TermEq.TheImpl.Laws.{laws-law as terms}
 use Rattle.pg_term.proofs.Same.{same_term as term_is, pid_is, ref_is}
-use Rattle.pg_message.specs.declared.message.Message.{Message}
-use Rattle.pg_message.specs.declared.message.Message.TheVariants.{Call, Reply, DelLock, Exchange, Down}
-use Rattle.pg_message.specs.declared.message.Request.{Request}
-use Rattle.pg_message.specs.declared.message.Request.TheVariants.{SetLock, Change}
-use Rattle.pg_message.specs.declared.message.Said.{Said}
-use Rattle.pg_message.specs.declared.message.Said.TheVariants.{Granted, Denied, Applied}
-use Rattle.pg_opens.proofs.Alike.{both_true, lists_are, list_self, update_is, update_self}
-use Rattle.pg_opens.proofs.Named.{atom_is, atom_self, clash}
+use Rattle.pg_node_state.specs.PgMessage.declared.message.Message.{Message}
+use Rattle.pg_node_state.specs.PgMessage.declared.message.Message.TheVariants.{Call, Reply, DelLock, Exchange, Down}
+use Rattle.pg_node_state.specs.PgMessage.declared.message.Request.{Request}
+use Rattle.pg_node_state.specs.PgMessage.declared.message.Request.TheVariants.{SetLock, Change}
+use Rattle.pg_node_state.specs.PgMessage.declared.message.Said.{Said}
+use Rattle.pg_node_state.specs.PgMessage.declared.message.Said.TheVariants.{Granted, Denied, Applied}
+use Rattle.pg_node_state.proofs.PgOpens.Alike.{both_true, lists_are, list_self, update_is, update_self}
+use Rattle.pg_node_state.proofs.PgOpens.Named.{atom_is, atom_self, clash}
 use Rattle.pg_frame_world.specs.Sameness.{same_said, same_request, same_group, same_message}
 
 said_is : (said other : Said) → same_said said other ≡ true → said ≡ other

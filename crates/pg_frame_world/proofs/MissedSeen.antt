@@ -5,22 +5,22 @@ use Rattle.std.specs.List.{AllByRecursion, IsDistinct}
 use Rattle.std.proofs.lemmas.Bool.{cases_eq, lt-ltb, ltb-true}
 use Rattle.pg_term.specs.declared.term.Term.{Term}
 use Rattle.pg_term.specs.Same.{same_atom, same_term}
-use Rattle.pg_group.specs.declared.update.Update.{Update}
-use Rattle.pg_group.specs.Value.{name_of}
-use Rattle.pg_machine.specs.Losing.{LosingEvent}
-use Rattle.pg_machine.specs.Places.{is_pair, is_place}
-use Rattle.pg_step.specs.Config.{Config, name_at, names_of}
-use Rattle.pg_step.specs.LossLaws.{LosingFrameWorld}
-use Rattle.pg_step.specs.Step.{Action}
-use Rattle.pg_step.specs.Turns.{Report}
-use Rattle.pg_step.specs.declared.command.OpId.{OpId}
-use Rattle.pg_history.specs.History.{Entry, entries, entry_of, history, of_group}
-use Rattle.pg_history.specs.WithLosses.{Marked, all_entries, has_seen}
-use Rattle.pg_loss.specs.Reached.{LosingReaches}
-use Rattle.pg_loss.proofs.Bridge.{not_true}
-use Rattle.pg_loss.proofs.Bridges.{Bridged, bridged}
-use Rattle.pg_loss.proofs.Lossy.{bare}
-use Rattle.pg_left.specs.Missed.{marks, missed, missed_of}
+use Rattle.pg_node_state.specs.PgGroup.declared.update.Update.{Update}
+use Rattle.pg_node_state.specs.PgGroup.Value.{name_of}
+use Rattle.pg_node_state.specs.PgMachine.Losing.{LosingEvent}
+use Rattle.pg_node_state.specs.PgMachine.Places.{is_pair, is_place}
+use Rattle.pg_node_state.specs.PgStep.Config.{Config, name_at, names_of}
+use Rattle.pg_node_state.specs.PgStep.LossLaws.{LosingFrameWorld}
+use Rattle.pg_node_state.specs.PgStep.Step.{Action}
+use Rattle.pg_node_state.specs.PgStep.Turns.{Report}
+use Rattle.pg_node_state.specs.PgStep.declared.command.OpId.{OpId}
+use Rattle.pg_retries.specs.PgHistory.History.{Entry, entries, entry_of, history, of_group}
+use Rattle.pg_retries.specs.PgHistory.WithLosses.{Marked, all_entries, has_seen}
+use Rattle.pg_retries.specs.PgLoss.Reached.{LosingReaches}
+use Rattle.pg_retries.proofs.PgLoss.Bridge.{not_true}
+use Rattle.pg_retries.proofs.PgLoss.Bridges.{Bridged, bridged}
+use Rattle.pg_retries.proofs.PgLoss.Lossy.{bare}
+use Rattle.pg_retries.specs.PgLeft.Missed.{marks, missed, missed_of}
 use Rattle.pg_account.specs.Histories.{Account}
 use Rattle.pg_account.specs.Losses.{is_lost}
 use Rattle.pg_starts.specs.Seen.{Seen}

@@ -1,6 +1,6 @@
 -- Nodes are alike where they are seen as the same but for their clocks.
 use Rattle.std.proofs.Common.{◌≡◌, ap}
-use Rattle.pg_group.specs.declared.table.GroupTable.{Ghosts}
+use Rattle.pg_node_state.specs.PgGroup.declared.table.GroupTable.{Ghosts}
 use Rattle.pg_node_state.specs.declared.state.NodeState.{NodeState}
 use Rattle.pg_node_state.specs.Same.{AreAlike}
 use Rattle.pg_frame_world.specs.Alike.{without_clock}

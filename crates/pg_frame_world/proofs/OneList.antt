@@ -13,7 +13,7 @@ use Rattle.pg_term.specs.Same.{same_term, term_cmp}
 use Rattle.pg_term.specs.contracts.term.TermEq.TheImpl.Laws as equality_laws
 use Rattle.pg_term.specs.contracts.term.TermOrd.TheImpl.Laws as order_laws
 use Rattle.pg_term.proofs.Same.{same_term as term_is}
-use Rattle.pg_group.specs.Table.{Table, AreNames}
+use Rattle.pg_node_state.specs.PgGroup.Table.{Table, AreNames}
 
 -- where a name stands in a list
 record StandsAt (names : List Term) (name : Term) : Type 0 where

@@ -10,15 +10,15 @@ use Rattle.pg_term.specs.declared.term.Term.{Term}
 use Rattle.pg_term.specs.Same.{same_atom, same_term}
 use Rattle.pg_term.specs.contracts.term.TermEq.TheImpl.Laws as term_laws
 use Rattle.pg_term.proofs.Same.{same_term as term_is}
-use Rattle.pg_group.specs.Value.{listed, merge}
-use Rattle.pg_group.specs.declared.table.GroupTable.{Ghosts}
-use Rattle.pg_ends.specs.declared.processes.TheConstants.{MAX_PROCESSES}
-use Rattle.pg_exchange.specs.GroupList.{GroupList, announced_names, announced_table}
-use Rattle.pg_machine.specs.Clocked.{Stamped}
-use Rattle.pg_message.specs.Members.{HasFewMembers}
-use Rattle.pg_message.specs.Name.{is_name}
-use Rattle.pg_message.specs.declared.message.Message.{Message}
-use Rattle.pg_step.specs.Config.{Config, IsConfig, IsStart, names_of, groups_at, made_at, first_table}
+use Rattle.pg_node_state.specs.PgGroup.Value.{listed, merge}
+use Rattle.pg_node_state.specs.PgGroup.declared.table.GroupTable.{Ghosts}
+use Rattle.pg_node_state.specs.PgEnds.declared.processes.TheConstants.{MAX_PROCESSES}
+use Rattle.pg_node_state.specs.PgExchange.GroupList.{GroupList, announced_names, announced_table}
+use Rattle.pg_node_state.specs.PgMachine.Clocked.{Stamped}
+use Rattle.pg_node_state.specs.PgMessage.Members.{HasFewMembers}
+use Rattle.pg_node_state.specs.PgMessage.Name.{is_name}
+use Rattle.pg_node_state.specs.PgMessage.declared.message.Message.{Message}
+use Rattle.pg_node_state.specs.PgStep.Config.{Config, IsConfig, IsStart, names_of, groups_at, made_at, first_table}
 use Rattle.pg_node_state.specs.declared.state.NodeState.{NodeState}
 use Rattle.pg_node_state.specs.States.{kept_by}
 use Rattle.pg_config.specs.declared.fault.WorldFault.{WorldFault}

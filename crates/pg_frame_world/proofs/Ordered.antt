@@ -10,20 +10,20 @@ use Rattle.pg_term.specs.declared.term.Term.{Term}
 use Rattle.pg_term.specs.Same.{same_term, same_pid}
 use Rattle.pg_term.specs.contracts.term.TermEq.TheImpl.Laws as term_laws
 use Rattle.pg_term.proofs.Same.{same_term as term_is}
-use Rattle.pg_group.specs.Value.{Value, count_in, merge, listed}
-use Rattle.pg_group.specs.Scope.{anywhere}
-use Rattle.pg_group.specs.Members.{IsMemberList}
-use Rattle.pg_group.proofs.Merges.{merge_associates, less_merge}
-use Rattle.pg_group.proofs.Longer.{longer_by}
-use Rattle.pg_exchange.specs.GroupList.{GroupList, announced_table, announced_names}
-use Rattle.pg_exchange.proofs.Tables.{all_announced, snapshot_announced}
-use Rattle.pg_message.specs.Members.{HasFewMembers}
-use Rattle.pg_step.specs.declared.start.Start.{Start}
-use Rattle.pg_step.specs.Nodes.{Node}
-use Rattle.pg_step.specs.State.{new_state}
-use Rattle.pg_step.specs.Config.{Config, names_of, groups_at, made_at, ports_at, first_table}
-use Rattle.pg_history.specs.History.{known}
-use Rattle.pg_history.proofs.tables.Values.{less_nobody}
+use Rattle.pg_node_state.specs.PgGroup.Value.{Value, count_in, merge, listed}
+use Rattle.pg_node_state.specs.PgGroup.Scope.{anywhere}
+use Rattle.pg_node_state.specs.PgGroup.Members.{IsMemberList}
+use Rattle.pg_node_state.proofs.PgGroup.Merges.{merge_associates, less_merge}
+use Rattle.pg_node_state.proofs.PgGroup.Longer.{longer_by}
+use Rattle.pg_node_state.specs.PgExchange.GroupList.{GroupList, announced_table, announced_names}
+use Rattle.pg_node_state.proofs.PgExchange.Tables.{all_announced, snapshot_announced}
+use Rattle.pg_node_state.specs.PgMessage.Members.{HasFewMembers}
+use Rattle.pg_node_state.specs.PgStep.declared.start.Start.{Start}
+use Rattle.pg_node_state.specs.PgStep.Nodes.{Node}
+use Rattle.pg_node_state.specs.PgStep.State.{new_state}
+use Rattle.pg_node_state.specs.PgStep.Config.{Config, names_of, groups_at, made_at, ports_at, first_table}
+use Rattle.pg_retries.specs.PgHistory.History.{known}
+use Rattle.pg_retries.proofs.PgHistory.tables.Values.{less_nobody}
 use Rattle.pg_starts.specs.Firsts.{seen_first}
 use Rattle.pg_frame_world.specs.Starts.{IsOrdered, Orders, TellsFew}
 

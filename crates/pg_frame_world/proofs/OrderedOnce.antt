@@ -4,19 +4,19 @@ use Rattle.std.proofs.Common.{◌∷◌, length, None, refl, sym, ◌∙◌, sub
 use Rattle.std.specs.Cmp.{first_so, second_so}
 use Rattle.std.specs.List.{AllByRecursion}
 use Rattle.pg_term.specs.declared.term.Term.{Term}
-use Rattle.pg_group.specs.Scope.{anywhere}
-use Rattle.pg_group.specs.Members.{IsMemberList}
-use Rattle.pg_group.specs.Table.{Table}
-use Rattle.pg_group.proofs.Lists.{member_list_one}
-use Rattle.pg_exchange.specs.GroupList.{GroupList, IsSnapshot, announced_names}
-use Rattle.pg_message.specs.declared.message.Message.TheVariants.{Exchange}
-use Rattle.pg_message.specs.declared.packet.Packet.{Packet}
-use Rattle.pg_sends.specs.Opening.{IsAnnouncement}
-use Rattle.pg_opens.specs.Places.{name_at as name_of}
+use Rattle.pg_node_state.specs.PgGroup.Scope.{anywhere}
+use Rattle.pg_node_state.specs.PgGroup.Members.{IsMemberList}
+use Rattle.pg_node_state.specs.PgGroup.Table.{Table}
+use Rattle.pg_node_state.proofs.PgGroup.Lists.{member_list_one}
+use Rattle.pg_node_state.specs.PgExchange.GroupList.{GroupList, IsSnapshot, announced_names}
+use Rattle.pg_node_state.specs.PgMessage.declared.message.Message.TheVariants.{Exchange}
+use Rattle.pg_node_state.specs.PgMessage.declared.packet.Packet.{Packet}
+use Rattle.pg_node_state.specs.PgSends.Opening.{IsAnnouncement}
+use Rattle.pg_node_state.specs.PgOpens.Places.{name_at as name_of}
 use Rattle.pg_ring.specs.Capacity.{IsCapacity}
-use Rattle.pg_step.specs.declared.start.Start.{Start}
-use Rattle.pg_step.specs.Config.{Config, IsConfig, first_table, groups_at}
-use Rattle.pg_step.specs.Nodes.{Node}
+use Rattle.pg_node_state.specs.PgStep.declared.start.Start.{Start}
+use Rattle.pg_node_state.specs.PgStep.Config.{Config, IsConfig, first_table, groups_at}
+use Rattle.pg_node_state.specs.PgStep.Nodes.{Node}
 use Rattle.pg_config.specs.declared.fault.WorldFault.{WorldFault}
 use Rattle.pg_config.specs.declared.fault.WorldFault.TheVariants.{BadConfig, NameTooLarge}
 use Rattle.pg_config.specs.declared.fault.WorldFault.TheVariants.{BadCapacity, TooLong, OutOfMemory}

@@ -7,13 +7,13 @@ use Rattle.std.proofs.lemmas.Option.{unwrap_or-slice_get}
 use Rattle.std.proofs.lemmas.List.{length-map}
 use Rattle.std.proofs.lemmas.List.Edits.{length-remove, get_or-remove_below, get_or-remove_above}
 use Rattle.pg_term.specs.Same.{same_atom}
-use Rattle.pg_message.specs.declared.packet.Packet.{Packet}
-use Rattle.pg_step.specs.Config.{Config, names_of, name_at as config_name, nodes_at}
-use Rattle.pg_step.specs.Nodes.{Node, all_of}
-use Rattle.pg_opens.specs.Places.{name_at}
-use Rattle.pg_opens.proofs.Named.{atom_self, names_differ}
-use Rattle.pg_sends.specs.Sent.{stamped_of, sends_in}
-use Rattle.pg_sends.specs.Sendable.{IsSendable}
+use Rattle.pg_node_state.specs.PgMessage.declared.packet.Packet.{Packet}
+use Rattle.pg_node_state.specs.PgStep.Config.{Config, names_of, name_at as config_name, nodes_at}
+use Rattle.pg_node_state.specs.PgStep.Nodes.{Node, all_of}
+use Rattle.pg_node_state.specs.PgOpens.Places.{name_at}
+use Rattle.pg_node_state.proofs.PgOpens.Named.{atom_self, names_differ}
+use Rattle.pg_node_state.specs.PgSends.Sent.{stamped_of, sends_in}
+use Rattle.pg_node_state.specs.PgSends.Sendable.{IsSendable}
 use Rattle.pg_frame_world.specs.Views.{peer_place, place_of_peer, packets_to}
 
 pub lt_false : (a b : ℕ) → b ≤ a → nat_lt a b ≡ false

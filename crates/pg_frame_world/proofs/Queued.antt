@@ -3,23 +3,23 @@ use Rattle.std.proofs.Common.{◌≡◌, ◌≢◌, ℕ, ◌+◌, true, drop, le
 use Rattle.std.proofs.Common.{Some, None, Ok, Err, refl, sym, ap, ◌∙◌, inl, inr, ◌⊎◌, subst}
 use Rattle.std.specs.Prelude.{slice_get, slice_set}
 use Rattle.std.proofs.lemmas.Bool.{cases_eq}
-use Rattle.pg_group.specs.declared.update.Update.{Update}
-use Rattle.pg_message.specs.declared.message.Message.{Message}
-use Rattle.pg_message.specs.declared.packet.Packet.{Packet}
-use Rattle.pg_machine.specs.Places.{is_pair}
-use Rattle.pg_machine.specs.Machine.{Event, Take, Do, node_of}
-use Rattle.pg_machine.specs.Clocked.{Timed, Stamped}
-use Rattle.pg_step.specs.Config.{Config}
-use Rattle.pg_step.specs.State.{State}
-use Rattle.pg_step.specs.Step.{Action, step_take, step_act}
-use Rattle.pg_step.specs.declared.answer.Answer.{Answer}
-use Rattle.pg_step.specs.declared.command.OpId.{OpId}
-use Rattle.pg_opens.specs.Places.{whole_in, name_at as place_name}
-use Rattle.pg_sends.specs.contracts.sends.VecTuple2UsizePacketOutgoing.TheImpl as packets
-use Rattle.pg_sends.specs.Dones.{PacketsDone}
+use Rattle.pg_node_state.specs.PgGroup.declared.update.Update.{Update}
+use Rattle.pg_node_state.specs.PgMessage.declared.message.Message.{Message}
+use Rattle.pg_node_state.specs.PgMessage.declared.packet.Packet.{Packet}
+use Rattle.pg_node_state.specs.PgMachine.Places.{is_pair}
+use Rattle.pg_node_state.specs.PgMachine.Machine.{Event, Take, Do, node_of}
+use Rattle.pg_node_state.specs.PgMachine.Clocked.{Timed, Stamped}
+use Rattle.pg_node_state.specs.PgStep.Config.{Config}
+use Rattle.pg_node_state.specs.PgStep.State.{State}
+use Rattle.pg_node_state.specs.PgStep.Step.{Action, step_take, step_act}
+use Rattle.pg_node_state.specs.PgStep.declared.answer.Answer.{Answer}
+use Rattle.pg_node_state.specs.PgStep.declared.command.OpId.{OpId}
+use Rattle.pg_node_state.specs.PgOpens.Places.{whole_in, name_at as place_name}
+use Rattle.pg_node_state.specs.PgSends.contracts.sends.VecTuple2UsizePacketOutgoing.TheImpl as packets
+use Rattle.pg_node_state.specs.PgSends.Dones.{PacketsDone}
 use Rattle.pg_node_state.specs.declared.state.fault.NodeFault.{NodeFault}
 use Rattle.pg_node_state.specs.States.{Comes}
-use Rattle.pg_sends.specs.Sendable.{AreSendable}
+use Rattle.pg_node_state.specs.PgSends.Sendable.{AreSendable}
 use Rattle.pg_frame_world.specs.declared.effect.Effect.{Effect}
 use Rattle.pg_frame_world.specs.declared.step.Stepped.TheVariants.{Happened, Nothing}
 use Rattle.pg_account.specs.Histories.{update_asked_by}

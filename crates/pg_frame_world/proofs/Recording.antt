@@ -3,16 +3,16 @@ use Rattle.std.proofs.Common.{◌≡◌, ℕ, ◌+◌, ◌<◌, Bool, true, fals
 use Rattle.std.proofs.Common.{◌++◌, Option, Some, None, Ok, refl, ap, sym, ◌∙◌, inl, inr, arith}
 use Rattle.std.proofs.lemmas.List.{append-nil}
 use Rattle.pg_term.specs.declared.term.Term.{Term}
-use Rattle.pg_group.specs.declared.update.Update.{Update}
-use Rattle.pg_machine.specs.Machine.{Event}
-use Rattle.pg_step.specs.declared.command.OpId.{OpId}
-use Rattle.pg_step.specs.Config.{Config}
-use Rattle.pg_step.specs.Step.{Action}
-use Rattle.pg_step.specs.Turns.{Report}
-use Rattle.pg_history.specs.History.{Entry, entries, entry_of, history, is_update_of, of_group, applied_count}
-use Rattle.pg_history.specs.WithLosses.{Marked}
-use Rattle.pg_left.specs.Missed.{applies, marked_after, marks, marks_from}
-use Rattle.pg_history.proofs.steps.Grows.{entries_append, of_group_append}
+use Rattle.pg_node_state.specs.PgGroup.declared.update.Update.{Update}
+use Rattle.pg_node_state.specs.PgMachine.Machine.{Event}
+use Rattle.pg_node_state.specs.PgStep.declared.command.OpId.{OpId}
+use Rattle.pg_node_state.specs.PgStep.Config.{Config}
+use Rattle.pg_node_state.specs.PgStep.Step.{Action}
+use Rattle.pg_node_state.specs.PgStep.Turns.{Report}
+use Rattle.pg_retries.specs.PgHistory.History.{Entry, entries, entry_of, history, is_update_of, of_group, applied_count}
+use Rattle.pg_retries.specs.PgHistory.WithLosses.{Marked}
+use Rattle.pg_retries.specs.PgLeft.Missed.{applies, marked_after, marks, marks_from}
+use Rattle.pg_retries.proofs.PgHistory.steps.Grows.{entries_append, of_group_append}
 use Rattle.pg_frame_world.specs.declared.effect.Effect.{Effect}
 use Rattle.pg_frame_world.specs.declared.step.Stepped.TheVariants.{Happened}
 use Rattle.pg_account.specs.Histories.{begun_by, one_of}

@@ -6,17 +6,17 @@ use Rattle.std.specs.List.{IsDistinct, AllPass}
 use Rattle.std.specs.Option.{option_map_or}
 use Rattle.std.proofs.lemmas.List.{take_more, take_more_set}
 use Rattle.std.proofs.Math.Seq.{take-length}
-use Rattle.pg_machine.specs.Machine.{Event, Take, Do, happens, start_of}
-use Rattle.pg_machine.specs.Clocked.{plain}
-use Rattle.pg_machine.specs.Runs.{Leads}
-use Rattle.pg_step.specs.Config.{Config, names_of}
-use Rattle.pg_machine.specs.Places.{is_pair}
-use Rattle.pg_step.specs.Faults.{refusal_number_of}
-use Rattle.pg_step.specs.FrameMachine.{frame_machine}
-use Rattle.pg_step.specs.Step.{Action, Issue, Retry}
+use Rattle.pg_node_state.specs.PgMachine.Machine.{Event, Take, Do, happens, start_of}
+use Rattle.pg_node_state.specs.PgMachine.Clocked.{plain}
+use Rattle.pg_node_state.specs.PgMachine.Runs.{Leads}
+use Rattle.pg_node_state.specs.PgStep.Config.{Config, names_of}
+use Rattle.pg_node_state.specs.PgMachine.Places.{is_pair}
+use Rattle.pg_node_state.specs.PgStep.Faults.{refusal_number_of}
+use Rattle.pg_node_state.specs.PgStep.FrameMachine.{frame_machine}
+use Rattle.pg_node_state.specs.PgStep.Step.{Action, Issue, Retry}
 use Rattle.pg_term.specs.Same.{same_atom}
-use Rattle.pg_history.specs.Headline.{OneHistory}
-use Rattle.pg_history.specs.Reached.{Reaches}
+use Rattle.pg_retries.specs.PgHistory.Headline.{OneHistory}
+use Rattle.pg_retries.specs.PgHistory.Reached.{Reaches}
 use Rattle.pg_node_state.specs.NodeFault.{node_number_of}
 use Rattle.pg_node_state.specs.declared.state.fault.NodeFault.{NodeFault}
 use Rattle.pg_node_state.specs.declared.state.fault.NodeFault.TheVariants.{Refused, OutOfMemory}
@@ -27,7 +27,7 @@ use Rattle.pg_frame_world.specs.declared.step.Stepped.{Stepped}
 use Rattle.pg_frame_world.specs.declared.step.Stepped.TheVariants.{Happened, Moved, Nothing, Gone}
 use Rattle.pg_frame_world.specs.Worlds.{IsReached}
 use Rattle.pg_frame_world.specs.Losing.{lost_after, losing_of, told_loss, told_of, LosingComesTo}
-use Rattle.pg_step.specs.LossLaws.{LosingFrameWorld}
+use Rattle.pg_node_state.specs.PgStep.LossLaws.{LosingFrameWorld}
 use Rattle.pg_frame_world.specs.Views.{View}
 use Rattle.pg_frame_world.specs.Worlds.{TimedFrameWorld, ShowsWorld, ComesTo, IsUnseen, StepComesTo, is_loss, event_of}
 use Rattle.pg_frame_world.specs.Runs.{Kind, over_packets, IsTold, ChangesNothing, IsUnlost}

@@ -7,15 +7,15 @@ use Rattle.std.proofs.lemmas.Bool.{cases_eq, eq-eqb, ne_eqb}
 use Rattle.std.proofs.lemmas.List.{get_or-map, get_or-set_same, get_or-set_other}
 use Rattle.std.proofs.lemmas.List.{map-set, set-get_or, length-map, length-set}
 use Rattle.std.proofs.lemmas.Option.{slice_get_read}
-use Rattle.pg_message.specs.declared.message.Message.{Message}
-use Rattle.pg_message.specs.declared.message.Message.TheVariants.{Call, Reply, DelLock, Exchange, Down}
-use Rattle.pg_message.specs.declared.packet.Packet.{Packet}
-use Rattle.pg_message.specs.Members.{IsShort}
-use Rattle.pg_message.specs.Writing.{is_exchange}
-use Rattle.pg_machine.specs.Clocked.{Stamped}
-use Rattle.pg_step.specs.Nodes.{Node}
-use Rattle.pg_sends.specs.Sendable.{IsSendable, Ascends}
-use Rattle.pg_sends.specs.Sent.{stamped_of}
+use Rattle.pg_node_state.specs.PgMessage.declared.message.Message.{Message}
+use Rattle.pg_node_state.specs.PgMessage.declared.message.Message.TheVariants.{Call, Reply, DelLock, Exchange, Down}
+use Rattle.pg_node_state.specs.PgMessage.declared.packet.Packet.{Packet}
+use Rattle.pg_node_state.specs.PgMessage.Members.{IsShort}
+use Rattle.pg_node_state.specs.PgMessage.Writing.{is_exchange}
+use Rattle.pg_node_state.specs.PgMachine.Clocked.{Stamped}
+use Rattle.pg_node_state.specs.PgStep.Nodes.{Node}
+use Rattle.pg_node_state.specs.PgSends.Sendable.{IsSendable, Ascends}
+use Rattle.pg_node_state.specs.PgSends.Sent.{stamped_of}
 use Rattle.pg_frame_world.specs.declared.way.Way.{Way}
 use Rattle.pg_frame_world.specs.Views.{packets_of, packets_to, HasWayRoom, FitWays}
 use Rattle.pg_frame_world.proofs.Turning.{set_here, set_other}

@@ -8,8 +8,8 @@ use Rattle.pg_term.specs.declared.term.Term.{Term}
 use Rattle.pg_term.specs.Same.{same_term}
 use Rattle.pg_term.specs.contracts.term.TermEq.TheImpl.Laws as term_laws
 use Rattle.pg_term.proofs.Same.{same_term as term_is}
-use Rattle.pg_group.specs.declared.update.Update.{Update}
-use Rattle.pg_group.specs.declared.update.Update.TheVariants.{Create, Delete, Join, Leave}
+use Rattle.pg_node_state.specs.PgGroup.declared.update.Update.{Update}
+use Rattle.pg_node_state.specs.PgGroup.declared.update.Update.TheVariants.{Create, Delete, Join, Leave}
 
 -- two terms are one, or not
 decided : (one other : Term) (b : Bool) → same_term one other ≡ b → Dec (one ≡ other)

@@ -4,8 +4,8 @@ use Rattle.std.proofs.Common.{get_or, length, refl, sym, ap, arith, subst, inl, 
 use Rattle.std.specs.Prelude.{slice_set}
 use Rattle.std.proofs.lemmas.Bool.{cases_eq}
 use Rattle.std.proofs.lemmas.List.{get_or-set_same, get_or-set_other, length-map}
-use Rattle.pg_message.specs.declared.message.Message.{Message}
-use Rattle.pg_machine.specs.Clocked.{Stamped}
+use Rattle.pg_node_state.specs.PgMessage.declared.message.Message.{Message}
+use Rattle.pg_node_state.specs.PgMachine.Clocked.{Stamped}
 use Rattle.pg_frame_world.specs.declared.way.Way.{Way}
 use Rattle.pg_frame_world.specs.Views.{packets_of}
 use Rattle.pg_frame_world.proofs.Sending.{one_way}

@@ -7,26 +7,26 @@ use Rattle.std.proofs.Math.Path.{fun_ext}
 use Rattle.std.proofs.lemmas.Bool.{cases_eq, lt-ltb}
 use Rattle.std.proofs.lemmas.List.{append-nil, length-map}
 use Rattle.pg_term.specs.Same.{same_atom}
-use Rattle.pg_group.specs.Functions.{upd}
-use Rattle.pg_message.specs.declared.message.Message.{Message}
-use Rattle.pg_machine.specs.Places.{is_place, is_pair}
-use Rattle.pg_machine.specs.Machine.{Event, Turn, World, Take, Do, Taken, Own}
-use Rattle.pg_machine.specs.Machine.{first_from, without_input, perform, happens}
-use Rattle.pg_machine.specs.Happened.{Changes, Happened}
-use Rattle.pg_machine.specs.Clocked.{Timed, Stamped, stamped, timed_turn, timed as timed_if}
-use Rattle.pg_machine.specs.Losing.{Noticed, Sent, Step, losing_happens, mapped_turn}
-use Rattle.pg_machine.proofs.Steps.{turn_changes, turn_made, happens_so}
-use Rattle.pg_step.specs.Config.{Config, names_of, name_at}
-use Rattle.pg_step.specs.FrameMachine.{losing_frame_machine, last_notice, sent_packet, place_turn}
-use Rattle.pg_step.specs.Losses.{see_loss}
-use Rattle.pg_step.specs.Nodes.{Node}
-use Rattle.pg_step.specs.State.{State}
-use Rattle.pg_step.specs.Step.{CLOCK_LIMIT, Action, Retry, TimedTurn, at_clock}
-use Rattle.pg_step.specs.StepLaws.{place_timed}
-use Rattle.pg_step.specs.Turns.{Report, NodeTurn}
-use Rattle.pg_opens.proofs.Named.{atom_self, names_differ}
-use Rattle.pg_sends.specs.declared.done.Done.{Done}
-use Rattle.pg_sends.specs.declared.outgoing.Outgoing.{Ghosts as Listing}
+use Rattle.pg_node_state.specs.PgGroup.Functions.{upd}
+use Rattle.pg_node_state.specs.PgMessage.declared.message.Message.{Message}
+use Rattle.pg_node_state.specs.PgMachine.Places.{is_place, is_pair}
+use Rattle.pg_node_state.specs.PgMachine.Machine.{Event, Turn, World, Take, Do, Taken, Own}
+use Rattle.pg_node_state.specs.PgMachine.Machine.{first_from, without_input, perform, happens}
+use Rattle.pg_node_state.specs.PgMachine.Happened.{Changes, Happened}
+use Rattle.pg_node_state.specs.PgMachine.Clocked.{Timed, Stamped, stamped, timed_turn, timed as timed_if}
+use Rattle.pg_node_state.specs.PgMachine.Losing.{Noticed, Sent, Step, losing_happens, mapped_turn}
+use Rattle.pg_node_state.proofs.PgMachine.Steps.{turn_changes, turn_made, happens_so}
+use Rattle.pg_node_state.specs.PgStep.Config.{Config, names_of, name_at}
+use Rattle.pg_node_state.specs.PgStep.FrameMachine.{losing_frame_machine, last_notice, sent_packet, place_turn}
+use Rattle.pg_node_state.specs.PgStep.Losses.{see_loss}
+use Rattle.pg_node_state.specs.PgStep.Nodes.{Node}
+use Rattle.pg_node_state.specs.PgStep.State.{State}
+use Rattle.pg_node_state.specs.PgStep.Step.{CLOCK_LIMIT, Action, Retry, TimedTurn, at_clock}
+use Rattle.pg_node_state.specs.PgStep.StepLaws.{place_timed}
+use Rattle.pg_node_state.specs.PgStep.Turns.{Report, NodeTurn}
+use Rattle.pg_node_state.proofs.PgOpens.Named.{atom_self, names_differ}
+use Rattle.pg_node_state.specs.PgSends.declared.done.Done.{Done}
+use Rattle.pg_node_state.specs.PgSends.declared.outgoing.Outgoing.{Ghosts as Listing}
 use Rattle.pg_node_state.specs.States.{Happens}
 use Rattle.pg_frame_world.specs.Effects.{sum_below, effect_of, losing_effect_in, no_effect}
 use Rattle.pg_frame_world.specs.Losing.{SeenAreLost, notices, losing_of}

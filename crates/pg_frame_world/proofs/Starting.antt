@@ -8,20 +8,20 @@ use Rattle.std.proofs.lemmas.List.{get_or-replicate, length-replicate, length-ma
 use Rattle.std.proofs.lemmas.List.{map-append, take_more}
 use Rattle.std.proofs.lemmas.Option.{slice_get-map, slice_get-get_or}
 use Rattle.pg_term.specs.Same.{same_atom, same_term}
-use Rattle.pg_group.specs.declared.table.GroupTable.{Ghosts}
-use Rattle.pg_exchange.specs.GroupList.{IsSnapshot, announced_names}
-use Rattle.pg_message.specs.declared.message.Message.{Message}
-use Rattle.pg_message.specs.declared.message.Message.TheVariants.{Exchange}
-use Rattle.pg_message.specs.Members.{HasFewMembers}
-use Rattle.pg_machine.specs.Places.{is_pair}
-use Rattle.pg_machine.specs.Machine.{start_of}
-use Rattle.pg_machine.specs.Clocked.{Stamped, stamped}
-use Rattle.pg_step.specs.Config.{Config, names_of, name_at, groups_at, first_table}
-use Rattle.pg_step.specs.FrameMachine.{frame_machine}
-use Rattle.pg_opens.specs.Places.{name_at as place_name}
+use Rattle.pg_node_state.specs.PgGroup.declared.table.GroupTable.{Ghosts}
+use Rattle.pg_node_state.specs.PgExchange.GroupList.{IsSnapshot, announced_names}
+use Rattle.pg_node_state.specs.PgMessage.declared.message.Message.{Message}
+use Rattle.pg_node_state.specs.PgMessage.declared.message.Message.TheVariants.{Exchange}
+use Rattle.pg_node_state.specs.PgMessage.Members.{HasFewMembers}
+use Rattle.pg_node_state.specs.PgMachine.Places.{is_pair}
+use Rattle.pg_node_state.specs.PgMachine.Machine.{start_of}
+use Rattle.pg_node_state.specs.PgMachine.Clocked.{Stamped, stamped}
+use Rattle.pg_node_state.specs.PgStep.Config.{Config, names_of, name_at, groups_at, first_table}
+use Rattle.pg_node_state.specs.PgStep.FrameMachine.{frame_machine}
+use Rattle.pg_node_state.specs.PgOpens.Places.{name_at as place_name}
 use Rattle.pg_node_state.specs.declared.state.NodeState.{NodeState}
 use Rattle.pg_node_state.specs.States.{kept_by}
-use Rattle.pg_sends.specs.Sent.{stamped_of}
+use Rattle.pg_node_state.specs.PgSends.Sent.{stamped_of}
 use Rattle.pg_frame_world.specs.declared.ways.Ways.{Ways}
 use Rattle.pg_starts.specs.Seen.{Seen, seen_of}
 use Rattle.pg_frame_world.specs.Views.{ways_of, fresh_view, traffic_in, peer_place, on_the_way, IsWhole}

@@ -5,20 +5,20 @@ use Rattle.std.proofs.Common.{◌++◌, Option, Some, None, refl, sym, ap, ◌�
 use Rattle.std.proofs.Math.Path.{fun_ext}
 use Rattle.std.proofs.lemmas.Bool.{cases_eq, eq-eqb, ne_eqb, leb-true, le-leb, lt-ltb, ltb-true}
 use Rattle.std.proofs.lemmas.List.{append-nil, length-map, take-map}
-use Rattle.pg_message.specs.declared.message.Message.{Message}
-use Rattle.pg_machine.specs.Places.{is_pair, set_at}
-use Rattle.pg_machine.specs.Machine.{World}
-use Rattle.pg_machine.specs.Clocked.{Timed, Stamped}
-use Rattle.pg_machine.specs.Losing.{Noticed, Lose, losing_happens, each_place, can_keep, stopped}
-use Rattle.pg_machine.proofs.Places.{set_at_here, set_at_other}
-use Rattle.pg_step.specs.declared.refusal.Refusal.{Refusal}
-use Rattle.pg_step.specs.declared.refusal.Refusal.TheVariants.{NoSuchPlace, NodeLost}
-use Rattle.pg_step.specs.Config.{Config, name_at}
-use Rattle.pg_step.specs.Faults.{first_that_holds}
-use Rattle.pg_step.specs.FrameMachine.{losing_frame_machine, last_notice, sent_packet}
-use Rattle.pg_step.specs.LossLaws.{LosingFrameWorld}
-use Rattle.pg_step.specs.State.{State}
-use Rattle.pg_step.specs.Turns.{Report}
+use Rattle.pg_node_state.specs.PgMessage.declared.message.Message.{Message}
+use Rattle.pg_node_state.specs.PgMachine.Places.{is_pair, set_at}
+use Rattle.pg_node_state.specs.PgMachine.Machine.{World}
+use Rattle.pg_node_state.specs.PgMachine.Clocked.{Timed, Stamped}
+use Rattle.pg_node_state.specs.PgMachine.Losing.{Noticed, Lose, losing_happens, each_place, can_keep, stopped}
+use Rattle.pg_node_state.proofs.PgMachine.Places.{set_at_here, set_at_other}
+use Rattle.pg_node_state.specs.PgStep.declared.refusal.Refusal.{Refusal}
+use Rattle.pg_node_state.specs.PgStep.declared.refusal.Refusal.TheVariants.{NoSuchPlace, NodeLost}
+use Rattle.pg_node_state.specs.PgStep.Config.{Config, name_at}
+use Rattle.pg_node_state.specs.PgStep.Faults.{first_that_holds}
+use Rattle.pg_node_state.specs.PgStep.FrameMachine.{losing_frame_machine, last_notice, sent_packet}
+use Rattle.pg_node_state.specs.PgStep.LossLaws.{LosingFrameWorld}
+use Rattle.pg_node_state.specs.PgStep.State.{State}
+use Rattle.pg_node_state.specs.PgStep.Turns.{Report}
 use Rattle.pg_frame_world.specs.Losing.{SeenAreLost, losing_of, keep_of, loss_refusal}
 use Rattle.pg_account.specs.Losses.{is_lost}
 use Rattle.pg_starts.specs.Seen.{Seen}

@@ -6,38 +6,38 @@ use Rattle.std.specs.Prelude.{slice_get, slice_set, max, option_map}
 use Rattle.std.proofs.lemmas.Bool.{cases_eq, eq-eqb, ne_eqb, lt-ltb, ltb-true}
 use Rattle.std.proofs.lemmas.Option.{slice_get_within}
 use Rattle.std.proofs.lemmas.List.{length-set}
-use Rattle.pg_message.specs.declared.message.Message.{Message}
-use Rattle.pg_machine.specs.Places.{is_place, is_pair}
-use Rattle.pg_machine.specs.Machine.{Event, Turn, Take, Do, Taken, Own, node_of}
-use Rattle.pg_machine.specs.Machine.{first_from, input_of, without_input, perform}
-use Rattle.pg_machine.specs.Happened.{Changes, Takes, Happened as HasTurned}
-use Rattle.pg_group.specs.declared.update.Update.{Update}
-use Rattle.pg_message.specs.declared.packet.Packet.{Packet}
-use Rattle.pg_step.specs.declared.command.OpId.{OpId}
-use Rattle.pg_machine.specs.Clocked.{Timed, Stamped}
-use Rattle.pg_machine.proofs.Steps.{turn_changes, turn_made, happens_so}
-use Rattle.pg_step.specs.Config.{Config, names_of, name_at, nodes_at, ports_at}
-use Rattle.pg_step.specs.FrameMachine.{frame_machine}
-use Rattle.pg_step.specs.Nodes.{Node, all_of}
-use Rattle.pg_step.specs.State.{State}
-use Rattle.pg_step.specs.Step.{Action, TimedTurn, node_takes, node_acts, step_take, step_act}
-use Rattle.pg_step.proofs.Refusals.{same_step}
-use Rattle.pg_step.specs.StepLaws.{place_timed, timed_placed}
-use Rattle.pg_step.specs.Turns.{Report}
-use Rattle.pg_step.specs.declared.answer.Answer.{Answer}
-use Rattle.pg_step.specs.declared.refusal.Refusal.{Refusal}
-use Rattle.pg_step.specs.declared.refusal.Refusal.TheVariants.{NoSuchPlace}
-use Rattle.pg_history.specs.History.{answers_by}
-use Rattle.pg_opens.specs.Places.{whole_in, name_at as place_name}
-use Rattle.pg_sends.specs.declared.done.Done.{Done}
-use Rattle.pg_sends.specs.declared.outgoing.Outgoing.{Ghosts as Listing}
+use Rattle.pg_node_state.specs.PgMessage.declared.message.Message.{Message}
+use Rattle.pg_node_state.specs.PgMachine.Places.{is_place, is_pair}
+use Rattle.pg_node_state.specs.PgMachine.Machine.{Event, Turn, Take, Do, Taken, Own, node_of}
+use Rattle.pg_node_state.specs.PgMachine.Machine.{first_from, input_of, without_input, perform}
+use Rattle.pg_node_state.specs.PgMachine.Happened.{Changes, Takes, Happened as HasTurned}
+use Rattle.pg_node_state.specs.PgGroup.declared.update.Update.{Update}
+use Rattle.pg_node_state.specs.PgMessage.declared.packet.Packet.{Packet}
+use Rattle.pg_node_state.specs.PgStep.declared.command.OpId.{OpId}
+use Rattle.pg_node_state.specs.PgMachine.Clocked.{Timed, Stamped}
+use Rattle.pg_node_state.proofs.PgMachine.Steps.{turn_changes, turn_made, happens_so}
+use Rattle.pg_node_state.specs.PgStep.Config.{Config, names_of, name_at, nodes_at, ports_at}
+use Rattle.pg_node_state.specs.PgStep.FrameMachine.{frame_machine}
+use Rattle.pg_node_state.specs.PgStep.Nodes.{Node, all_of}
+use Rattle.pg_node_state.specs.PgStep.State.{State}
+use Rattle.pg_node_state.specs.PgStep.Step.{Action, TimedTurn, node_takes, node_acts, step_take, step_act}
+use Rattle.pg_node_state.proofs.PgStep.Refusals.{same_step}
+use Rattle.pg_node_state.specs.PgStep.StepLaws.{place_timed, timed_placed}
+use Rattle.pg_node_state.specs.PgStep.Turns.{Report}
+use Rattle.pg_node_state.specs.PgStep.declared.answer.Answer.{Answer}
+use Rattle.pg_node_state.specs.PgStep.declared.refusal.Refusal.{Refusal}
+use Rattle.pg_node_state.specs.PgStep.declared.refusal.Refusal.TheVariants.{NoSuchPlace}
+use Rattle.pg_retries.specs.PgHistory.History.{answers_by}
+use Rattle.pg_node_state.specs.PgOpens.Places.{whole_in, name_at as place_name}
+use Rattle.pg_node_state.specs.PgSends.declared.done.Done.{Done}
+use Rattle.pg_node_state.specs.PgSends.declared.outgoing.Outgoing.{Ghosts as Listing}
 use Rattle.pg_node_state.specs.declared.state.fault.NodeFault.{NodeFault}
 use Rattle.pg_node_state.specs.declared.state.fault.NodeFault.TheVariants.{Refused, OutOfMemory}
 use Rattle.pg_node_state.specs.declared.state.fault.NodeFault.TheVariants.{Message as BadMessage, TooLong, Damaged}
 use Rattle.pg_frame_world.specs.declared.step.Stepped.TheVariants.{Happened as HasHappened}
 use Rattle.pg_node_state.specs.States.{Gave, Happens, Comes}
-use Rattle.pg_sends.specs.Sent.{sends_in}
-use Rattle.pg_sends.specs.Sendable.{AreSendable}
+use Rattle.pg_node_state.specs.PgSends.Sent.{sends_in}
+use Rattle.pg_node_state.specs.PgSends.Sendable.{AreSendable}
 use Rattle.pg_starts.specs.Seen.{Seen}
 use Rattle.pg_frame_world.specs.Effects.{sum_below, op_of, effect_of, effect_by}
 use Rattle.pg_frame_world.specs.Views.{Traffic, peer_place, packets_to}

@@ -5,17 +5,17 @@ use Rattle.std.specs.Prelude.{slice_get, List, []}
 use Rattle.std.specs.Option.{option_map_or}
 use Rattle.std.proofs.lemmas.Bool.{lt-ltb}
 use Rattle.std.proofs.lemmas.Option.{slice_get_cases}
-use Rattle.pg_machine.specs.Places.{is_place, is_pair}
-use Rattle.pg_machine.specs.Machine.{Take, Do}
-use Rattle.pg_machine.specs.Clocked.{Timed}
-use Rattle.pg_step.specs.Attempts.{retry}
-use Rattle.pg_step.specs.Commands.{command}
-use Rattle.pg_step.specs.Config.{Config, name_at, nodes_at, ports_at}
-use Rattle.pg_step.specs.Nodes.{Nodes}
-use Rattle.pg_step.specs.State.{State, live_nodes}
-use Rattle.pg_step.specs.Step.{Action, Issue, Retry, timed, step_act}
-use Rattle.pg_step.specs.StepLaws.{port_of}
-use Rattle.pg_step.specs.declared.refusal.Refusal.TheVariants.{NoSuchPlace, NotLost}
+use Rattle.pg_node_state.specs.PgMachine.Places.{is_place, is_pair}
+use Rattle.pg_node_state.specs.PgMachine.Machine.{Take, Do}
+use Rattle.pg_node_state.specs.PgMachine.Clocked.{Timed}
+use Rattle.pg_node_state.specs.PgStep.Attempts.{retry}
+use Rattle.pg_node_state.specs.PgStep.Commands.{command}
+use Rattle.pg_node_state.specs.PgStep.Config.{Config, name_at, nodes_at, ports_at}
+use Rattle.pg_node_state.specs.PgStep.Nodes.{Nodes}
+use Rattle.pg_node_state.specs.PgStep.State.{State, live_nodes}
+use Rattle.pg_node_state.specs.PgStep.Step.{Action, Issue, Retry, timed, step_act}
+use Rattle.pg_node_state.specs.PgStep.StepLaws.{port_of}
+use Rattle.pg_node_state.specs.PgStep.declared.refusal.Refusal.TheVariants.{NoSuchPlace, NotLost}
 use Rattle.pg_node_state.specs.declared.state.fault.NodeFault.TheVariants.{Refused, OutOfMemory}
 use Rattle.pg_frame_world.specs.declared.step.FrameStep.{FrameStep}
 use Rattle.pg_frame_world.specs.declared.step.FrameStep.TheVariants as steps

@@ -8,13 +8,13 @@ use Rattle.std.proofs.lemmas.Option.{slice_get_read}
 use Rattle.std.proofs.lemmas.List.{get_or-map, get_or-set_same, get_or-set_other}
 use Rattle.std.proofs.lemmas.List.{map-set, set-get_or, length-map, length-set}
 use Rattle.pg_term.specs.RefParts.{RefParts}
-use Rattle.pg_group.specs.declared.table.GroupTable.{Ghosts}
-use Rattle.pg_message.specs.declared.message.Message.{Message}
-use Rattle.pg_message.specs.declared.packet.Packet.{Packet}
-use Rattle.pg_machine.specs.Clocked.{Stamped}
+use Rattle.pg_node_state.specs.PgGroup.declared.table.GroupTable.{Ghosts}
+use Rattle.pg_node_state.specs.PgMessage.declared.message.Message.{Message}
+use Rattle.pg_node_state.specs.PgMessage.declared.packet.Packet.{Packet}
+use Rattle.pg_node_state.specs.PgMachine.Clocked.{Stamped}
 use Rattle.pg_node_state.specs.declared.state.NodeState.{NodeState}
 use Rattle.pg_node_state.specs.Issued.{ports_of}
-use Rattle.pg_sends.specs.Sendable.{AreSendable}
+use Rattle.pg_node_state.specs.PgSends.Sendable.{AreSendable}
 use Rattle.pg_node_state.specs.States.{names_of, state_of, answers_of}
 use Rattle.pg_frame_world.specs.declared.ways.Ways.{Ways}
 use Rattle.pg_starts.specs.Seen.{Seen, seen_of}

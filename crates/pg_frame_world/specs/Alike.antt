@@ -1,8 +1,8 @@
 -- When two worlds are alike: the same but for clocks and stamps.
 use Rattle.std.specs.Prelude.{◌≡◌, ℕ, map, length, List}
 use Rattle.pg_term.specs.declared.term.Term.{Term}
-use Rattle.pg_message.specs.declared.message.Message.{Message}
-use Rattle.pg_machine.specs.Clocked.{Stamped, packets_of as unstamped}
+use Rattle.pg_node_state.specs.PgMessage.declared.message.Message.{Message}
+use Rattle.pg_node_state.specs.PgMachine.Clocked.{Stamped, packets_of as unstamped}
 use Rattle.pg_starts.specs.Seen.{Seen}
 use Rattle.pg_frame_world.specs.Views.{View}
 use Rattle.pg_account.specs.Agreeing.{HaveSameUpdates, AreSameLost}

@@ -1,16 +1,16 @@
 -- What an event did beside its change of the node that made it: what its turn sends and reports, in short.
 use Rattle.std.specs.Prelude.{ℕ, zero, suc, ◌+◌, length, Option, Some, None, option_map}
-use Rattle.pg_group.specs.declared.update.Update.{Update}
-use Rattle.pg_machine.specs.Losing.{LosingEvent, Step, Lose}
-use Rattle.pg_machine.specs.Machine.{Machine, World, Event, Turn, turn_of}
-use Rattle.pg_step.specs.declared.command.OpId.{OpId}
-use Rattle.pg_step.specs.Config.{Config}
-use Rattle.pg_step.specs.FrameMachine.{losing_frame_machine}
-use Rattle.pg_step.specs.LossLaws.{LosingFrameWorld}
-use Rattle.pg_step.specs.Step.{Action}
-use Rattle.pg_step.specs.Turns.{Report}
-use Rattle.pg_sends.specs.declared.done.Done.{Done}
-use Rattle.pg_sends.specs.declared.outgoing.Outgoing.{Ghosts as Listing}
+use Rattle.pg_node_state.specs.PgGroup.declared.update.Update.{Update}
+use Rattle.pg_node_state.specs.PgMachine.Losing.{LosingEvent, Step, Lose}
+use Rattle.pg_node_state.specs.PgMachine.Machine.{Machine, World, Event, Turn, turn_of}
+use Rattle.pg_node_state.specs.PgStep.declared.command.OpId.{OpId}
+use Rattle.pg_node_state.specs.PgStep.Config.{Config}
+use Rattle.pg_node_state.specs.PgStep.FrameMachine.{losing_frame_machine}
+use Rattle.pg_node_state.specs.PgStep.LossLaws.{LosingFrameWorld}
+use Rattle.pg_node_state.specs.PgStep.Step.{Action}
+use Rattle.pg_node_state.specs.PgStep.Turns.{Report}
+use Rattle.pg_node_state.specs.PgSends.declared.done.Done.{Done}
+use Rattle.pg_node_state.specs.PgSends.declared.outgoing.Outgoing.{Ghosts as Listing}
 use Rattle.pg_frame_world.specs.declared.effect.Effect.{Effect}
 
 -- the sum of what is counted at each place below

@@ -1,9 +1,9 @@
 -- Packets that fit into a frame.
 use Rattle.std.specs.Prelude.{◌<◌, ◌≤◌, length}
-use Rattle.pg_message.specs.declared.packet.Packet.{Packet}
-use Rattle.pg_message.specs.Writing.{term_of_packet}
-use Rattle.pg_term_io.specs.declared.limits.TheConstants.{MAX_LEN}
-use Rattle.pg_term_io.specs.Writing.{written}
+use Rattle.pg_node_state.specs.PgMessage.declared.packet.Packet.{Packet}
+use Rattle.pg_node_state.specs.PgMessage.Writing.{term_of_packet}
+use Rattle.pg_node_state.specs.PgTermIo.declared.limits.TheConstants.{MAX_LEN}
+use Rattle.pg_node_state.specs.PgTermIo.Writing.{written}
 use Rattle.pg_config.specs.declared.fault.WorldFault.{WorldFault}
 use Rattle.pg_config.specs.declared.fault.WorldFault.TheVariants.{TooLong, OutOfMemory}
 

@@ -1,7 +1,7 @@
 -- A world of packets that has a past, as it is seen.
 use Rattle.std.specs.Prelude.{ℕ, List}
-use Rattle.pg_group.specs.declared.table.GroupTable.{Ghosts}
-use Rattle.pg_step.specs.Config.{Config}
+use Rattle.pg_node_state.specs.PgGroup.declared.table.GroupTable.{Ghosts}
+use Rattle.pg_node_state.specs.PgStep.Config.{Config}
 use Rattle.pg_frame_world.specs.declared.frame_world.FrameWorld.{FrameWorld}
 use Rattle.pg_frame_world.specs.Losing as losing
 use Rattle.pg_frame_world.specs.Views.{Traffic, View}

@@ -3,24 +3,24 @@ use Rattle.std.specs.Prelude.{◌≡◌, ℕ, ◌+◌, ◌-◌, Bool, true, fals
 use Rattle.std.specs.Prelude.{length, get_or, slice_get, List, [], ◌∷◌, ◌++◌, Option, Some, None, Result, Ok, Err}
 use Rattle.std.specs.List.{list_all}
 use Rattle.std.specs.Option.{option_map_or}
-use Rattle.pg_group.specs.declared.table.GroupTable.{Ghosts}
-use Rattle.pg_message.specs.declared.message.Message.{Message}
-use Rattle.pg_machine.specs.Places.{is_place, is_pair}
-use Rattle.pg_machine.specs.Machine.{Take, Do}
-use Rattle.pg_machine.specs.Clocked.{Timed, Stamped}
-use Rattle.pg_machine.specs.Losing.{Noticed, Sent, Last, LosingEvent, Step, Lose, losing_happens, can_keep}
-use Rattle.pg_step.specs.declared.refusal.Refusal.{Refusal}
-use Rattle.pg_step.specs.declared.refusal.Refusal.TheVariants.{NoSuchPlace, NodeLost}
-use Rattle.pg_step.specs.Config.{Config, name_at, nodes_at, ports_at}
-use Rattle.pg_step.specs.Faults.{first_that_holds}
-use Rattle.pg_step.specs.FrameMachine.{losing_frame_machine, last_notice, sent_packet}
-use Rattle.pg_step.specs.LossLaws.{LosingFrameWorld, is_notice, see_refusal}
-use Rattle.pg_step.specs.Nodes.{Node, Nodes}
-use Rattle.pg_step.specs.State.{State, formed, live_nodes}
-use Rattle.pg_step.specs.Step.{Action, Issue, Retry, step_take, step_act}
-use Rattle.pg_step.specs.StepLaws.{refusal_of, port_of}
-use Rattle.pg_history.specs.WithLosses.{has_seen}
-use Rattle.pg_opens.specs.Places.{name_at as place_name, whole_in}
+use Rattle.pg_node_state.specs.PgGroup.declared.table.GroupTable.{Ghosts}
+use Rattle.pg_node_state.specs.PgMessage.declared.message.Message.{Message}
+use Rattle.pg_node_state.specs.PgMachine.Places.{is_place, is_pair}
+use Rattle.pg_node_state.specs.PgMachine.Machine.{Take, Do}
+use Rattle.pg_node_state.specs.PgMachine.Clocked.{Timed, Stamped}
+use Rattle.pg_node_state.specs.PgMachine.Losing.{Noticed, Sent, Last, LosingEvent, Step, Lose, losing_happens, can_keep}
+use Rattle.pg_node_state.specs.PgStep.declared.refusal.Refusal.{Refusal}
+use Rattle.pg_node_state.specs.PgStep.declared.refusal.Refusal.TheVariants.{NoSuchPlace, NodeLost}
+use Rattle.pg_node_state.specs.PgStep.Config.{Config, name_at, nodes_at, ports_at}
+use Rattle.pg_node_state.specs.PgStep.Faults.{first_that_holds}
+use Rattle.pg_node_state.specs.PgStep.FrameMachine.{losing_frame_machine, last_notice, sent_packet}
+use Rattle.pg_node_state.specs.PgStep.LossLaws.{LosingFrameWorld, is_notice, see_refusal}
+use Rattle.pg_node_state.specs.PgStep.Nodes.{Node, Nodes}
+use Rattle.pg_node_state.specs.PgStep.State.{State, formed, live_nodes}
+use Rattle.pg_node_state.specs.PgStep.Step.{Action, Issue, Retry, step_take, step_act}
+use Rattle.pg_node_state.specs.PgStep.StepLaws.{refusal_of, port_of}
+use Rattle.pg_retries.specs.PgHistory.WithLosses.{has_seen}
+use Rattle.pg_node_state.specs.PgOpens.Places.{name_at as place_name, whole_in}
 use Rattle.pg_node_state.specs.declared.state.fault.NodeFault.{NodeFault}
 use Rattle.pg_node_state.specs.declared.state.fault.NodeFault.TheVariants.{Refused, OutOfMemory}
 use Rattle.pg_frame_world.specs.declared.step.FrameStep.{FrameStep}
@@ -34,7 +34,7 @@ use Rattle.pg_starts.specs.Seen.{Seen}
 use Rattle.pg_frame_world.specs.Effects.{losing_effect_in}
 use Rattle.pg_frame_world.specs.Views.{View, peer_place}
 use Rattle.pg_frame_world.specs.Worlds.{TimedFrameWorld, ShowsWorld}
-use Rattle.pg_loss.specs.Reached.{LosingReaches}
+use Rattle.pg_retries.specs.PgLoss.Reached.{LosingReaches}
 
 -- ---- the world with losses that a world shows
 

@@ -1,13 +1,13 @@
 -- What comes of steps that are made one after another, where nodes may be lost.
 use Rattle.std.specs.Prelude.{◌≡◌, ◌⊎◌, ℕ, false, cond, List, [], ◌∷◌, Some}
 use Rattle.std.specs.Option.{option_map_or}
-use Rattle.pg_machine.specs.Losing.{LosingEvent, losing_happens, nobody_gone}
-use Rattle.pg_machine.specs.Machine.{start_of}
-use Rattle.pg_step.specs.Config.{Config}
-use Rattle.pg_step.specs.Faults.{refusal_number_of}
-use Rattle.pg_step.specs.FrameMachine.{losing_frame_machine, last_notice}
-use Rattle.pg_step.specs.LossLaws.{LosingFrameWorld}
-use Rattle.pg_step.specs.Step.{Action}
+use Rattle.pg_node_state.specs.PgMachine.Losing.{LosingEvent, losing_happens, nobody_gone}
+use Rattle.pg_node_state.specs.PgMachine.Machine.{start_of}
+use Rattle.pg_node_state.specs.PgStep.Config.{Config}
+use Rattle.pg_node_state.specs.PgStep.Faults.{refusal_number_of}
+use Rattle.pg_node_state.specs.PgStep.FrameMachine.{losing_frame_machine, last_notice}
+use Rattle.pg_node_state.specs.PgStep.LossLaws.{LosingFrameWorld}
+use Rattle.pg_node_state.specs.PgStep.Step.{Action}
 use Rattle.pg_retries.specs.Survived.{LossesSurvived}
 use Rattle.pg_frame_world.specs.declared.step.FrameStep.{FrameStep}
 use Rattle.pg_frame_world.specs.Losing.{Telling, told_of}

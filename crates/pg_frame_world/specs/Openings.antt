@@ -3,17 +3,17 @@ use Rattle.std.specs.Prelude.{◌≡◌, ◌≤◌, ◌<◌, ◌^◌, ◌⊎◌,
 use Rattle.std.specs.Prelude.{nat_le, ℕ, length, slice_get, List, Some, None}
 use Rattle.std.specs.List.{IsDistinct, list_all}
 use Rattle.pg_term.specs.Same.{same_atom, same_term}
-use Rattle.pg_ends.specs.declared.processes.TheConstants.{MAX_PROCESSES}
-use Rattle.pg_message.specs.Members.{HasFewMembers}
-use Rattle.pg_group.specs.Table.{Table}
-use Rattle.pg_exchange.specs.GroupList.{GroupList, IsSnapshot, announced_names}
-use Rattle.pg_message.specs.declared.packet.Packet.{Packet}
+use Rattle.pg_node_state.specs.PgEnds.declared.processes.TheConstants.{MAX_PROCESSES}
+use Rattle.pg_node_state.specs.PgMessage.Members.{HasFewMembers}
+use Rattle.pg_node_state.specs.PgGroup.Table.{Table}
+use Rattle.pg_node_state.specs.PgExchange.GroupList.{GroupList, IsSnapshot, announced_names}
+use Rattle.pg_node_state.specs.PgMessage.declared.packet.Packet.{Packet}
 use Rattle.pg_ring.specs.Capacity.{IsCapacity}
-use Rattle.pg_step.specs.Config.{Config, IsConfig, names_of, groups_at, made_at}
-use Rattle.pg_opens.specs.Places.{name_at}
+use Rattle.pg_node_state.specs.PgStep.Config.{Config, IsConfig, names_of, groups_at, made_at}
+use Rattle.pg_node_state.specs.PgOpens.Places.{name_at}
 use Rattle.pg_node_state.specs.declared.state.fault.NodeFault.{NodeFault}
 use Rattle.pg_node_state.specs.declared.state.fault.NodeFault.TheVariants as faults
-use Rattle.pg_sends.specs.Opening.{IsAnnouncement}
+use Rattle.pg_node_state.specs.PgSends.Opening.{IsAnnouncement}
 use Rattle.pg_config.specs.declared.fault.WorldFault.{WorldFault}
 use Rattle.pg_config.specs.declared.fault.WorldFault.TheVariants.{TooLong, OutOfMemory}
 use Rattle.pg_config.specs.Configs.{are_names, have_names, refusal_of}

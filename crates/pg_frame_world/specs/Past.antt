@@ -1,18 +1,18 @@
 -- What is behind a world: the events that led to it from the start of its configuration, and what holds of them.
 use Rattle.std.specs.Prelude.{◌≡◌, ◌↔◌, ◌≤◌, ◌&&◌, ℕ, Bool, true, false, length, take, List, ◌++◌, Result}
 use Rattle.pg_term.specs.declared.term.Term.{Term}
-use Rattle.pg_machine.specs.Clocked.{plain}
-use Rattle.pg_machine.specs.Losing.{LosingEvent, LosingLeads, nobody_gone, mapped}
-use Rattle.pg_step.specs.Config.{Config}
-use Rattle.pg_step.specs.FrameMachine.{losing_frame_machine, last_notice, sent_packet}
-use Rattle.pg_step.specs.LossLaws.{LosingFrameWorld}
-use Rattle.pg_step.specs.Step.{Action}
-use Rattle.pg_machine.specs.Places.{is_pair}
-use Rattle.pg_history.specs.Headline.{OneHistory}
-use Rattle.pg_history.specs.History.{Entry}
-use Rattle.pg_history.specs.WithLosses.{FormedAtLosses}
-use Rattle.pg_loss.specs.Reached.{LosingReaches, steps_of}
-use Rattle.pg_left.specs.Missed.{missed, missed_of}
+use Rattle.pg_node_state.specs.PgMachine.Clocked.{plain}
+use Rattle.pg_node_state.specs.PgMachine.Losing.{LosingEvent, LosingLeads, nobody_gone, mapped}
+use Rattle.pg_node_state.specs.PgStep.Config.{Config}
+use Rattle.pg_node_state.specs.PgStep.FrameMachine.{losing_frame_machine, last_notice, sent_packet}
+use Rattle.pg_node_state.specs.PgStep.LossLaws.{LosingFrameWorld}
+use Rattle.pg_node_state.specs.PgStep.Step.{Action}
+use Rattle.pg_node_state.specs.PgMachine.Places.{is_pair}
+use Rattle.pg_retries.specs.PgHistory.Headline.{OneHistory}
+use Rattle.pg_retries.specs.PgHistory.History.{Entry}
+use Rattle.pg_retries.specs.PgHistory.WithLosses.{FormedAtLosses}
+use Rattle.pg_retries.specs.PgLoss.Reached.{LosingReaches, steps_of}
+use Rattle.pg_retries.specs.PgLeft.Missed.{missed, missed_of}
 use Rattle.pg_retries.specs.Survived.{LossesSurvived}
 use Rattle.pg_node_state.specs.declared.state.fault.NodeFault.{NodeFault}
 use Rattle.pg_frame_world.specs.declared.step.FrameStep.{FrameStep}

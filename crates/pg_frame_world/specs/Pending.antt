@@ -6,14 +6,14 @@ use Rattle.std.specs.List.{filter, list_all, list_any}
 use Rattle.std.specs.Option.{option_map_or}
 use Rattle.pg_term.specs.declared.pid.Pid.{Pid}
 use Rattle.pg_term.specs.declared.term.Term.{Term}
-use Rattle.pg_group.specs.declared.table.GroupTable.{Ghosts}
-use Rattle.pg_ends.specs.Numbers.{first_pids}
-use Rattle.pg_machine.specs.Places.{is_place}
-use Rattle.pg_step.specs.Config.{Config, name_at}
-use Rattle.pg_step.specs.LossLaws.{LosingFrameWorld}
-use Rattle.pg_step.specs.Nodes.{Node}
+use Rattle.pg_node_state.specs.PgGroup.declared.table.GroupTable.{Ghosts}
+use Rattle.pg_node_state.specs.PgEnds.Numbers.{first_pids}
+use Rattle.pg_node_state.specs.PgMachine.Places.{is_place}
+use Rattle.pg_node_state.specs.PgStep.Config.{Config, name_at}
+use Rattle.pg_node_state.specs.PgStep.LossLaws.{LosingFrameWorld}
+use Rattle.pg_node_state.specs.PgStep.Nodes.{Node}
 use Rattle.pg_node_state.specs.declared.state.NodeState.{NodeState}
-use Rattle.pg_opens.specs.Places.{name_at as place_name}
+use Rattle.pg_node_state.specs.PgOpens.Places.{name_at as place_name}
 use Rattle.pg_account.specs.Losses.{is_lost}
 use Rattle.pg_starts.specs.Seen.{Seen, seen_of}
 

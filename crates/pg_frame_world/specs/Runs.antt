@@ -3,16 +3,16 @@ use Rattle.std.specs.Prelude.{◌≡◌, ◌⊎◌, ℕ, Bool, true, not, cond, 
 use Rattle.std.specs.Prelude.{[], ◌∷◌, Option, Some, None, Result, Ok, Err}
 use Rattle.std.specs.List.{AllPass}
 use Rattle.std.specs.Option.{option_map_or}
-use Rattle.pg_machine.specs.Places.{is_pair}
-use Rattle.pg_machine.specs.Machine.{Event, Take, Do, happens, start_of}
-use Rattle.pg_machine.specs.Clocked.{plain}
-use Rattle.pg_step.specs.declared.refusal.Refusal.{Refusal}
-use Rattle.pg_step.specs.declared.refusal.Refusal.TheVariants.{NoSuchPlace, NotLost}
-use Rattle.pg_step.specs.Config.{Config}
-use Rattle.pg_step.specs.Faults.{refusal_number_of}
-use Rattle.pg_step.specs.FrameMachine.{frame_machine}
-use Rattle.pg_step.specs.Step.{Action, Issue, Retry, TimedTurn}
-use Rattle.pg_history.specs.Headline.{OneHistory}
+use Rattle.pg_node_state.specs.PgMachine.Places.{is_pair}
+use Rattle.pg_node_state.specs.PgMachine.Machine.{Event, Take, Do, happens, start_of}
+use Rattle.pg_node_state.specs.PgMachine.Clocked.{plain}
+use Rattle.pg_node_state.specs.PgStep.declared.refusal.Refusal.{Refusal}
+use Rattle.pg_node_state.specs.PgStep.declared.refusal.Refusal.TheVariants.{NoSuchPlace, NotLost}
+use Rattle.pg_node_state.specs.PgStep.Config.{Config}
+use Rattle.pg_node_state.specs.PgStep.Faults.{refusal_number_of}
+use Rattle.pg_node_state.specs.PgStep.FrameMachine.{frame_machine}
+use Rattle.pg_node_state.specs.PgStep.Step.{Action, Issue, Retry, TimedTurn}
+use Rattle.pg_retries.specs.PgHistory.Headline.{OneHistory}
 use Rattle.pg_frame_world.specs.declared.step.FrameStep.{FrameStep}
 use Rattle.pg_frame_world.specs.declared.step.FrameStep.TheVariants as frames
 use Rattle.pg_frame_world.specs.Losing.{loss_refusal, losing_of}

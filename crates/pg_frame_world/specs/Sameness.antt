@@ -5,13 +5,13 @@ use Rattle.pg_term.specs.declared.pid.Pid.{Pid}
 use Rattle.pg_term.specs.declared.term.Term.{Term}
 use Rattle.pg_term.specs.RefParts.{ref_eq}
 use Rattle.pg_term.specs.Same.{same_atom, same_pid, same_term}
-use Rattle.pg_message.specs.declared.message.Message.{Message}
-use Rattle.pg_message.specs.declared.message.Message.TheVariants.{Call, Reply, DelLock, Exchange, Down}
-use Rattle.pg_message.specs.declared.message.Request.{Request}
-use Rattle.pg_message.specs.declared.message.Request.TheVariants.{SetLock, Change}
-use Rattle.pg_message.specs.declared.message.Said.{Said}
-use Rattle.pg_message.specs.declared.message.Said.TheVariants.{Granted, Denied, Applied}
-use Rattle.pg_opens.specs.Twins.{same_update}
+use Rattle.pg_node_state.specs.PgMessage.declared.message.Message.{Message}
+use Rattle.pg_node_state.specs.PgMessage.declared.message.Message.TheVariants.{Call, Reply, DelLock, Exchange, Down}
+use Rattle.pg_node_state.specs.PgMessage.declared.message.Request.{Request}
+use Rattle.pg_node_state.specs.PgMessage.declared.message.Request.TheVariants.{SetLock, Change}
+use Rattle.pg_node_state.specs.PgMessage.declared.message.Said.{Said}
+use Rattle.pg_node_state.specs.PgMessage.declared.message.Said.TheVariants.{Granted, Denied, Applied}
+use Rattle.pg_node_state.specs.PgOpens.Twins.{same_update}
 
 -- whether two replies say the same
 abbrev pub same_said : Said → Said → Bool

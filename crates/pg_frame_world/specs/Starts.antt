@@ -2,19 +2,19 @@
 use Rattle.std.specs.Prelude.{◌≡◌, ◌^◌, ℕ, List, [], ◌∷◌, replicate}
 use Rattle.std.specs.List.{AllByRecursion-prop}
 use Rattle.std.proofs.Math.Bridge.{le_prop}
-use Rattle.pg_group.specs.Table.{Table}
-use Rattle.pg_exchange.specs.GroupList.{GroupList, IsSnapshot}
-use Rattle.pg_message.specs.Members.{HasFewMembers}
-use Rattle.pg_message.specs.declared.message.Message.{Message}
-use Rattle.pg_message.specs.declared.packet.Packet.{Packet}
-use Rattle.pg_machine.specs.Machine.{start_of}
-use Rattle.pg_machine.specs.Clocked.{Stamped}
-use Rattle.pg_step.specs.declared.start.Start.{Start}
-use Rattle.pg_step.specs.Config.{Config, first_table}
-use Rattle.pg_step.specs.FrameMachine.{frame_machine}
-use Rattle.pg_opens.specs.Places.{name_at}
-use Rattle.pg_sends.specs.Opening.{IsAnnouncement}
-use Rattle.pg_sends.specs.Sent.{stamped_of}
+use Rattle.pg_node_state.specs.PgGroup.Table.{Table}
+use Rattle.pg_node_state.specs.PgExchange.GroupList.{GroupList, IsSnapshot}
+use Rattle.pg_node_state.specs.PgMessage.Members.{HasFewMembers}
+use Rattle.pg_node_state.specs.PgMessage.declared.message.Message.{Message}
+use Rattle.pg_node_state.specs.PgMessage.declared.packet.Packet.{Packet}
+use Rattle.pg_node_state.specs.PgMachine.Machine.{start_of}
+use Rattle.pg_node_state.specs.PgMachine.Clocked.{Stamped}
+use Rattle.pg_node_state.specs.PgStep.declared.start.Start.{Start}
+use Rattle.pg_node_state.specs.PgStep.Config.{Config, first_table}
+use Rattle.pg_node_state.specs.PgStep.FrameMachine.{frame_machine}
+use Rattle.pg_node_state.specs.PgOpens.Places.{name_at}
+use Rattle.pg_node_state.specs.PgSends.Opening.{IsAnnouncement}
+use Rattle.pg_node_state.specs.PgSends.Sent.{stamped_of}
 use Rattle.pg_starts.specs.Seen.{Seen}
 use Rattle.pg_frame_world.specs.Fitting.{FitsFrame}
 use Rattle.pg_starts.specs.Seen.{Seen}

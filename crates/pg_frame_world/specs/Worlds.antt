@@ -5,22 +5,22 @@ use Rattle.std.specs.List.{IsDistinct}
 use Rattle.std.specs.Option.{option_map_or}
 use Rattle.pg_term.specs.declared.term.Term.{Term}
 use Rattle.pg_term.specs.Same.{same_atom}
-use Rattle.pg_group.specs.declared.table.GroupTable.{Ghosts}
-use Rattle.pg_message.specs.declared.message.Message.{Message}
-use Rattle.pg_machine.specs.Places.{is_place, is_pair}
-use Rattle.pg_machine.specs.Machine.{Event, Take, Do, happens}
-use Rattle.pg_machine.specs.Clocked.{Timed, Stamped, TimedWorld}
-use Rattle.pg_step.specs.declared.answer.Answer.{Answer}
-use Rattle.pg_step.specs.declared.refusal.Refusal.{Refusal}
-use Rattle.pg_step.specs.declared.refusal.Refusal.TheVariants.{NoSuchPlace, NotLost}
-use Rattle.pg_step.specs.Commands.{Answers}
-use Rattle.pg_step.specs.Config.{Config, names_of as names_in, name_at, nodes_at, ports_at}
-use Rattle.pg_step.specs.FrameMachine.{frame_machine}
-use Rattle.pg_step.specs.Nodes.{Node, Nodes, all_of}
-use Rattle.pg_step.specs.State.{State, Response}
-use Rattle.pg_step.specs.Step.{Action, Issue, Retry, TimedTurn, step_take, step_act}
-use Rattle.pg_step.specs.Turns.{Report}
-use Rattle.pg_history.specs.History.{answers_by, history, applied_count}
+use Rattle.pg_node_state.specs.PgGroup.declared.table.GroupTable.{Ghosts}
+use Rattle.pg_node_state.specs.PgMessage.declared.message.Message.{Message}
+use Rattle.pg_node_state.specs.PgMachine.Places.{is_place, is_pair}
+use Rattle.pg_node_state.specs.PgMachine.Machine.{Event, Take, Do, happens}
+use Rattle.pg_node_state.specs.PgMachine.Clocked.{Timed, Stamped, TimedWorld}
+use Rattle.pg_node_state.specs.PgStep.declared.answer.Answer.{Answer}
+use Rattle.pg_node_state.specs.PgStep.declared.refusal.Refusal.{Refusal}
+use Rattle.pg_node_state.specs.PgStep.declared.refusal.Refusal.TheVariants.{NoSuchPlace, NotLost}
+use Rattle.pg_node_state.specs.PgStep.Commands.{Answers}
+use Rattle.pg_node_state.specs.PgStep.Config.{Config, names_of as names_in, name_at, nodes_at, ports_at}
+use Rattle.pg_node_state.specs.PgStep.FrameMachine.{frame_machine}
+use Rattle.pg_node_state.specs.PgStep.Nodes.{Node, Nodes, all_of}
+use Rattle.pg_node_state.specs.PgStep.State.{State, Response}
+use Rattle.pg_node_state.specs.PgStep.Step.{Action, Issue, Retry, TimedTurn, step_take, step_act}
+use Rattle.pg_node_state.specs.PgStep.Turns.{Report}
+use Rattle.pg_retries.specs.PgHistory.History.{answers_by, history, applied_count}
 use Rattle.pg_node_state.specs.declared.state.fault.NodeFault.{NodeFault}
 use Rattle.pg_node_state.specs.declared.state.fault.NodeFault.TheVariants.{Refused, OutOfMemory}
 use Rattle.pg_frame_world.specs.declared.step.FrameStep.{FrameStep}
@@ -33,8 +33,8 @@ use Rattle.pg_starts.specs.Seen.{Seen}
 use Rattle.pg_frame_world.specs.Effects.{effect_in}
 use Rattle.pg_frame_world.specs.Views.{Traffic, View, traffic_in, on_the_way}
 use Rattle.pg_account.specs.Histories.{Account}
-use Rattle.pg_history.specs.Reached.{Reaches}
-use Rattle.pg_left.specs.Missed.{marks}
+use Rattle.pg_retries.specs.PgHistory.Reached.{Reaches}
+use Rattle.pg_retries.specs.PgLeft.Missed.{marks}
 
 -- a world as it is seen
 abbrev pub traffic_of : {T : Type 0} {g : Ghosts T} → FrameNodes T g → Traffic

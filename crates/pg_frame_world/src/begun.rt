@@ -2,15 +2,15 @@
 
 ghost use Rattle.std.specs.Prelude.{◌≡◌, [], true, false, None, IfOk, IfErr, OnOk};
 ghost use Rattle.pg_ring.specs.Capacity.{IsCapacity};
-ghost use Rattle.pg_step.specs.Config.{IsConfig};
+ghost use Rattle.pg_node_state.specs.PgStep.Config.{IsConfig};
 ghost use Rattle.pg_config.specs.Configs.{refusal_of};
 
 use crate::starts::openings;
 use crate::world::FrameNodes;
 use pg_config::{Config, WorldFault};
 use pg_index::IndexTable;
+use pg_node_state::Start;
 use pg_starts::nodes_of;
-use pg_step::Start;
 use pg_term::{Items, Pid, Term};
 use std::alloc::Global;
 

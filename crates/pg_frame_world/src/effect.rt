@@ -1,9 +1,7 @@
 ghost use Rattle.std.specs.Prelude.{◌≡◌};
 ghost use Rattle.pg_frame_world.specs.Effects.{effect_by, no_effect, op_of};
 
-use pg_group::Update;
-use pg_node_state::{Done, Held, Outgoing};
-use pg_step::{Odd, OpId};
+use pg_node_state::{Done, Held, Odd, OpId, Outgoing, Update};
 
 /// What an event did beside its change of the node that made it.
 #[derive(Clone, Copy, Debug, PartialEq, Eq)]

@@ -2,7 +2,7 @@
 
 ghost use Rattle.std.specs.Prelude.{◌≡◌, [], false, IfOk, IfErr, length};
 ghost use Rattle.pg_ring.specs.Capacity.{IsCapacity};
-ghost use Rattle.pg_step.specs.Config.{Config as Configuration, IsConfig};
+ghost use Rattle.pg_node_state.specs.PgStep.Config.{Config as Configuration, IsConfig};
 ghost use Rattle.pg_frame_world.specs.FrameWorlds.{given_of as given_by, lost_of as lost_by, view_of as shown_by};
 ghost use Rattle.pg_frame_world.specs.Losing.{ShowsLosing as shows_losing};
 ghost use Rattle.pg_frame_world.specs.LosingRuns.{RanLosing, packets_past_losses as over_packets_past};
@@ -13,15 +13,14 @@ ghost use Rattle.pg_frame_world.specs.Worlds.{ShowsWorld as shows_frames};
 use crate::frame_world::FrameWorld;
 use crate::step::FrameStep;
 use pg_config::{Config, WorldFault};
-use pg_group::GroupTable;
-use pg_history::one_history;
 use pg_index::IndexTable;
-use pg_retries::each_world_past_losses;
+use pg_node_state::GroupTable;
+use pg_retries::{each_world_past_losses, one_history};
 use std::alloc::Global;
 
 impl<T: GroupTable + Drop> FrameWorld<T> {
     ghost use Rattle.pg_frame_world.specs.Runs.{StepsTo, GoesTo, LosesNone, over_packets};
-    ghost use Rattle.pg_step.specs.LossLaws.{LosingFrameWorld};
+    ghost use Rattle.pg_node_state.specs.PgStep.LossLaws.{LosingFrameWorld};
     ghost use Rattle.pg_frame_world.specs.FrameWorlds.{view_of, lost_of, given_of};
     ghost use Rattle.pg_frame_world.specs.Losing.{ShowsLosing};
     ghost use Rattle.pg_frame_world.specs.LosingRuns.{LosingStepsTo, LosingGoesTo, packets_past_losses};

@@ -2,17 +2,17 @@ ghost use Rattle.std.specs.Prelude.{◌≡◌, ◌↔◌, Bool, true, ℕ, List,
 ghost use Rattle.std.specs.List.{Contains};
 ghost use Rattle.pg_term.specs.declared.pid.Pid.{Pid};
 ghost use Rattle.pg_term.specs.declared.term.Term.{Term};
-ghost use Rattle.pg_machine.specs.Clocked.{plain};
-ghost use Rattle.pg_machine.specs.Losing.{LosingEvent};
-ghost use Rattle.pg_machine.specs.Machine.{Event};
-ghost use Rattle.pg_step.specs.LossLaws.{LosingFrameWorld};
-ghost use Rattle.pg_step.specs.Step.{Action};
-ghost use Rattle.pg_step.specs.Nodes.{Node};
-ghost use Rattle.pg_step.specs.Config.{Config, names_of, ports_at, made_at, groups_at, first_table};
-ghost use Rattle.pg_history.specs.History.{NonePending, base, known};
-ghost use Rattle.pg_history.specs.Reached.{Reaches};
-ghost use Rattle.pg_history.specs.WithLosses.{NonePendingLive};
-ghost use Rattle.pg_loss.specs.Reached.{LosingReaches};
+ghost use Rattle.pg_node_state.specs.PgMachine.Clocked.{plain};
+ghost use Rattle.pg_node_state.specs.PgMachine.Losing.{LosingEvent};
+ghost use Rattle.pg_node_state.specs.PgMachine.Machine.{Event};
+ghost use Rattle.pg_node_state.specs.PgStep.LossLaws.{LosingFrameWorld};
+ghost use Rattle.pg_node_state.specs.PgStep.Step.{Action};
+ghost use Rattle.pg_node_state.specs.PgStep.Nodes.{Node};
+ghost use Rattle.pg_node_state.specs.PgStep.Config.{Config, names_of, ports_at, made_at, groups_at, first_table};
+ghost use Rattle.pg_retries.specs.PgHistory.History.{NonePending, base, known};
+ghost use Rattle.pg_retries.specs.PgHistory.Reached.{Reaches};
+ghost use Rattle.pg_retries.specs.PgHistory.WithLosses.{NonePendingLive};
+ghost use Rattle.pg_retries.specs.PgLoss.Reached.{LosingReaches};
 ghost use Rattle.pg_config.specs.declared.fault.WorldFault.{WorldFault};
 ghost use Rattle.pg_config.specs.declared.fault.WorldFault.TheVariants.{OutOfMemory};
 ghost use Rattle.pg_frame_world.specs.Losing.{losing_of};
@@ -24,8 +24,8 @@ ghost use Rattle.pg_starts.specs.Seen.{Seen};
 ghost use Rattle.pg_frame_world.specs.Worlds.{ShowsNodes, TimedFrameWorld};
 
 use pg_config::configs_are_decided;
-use pg_ends::numbered_from_one;
-use pg_loss::ended_processes_were_made_past_losses;
+use pg_node_state::numbered_from_one;
+use pg_retries::ended_processes_were_made_past_losses;
 
 /// A configuration whose groups were put in order starts with the same tables: what the headline says of the one it says of the
 /// other.

@@ -24,5 +24,23 @@ pub use laws::{
     long_groups_do_not_fit, orders_keep_tables, pending_ends_are_listed, refusals_are_exact,
 };
 pub use pending::pending_among;
+pub use pg_account::{Entry, Histories, Losses};
+pub use pg_config::{Config, MAX_NODES, MAX_PORTS, WorldFault, configs_are_decided};
+pub use pg_index::IndexTable;
+pub use pg_node_state::{
+    Answer, Command, Deframer, FrameFault, GroupTable, Message, MessageFault, NodeFault, NodeState,
+    OpId, Packet, RefFault, RefSource, Refusal, Reply, Request, Said, Scope, Start, Update, decode,
+    encode, encode_into, frame_into, front_is_first_of_cut, front_is_first_packet,
+    losing_nodes_keep_time, loss_cuts_packets, moving_keeps_packets, nodes_keep_time, packet_len,
+    pieces_continue, same_group, same_groups, sending_adds_packets, which_groups, write_frame,
+    write_packet_into, written_is_read,
+};
+pub use pg_retries::{
+    each_world_past_losses, ended_processes_were_finished,
+    ended_processes_were_finished_past_losses, first_packets_were_welcome, no_loss_is_seen,
+    no_packet_is_refused, nobody_is_harmed, nodes_that_heard_the_lost_agree, one_history,
+};
+pub use pg_ring::MemRing;
+pub use pg_starts::node_at;
 pub use step::{FrameStep, Stepped};
 pub use world::peer_place;

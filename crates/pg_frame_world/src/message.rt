@@ -4,7 +4,7 @@ ghost use Rattle.std.specs.Prelude.{◌≡◌};
 ghost use Rattle.pg_frame_world.specs.Sameness.{same_said, same_request, same_message};
 
 use pg_account::same_update;
-use pg_message::{Message, Request, Said};
+use pg_node_state::{Message, Request, Said};
 
 /// Whether both say the same.
 ///

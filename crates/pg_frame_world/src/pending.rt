@@ -6,8 +6,7 @@ ghost use Rattle.pg_node_state.specs.States.{kept_by};
 ghost use Rattle.pg_frame_world.specs.Pending.{lent_as, pending_at, pending_among};
 ghost use Rattle.pg_starts.specs.Seen.{seen_of};
 
-use pg_group::GroupTable;
-use pg_node_state::NodeState;
+use pg_node_state::{GroupTable, NodeState};
 use pg_term::Pid;
 use std::alloc::{AllocError, Global};
 

@@ -2,11 +2,11 @@
 
 ghost use Rattle.std.specs.Prelude.{◌≡◌, ◌≤◌, ◌-◌, ◌^◌, ◌∷◌, [], true, IfOk, IfErr, length, map, replicate};
 ghost use Rattle.std.specs.List.{All};
-ghost use Rattle.pg_message.specs.Members.{IsShort};
-ghost use Rattle.pg_message.specs.Writing.{is_sayable};
-ghost use Rattle.pg_message.specs.declared.packet.TheConstants.{MAX_STAMP};
+ghost use Rattle.pg_node_state.specs.PgMessage.Members.{IsShort};
+ghost use Rattle.pg_node_state.specs.PgMessage.Writing.{is_sayable};
+ghost use Rattle.pg_node_state.specs.PgMessage.declared.packet.TheConstants.{MAX_STAMP};
 ghost use Rattle.pg_node_state.specs.States.{kept_by};
-ghost use Rattle.pg_sends.specs.Sent.{stamped_of};
+ghost use Rattle.pg_node_state.specs.PgSends.Sent.{stamped_of};
 ghost use Rattle.pg_starts.specs.Seen.{seen_of};
 ghost use Rattle.pg_frame_world.specs.Fitting.{FitsFrame, CantSend};
 ghost use Rattle.pg_frame_world.specs.Openings.{TellsNames, CantOpen, SomeCantOpen};
@@ -15,10 +15,7 @@ ghost use Rattle.pg_frame_world.specs.Views.{ways_of};
 
 use crate::ways::Ways;
 use pg_config::WorldFault;
-use pg_group::GroupTable;
-use pg_message::Packet;
-use pg_node_state::NodeState;
-use pg_writer::packet_len;
+use pg_node_state::{GroupTable, NodeState, Packet, packet_len};
 use std::alloc::{AllocError, Global};
 
 /// What each node sends as it starts: all groups of its table to each other, one packet each.

@@ -1,5 +1,5 @@
 use crate::effect::Effect;
-use pg_step::{Command, OpId};
+use pg_node_state::{Command, OpId};
 
 /// A step of a world of packets. Nodes are named by their places.
 #[derive(Debug, Drop)]

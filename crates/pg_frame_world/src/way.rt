@@ -3,12 +3,12 @@
 ghost use Rattle.std.specs.Prelude.{◌≡◌, ◌↔◌, IsTrue, ◌++◌, ◌∷◌, ◌^◌, [], drop};
 ghost use Rattle.std.specs.Prelude.{take, length, map, option_map, IfOk, OnOk};
 ghost use Rattle.std.specs.Option.{option_copied};
-ghost use Rattle.pg_message.specs.declared.packet.Packet.{Packet};
-ghost use Rattle.pg_message.specs.Members.{IsShort};
+ghost use Rattle.pg_node_state.specs.PgMessage.declared.packet.Packet.{Packet};
+ghost use Rattle.pg_node_state.specs.PgMessage.Members.{IsShort};
 ghost use Rattle.pg_frame_world.specs.Short.{HaveShortGroups, HaveShortGroups-prop};
 
 use crate::message::same_message;
-use pg_message::Packet;
+use pg_node_state::Packet;
 use std::alloc::{AllocError, Global};
 use std::collections::VecDeque;
 
@@ -21,8 +21,8 @@ pub(crate) struct Way {
 
 impl Way {
     ghost use Rattle.pg_frame_world.specs.Views.{packets_of, next_packet_of, HasWayRoom};
-    ghost use Rattle.pg_machine.specs.Clocked.{packets_of as unstamped};
-    ghost use Rattle.pg_sends.specs.Sent.{stamped_of};
+    ghost use Rattle.pg_node_state.specs.PgMachine.Clocked.{packets_of as unstamped};
+    ghost use Rattle.pg_node_state.specs.PgSends.Sent.{stamped_of};
 
     /// Nothing is on the way.
     ///

@@ -3,15 +3,12 @@
 ghost use Rattle.std.specs.Prelude.{◌≡◌, ◌↔◌, ◌<◌, ◌+◌, ◌++◌, ◌∷◌, ◌^◌, ℕ, [], Some, get_or, slice_set};
 ghost use Rattle.std.specs.Prelude.{drop, take, length, map, replicate, option_map, IsTrue, IfOk, OnOk};
 ghost use Rattle.std.specs.Option.{option_copied};
-ghost use Rattle.pg_message.specs.declared.packet.Packet.{Packet};
-ghost use Rattle.pg_message.specs.Members.{IsShort};
-ghost use Rattle.pg_sends.specs.Sent.{stamped_of};
+ghost use Rattle.pg_node_state.specs.PgMessage.declared.packet.Packet.{Packet};
+ghost use Rattle.pg_node_state.specs.PgMessage.Members.{IsShort};
+ghost use Rattle.pg_node_state.specs.PgSends.Sent.{stamped_of};
 
 use crate::way::Way;
-use pg_group::Update;
-use pg_message::Packet;
-use pg_node_state::{Done, Held};
-use pg_step::OpId;
+use pg_node_state::{Done, Held, OpId, Packet, Update};
 use std::alloc::{AllocError, Global};
 use std::collections::VecDeque;
 

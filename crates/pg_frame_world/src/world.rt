@@ -2,7 +2,7 @@
 
 ghost use Rattle.std.specs.Prelude.{◌≡◌, ◌≢◌, [], true, Ok, IfSome, OnErr, length, map};
 ghost use Rattle.std.specs.Option.{is_some};
-ghost use Rattle.pg_sends.specs.Sent.{stamped_of};
+ghost use Rattle.pg_node_state.specs.PgSends.Sent.{stamped_of};
 ghost use Rattle.pg_frame_world.specs.Views.{IsWhole, traffic_in};
 
 mod alike;
@@ -14,10 +14,7 @@ use crate::effect::Effect;
 use crate::step::{FrameStep, Stepped};
 use crate::ways::Ways;
 use pg_account::{Histories, Losses};
-use pg_group::GroupTable;
-use pg_message::Packet;
-use pg_node_state::{Done, NodeFault, NodeState};
-use pg_step::{Command, OpId, Refusal};
+use pg_node_state::{Command, Done, GroupTable, NodeFault, NodeState, OpId, Packet, Refusal};
 use std::alloc::{AllocError, Global};
 use std::collections::VecDeque;
 
@@ -34,14 +31,14 @@ pub(crate) struct FrameNodes<T: GroupTable> {
 
 impl<T: GroupTable + Drop> FrameNodes<T> {
     ghost use Rattle.pg_frame_world.specs.Views.{fresh_view, on_the_way};
-    ghost use Rattle.pg_machine.specs.Places.{is_pair};
-    ghost use Rattle.pg_machine.specs.Machine.{Take, Do};
-    ghost use Rattle.pg_step.specs.Config.{Config};
-    ghost use Rattle.pg_step.specs.Step.{Issue, Retry};
+    ghost use Rattle.pg_node_state.specs.PgMachine.Places.{is_pair};
+    ghost use Rattle.pg_node_state.specs.PgMachine.Machine.{Take, Do};
+    ghost use Rattle.pg_node_state.specs.PgStep.Config.{Config};
+    ghost use Rattle.pg_node_state.specs.PgStep.Step.{Issue, Retry};
     ghost use Rattle.pg_account.specs.Histories.{AreInRows};
     ghost use Rattle.pg_frame_world.specs.Worlds.{traffic_of, view_of, has_port, has_places};
     ghost use Rattle.pg_frame_world.specs.Worlds.{TimedFrameWorld, ShowsWorld, ComesTo, StepComesTo};
-    ghost use Rattle.pg_step.specs.LossLaws.{LosingFrameWorld};
+    ghost use Rattle.pg_node_state.specs.PgStep.LossLaws.{LosingFrameWorld};
     ghost use Rattle.pg_frame_world.specs.Losing.{lost_of, lost_after, formed_after, told_of, ShowsLosing, LosingComesTo};
 
     /// These nodes, and what is on the way from each of them, where nothing has begun.

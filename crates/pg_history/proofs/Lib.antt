@@ -7,3 +7,6 @@ pub mod references
 pub mod steps
 pub mod tables
 pub mod tried
+pub use Rattle.pg_step.proofs.PgGroup
+pub use Rattle.pg_step.proofs.PgMachine
+pub use Rattle.pg_step.proofs as PgStep

@@ -1,10 +1,10 @@
 -- Locks are exclusive: a lock of a group at a node is of one command alone, and so is the turn of a group to be changed.
 use Rattle.std.specs.Prelude.{◌≡◌, ℕ, Bool, true}
 use Rattle.pg_term.specs.declared.term.Term.{Term}
-use Rattle.pg_group.specs.declared.update.Update.{Update}
-use Rattle.pg_group.specs.Value.{name_of}
-use Rattle.pg_lock.specs.Locks.{is_holder}
-use Rattle.pg_refs.specs.Numbered.{numbered}
+use Rattle.pg_step.specs.PgGroup.declared.update.Update.{Update}
+use Rattle.pg_step.specs.PgGroup.Value.{name_of}
+use Rattle.pg_step.specs.PgLock.Locks.{is_holder}
+use Rattle.pg_step.specs.PgRefs.Numbered.{numbered}
 use Rattle.pg_step.specs.declared.command.OpId.{OpId}
 use Rattle.pg_step.specs.Config.{Config, name_at}
 use Rattle.pg_step.specs.Nodes.{Node}

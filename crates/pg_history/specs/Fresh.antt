@@ -3,7 +3,7 @@ use Rattle.std.specs.Prelude.{◌≡◌, ℕ, zero, suc, ◌+◌, cond, nat_eq, 
 use Rattle.std.specs.List.{IsDistinct}
 use Rattle.pg_term.specs.declared.pid.Pid.{Pid}
 use Rattle.pg_term.specs.Same.{same_pid}
-use Rattle.pg_ends.specs.Numbers.{pid_of}
+use Rattle.pg_step.specs.PgEnds.Numbers.{pid_of}
 use Rattle.pg_step.specs.declared.command.OpId.{OpId}
 use Rattle.pg_step.specs.declared.answer.Reply.TheVariants as reply
 use Rattle.pg_step.specs.Config.{Config, made_at, name_at}

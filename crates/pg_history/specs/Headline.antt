@@ -5,15 +5,15 @@ use Rattle.std.specs.Prelude.{List, ◌∷◌, ◌++◌, [], length, take, Some,
 use Rattle.std.specs.List.{AllByRecursion}
 use Rattle.pg_term.specs.declared.pid.Pid.{Pid}
 use Rattle.pg_term.specs.declared.term.Term.{Term}
-use Rattle.pg_group.specs.Value.{less}
-use Rattle.pg_refs.specs.Numbered.{numbered}
-use Rattle.pg_lock.specs.Locks.{is_holder}
-use Rattle.pg_message.specs.declared.message.Message.{Message}
+use Rattle.pg_step.specs.PgGroup.Value.{less}
+use Rattle.pg_step.specs.PgRefs.Numbered.{numbered}
+use Rattle.pg_step.specs.PgLock.Locks.{is_holder}
+use Rattle.pg_step.specs.PgMessage.declared.message.Message.{Message}
 use Rattle.pg_step.specs.declared.command.Command.{Command}
 use Rattle.pg_step.specs.declared.command.OpId.{OpId}
-use Rattle.pg_machine.specs.Clocked.{plain}
-use Rattle.pg_machine.specs.Machine.{Event, Taken, Do}
-use Rattle.pg_machine.specs.Places.{is_place, is_pair}
+use Rattle.pg_step.specs.PgMachine.Clocked.{plain}
+use Rattle.pg_step.specs.PgMachine.Machine.{Event, Taken, Do}
+use Rattle.pg_step.specs.PgMachine.Places.{is_place, is_pair}
 use Rattle.pg_step.specs.Turns.{Report}
 use Rattle.pg_step.specs.Step.{Action, Issue}
 use Rattle.pg_step.specs.State.{Response}

@@ -4,16 +4,16 @@ use Rattle.std.specs.Prelude.{slice_get, List, [], ◌∷◌, ◌++◌, length, 
 use Rattle.pg_term.specs.declared.pid.Pid.{Pid}
 use Rattle.pg_term.specs.declared.term.Term.{Term}
 use Rattle.pg_term.specs.Same.{same_term, same_atom}
-use Rattle.pg_group.specs.declared.update.Update.{Update}
-use Rattle.pg_group.specs.Value.{Value, apply, merge, name_of}
+use Rattle.pg_step.specs.PgGroup.declared.update.Update.{Update}
+use Rattle.pg_step.specs.PgGroup.Value.{Value, apply, merge, name_of}
 use Rattle.pg_step.specs.declared.command.OpId.{OpId}
 use Rattle.pg_step.specs.declared.command.Command.{Command}
 use Rattle.pg_step.specs.declared.command.Command.TheVariants as command
 use Rattle.pg_step.specs.declared.answer.Reply.TheVariants as reply
 use Rattle.std.specs.List.{Contains, count_by, list_any}
-use Rattle.pg_machine.specs.Machine.{Event, Do}
+use Rattle.pg_step.specs.PgMachine.Machine.{Event, Do}
 use Rattle.pg_step.specs.Step.{Action, Issue}
-use Rattle.pg_machine.specs.Places.{is_place}
+use Rattle.pg_step.specs.PgMachine.Places.{is_place}
 use Rattle.pg_step.specs.Nodes.{Node}
 use Rattle.pg_step.specs.State.{Response, formed}
 use Rattle.pg_step.specs.State.Response.{Given}

@@ -2,13 +2,13 @@
 use Rattle.std.specs.Prelude.{◌≡◌, Bool, true, cond, nat_le, Option, Some, None}
 use Rattle.pg_term.specs.declared.pid.Pid.{Pid}
 use Rattle.pg_term.specs.Same.{same_pid}
-use Rattle.pg_group.specs.declared.update.Update.{Update}
-use Rattle.pg_group.specs.Functions.{upd}
-use Rattle.pg_group.specs.Table.{Table, changed, without}
-use Rattle.pg_group.specs.Value.{name_of}
-use Rattle.pg_exchange.specs.GroupList.{GroupList, all_merged}
-use Rattle.pg_message.specs.declared.message.Message.{Message}
-use Rattle.pg_machine.specs.Machine.{Turn}
+use Rattle.pg_step.specs.PgGroup.declared.update.Update.{Update}
+use Rattle.pg_step.specs.PgGroup.Functions.{upd}
+use Rattle.pg_step.specs.PgGroup.Table.{Table, changed, without}
+use Rattle.pg_step.specs.PgGroup.Value.{name_of}
+use Rattle.pg_step.specs.PgExchange.GroupList.{GroupList, all_merged}
+use Rattle.pg_step.specs.PgMessage.declared.message.Message.{Message}
+use Rattle.pg_step.specs.PgMachine.Machine.{Turn}
 use Rattle.pg_step.specs.declared.answer.Reply.{Reply}
 use Rattle.pg_step.specs.declared.answer.Reply.TheVariants as reply
 use Rattle.pg_step.specs.declared.command.Command.{Command}

@@ -10,3 +10,12 @@ pub mod RealTime
 pub mod ReferencesFit
 pub mod Sent
 pub mod WithLosses
+pub use Rattle.pg_step.specs.PgEnds
+pub use Rattle.pg_step.specs.PgExchange
+pub use Rattle.pg_step.specs.PgGroup
+pub use Rattle.pg_step.specs.PgLock
+pub use Rattle.pg_step.specs.PgMachine
+pub use Rattle.pg_step.specs.PgMessage
+pub use Rattle.pg_step.specs.PgMulticall
+pub use Rattle.pg_step.specs.PgRefs
+pub use Rattle.pg_step.specs as PgStep

@@ -2,10 +2,10 @@
 use Rattle.std.specs.Prelude.{◌≡◌, ℕ, zero, suc, ◌+◌, ◌-◌, ◌*◌, ◌<◌, ◌≤◌, Bool, true}
 use Rattle.std.specs.Prelude.{false, nat_lt, List, [], ◌∷◌, Some, None, length}
 use Rattle.pg_term.specs.declared.term.Term.{Term}
-use Rattle.pg_message.specs.declared.message.Message.{Message}
-use Rattle.pg_machine.specs.Clocked.{Stamped, plain}
-use Rattle.pg_machine.specs.Machine.{Event, Take, Do, happens}
-use Rattle.pg_machine.specs.Places.{is_place, is_pair}
+use Rattle.pg_step.specs.PgMessage.declared.message.Message.{Message}
+use Rattle.pg_step.specs.PgMachine.Clocked.{Stamped, plain}
+use Rattle.pg_step.specs.PgMachine.Machine.{Event, Take, Do, happens}
+use Rattle.pg_step.specs.PgMachine.Places.{is_place, is_pair}
 use Rattle.pg_step.specs.declared.command.OpId.{OpId}
 use Rattle.pg_step.specs.Nodes.{Node}
 use Rattle.pg_step.specs.State.{State, Stage}

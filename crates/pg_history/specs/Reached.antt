@@ -1,11 +1,11 @@
 -- The worlds that the nodes of a configuration come to, and words for them.
 use Rattle.std.specs.Prelude.{◌≡◌, ℕ, true, List, ◌∷◌, ◌++◌, length}
 use Rattle.pg_term.specs.declared.pid.Pid.{Pid}
-use Rattle.pg_message.specs.declared.message.Message.{Message}
-use Rattle.pg_machine.specs.Places.{is_place}
-use Rattle.pg_machine.specs.Machine.{Event, Do, start_of}
-use Rattle.pg_machine.specs.Clocked.{TimedWorld}
-use Rattle.pg_machine.specs.Runs.{Leads}
+use Rattle.pg_step.specs.PgMessage.declared.message.Message.{Message}
+use Rattle.pg_step.specs.PgMachine.Places.{is_place}
+use Rattle.pg_step.specs.PgMachine.Machine.{Event, Do, start_of}
+use Rattle.pg_step.specs.PgMachine.Clocked.{TimedWorld}
+use Rattle.pg_step.specs.PgMachine.Runs.{Leads}
 use Rattle.pg_step.specs.declared.command.Command.TheVariants.{Finish}
 use Rattle.pg_step.specs.State.{State}
 use Rattle.pg_step.specs.Turns.{Report}

@@ -1,9 +1,9 @@
 -- The history of a group goes by real time: what was answered before another command came in comes before it.
 use Rattle.std.specs.Prelude.{◌≡◌, ℕ, ◌<◌, ◌≤◌, true, List, ◌∷◌, ◌++◌, length, None}
 use Rattle.pg_term.specs.declared.term.Term.{Term}
-use Rattle.pg_machine.specs.Clocked.{plain}
-use Rattle.pg_machine.specs.Machine.{Event}
-use Rattle.pg_machine.specs.Places.{is_place}
+use Rattle.pg_step.specs.PgMachine.Clocked.{plain}
+use Rattle.pg_step.specs.PgMachine.Machine.{Event}
+use Rattle.pg_step.specs.PgMachine.Places.{is_place}
 use Rattle.pg_step.specs.declared.command.OpId.{OpId}
 use Rattle.pg_step.specs.Config.{Config}
 use Rattle.pg_step.specs.FrameMachine.{FrameWorld}

@@ -1,6 +1,6 @@
 -- How the references of a node, its commands and their counts belong together, and what references are used for.
 use Rattle.std.specs.Prelude.{◌≡◌, ℕ, ◌<◌}
-use Rattle.pg_group.specs.Value.{name_of}
+use Rattle.pg_step.specs.PgGroup.Value.{name_of}
 use Rattle.pg_step.specs.declared.command.OpId.{OpId}
 use Rattle.pg_step.specs.State.{State, Use, Stage}
 use Rattle.pg_step.specs.State.Use.{Fresh, Locking, Owning, Updating, Spent}

@@ -1,9 +1,9 @@
 -- What messages on a way tell, but for locks and updates.
 use Rattle.std.specs.Prelude.{Bool, true, false, List, [], ◌∷◌}
 use Rattle.pg_term.specs.declared.pid.Pid.{Pid}
-use Rattle.pg_exchange.specs.GroupList.{GroupList}
-use Rattle.pg_message.specs.declared.message.Message.{Message}
-use Rattle.pg_message.specs.declared.message.Message.TheVariants.{Reply, Exchange, Down}
+use Rattle.pg_step.specs.PgExchange.GroupList.{GroupList}
+use Rattle.pg_step.specs.PgMessage.declared.message.Message.{Message}
+use Rattle.pg_step.specs.PgMessage.declared.message.Message.TheVariants.{Reply, Exchange, Down}
 use Rattle.pg_step.specs.Nodes.{Node}
 use Rattle.pg_history.specs.History.{all_reported}
 

@@ -10,10 +10,10 @@ use Rattle.pg_term.specs.declared.pid.Pid.{Pid}
 use Rattle.pg_term.specs.declared.term.Term.{Term}
 use Rattle.pg_term.specs.RefParts.{RefParts}
 use Rattle.pg_term.specs.Same.{same_atom}
-use Rattle.pg_group.specs.Value.{less}
-use Rattle.pg_machine.specs.Losing.{Lose, LosingEvent, LosingLeads, nobody_gone}
-use Rattle.pg_machine.specs.Machine.{start_of}
-use Rattle.pg_machine.specs.Places.{is_place}
+use Rattle.pg_step.specs.PgGroup.Value.{less}
+use Rattle.pg_step.specs.PgMachine.Losing.{Lose, LosingEvent, LosingLeads, nobody_gone}
+use Rattle.pg_step.specs.PgMachine.Machine.{start_of}
+use Rattle.pg_step.specs.PgMachine.Places.{is_place}
 use Rattle.pg_step.specs.Config.{Config, name_at, names_of, nodes_at}
 use Rattle.pg_step.specs.FrameMachine.{last_notice, losing_frame_machine}
 use Rattle.pg_step.specs.LossLaws.{LosingFrameWorld}

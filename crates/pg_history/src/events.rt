@@ -1,7 +1,7 @@
 ghost use Rattle.std.specs.Prelude.{◌≡◌, ◌↔◌, ℕ, None, Some};
-ghost use Rattle.pg_group.specs.declared.update.Update.{Update};
-ghost use Rattle.pg_message.specs.declared.message.Message.{Message};
-ghost use Rattle.pg_machine.specs.Machine.{Input, Turn};
+ghost use Rattle.pg_step.specs.PgGroup.declared.update.Update.{Update};
+ghost use Rattle.pg_step.specs.PgMessage.declared.message.Message.{Message};
+ghost use Rattle.pg_step.specs.PgMachine.Machine.{Input, Turn};
 ghost use Rattle.pg_step.specs.declared.answer.Reply.{Reply};
 ghost use Rattle.pg_step.specs.declared.command.Command.{Command};
 ghost use Rattle.pg_step.specs.declared.command_fault.CommandFault.{CommandFault};

@@ -1,8 +1,8 @@
 ghost use Rattle.std.specs.Prelude.{◌≡◌, ◌++◌, ℕ, List, true};
 ghost use Rattle.pg_term.specs.declared.pid.Pid.{Pid};
-ghost use Rattle.pg_machine.specs.Machine.{Event};
-ghost use Rattle.pg_machine.specs.Clocked.{plain};
-ghost use Rattle.pg_machine.specs.Runs.{Leads};
+ghost use Rattle.pg_step.specs.PgMachine.Machine.{Event};
+ghost use Rattle.pg_step.specs.PgMachine.Clocked.{plain};
+ghost use Rattle.pg_step.specs.PgMachine.Runs.{Leads};
 ghost use Rattle.pg_step.specs.Config.{Config};
 ghost use Rattle.pg_step.specs.FrameMachine.{frame_machine};
 ghost use Rattle.pg_step.specs.State.{Response};

@@ -4,10 +4,10 @@ use Rattle.std.proofs.Common.{nat_lt, map, drop, List, [], ◌∷◌, ◌++◌, 
 use Rattle.std.specs.List.{AllByRecursion}
 use Rattle.std.proofs.lemmas.Bool.{ltb-true}
 use Rattle.std.proofs.lemmas.List.{drop-drop}
-use Rattle.pg_machine.specs.Places.{is_pair}
-use Rattle.pg_machine.specs.Machine.{Machine}
-use Rattle.pg_machine.specs.Clocked.{Timed, Stamped}
-use Rattle.pg_machine.specs.Timely.{KeepsTime}
+use Rattle.pg_world.specs.PgMachine.Places.{is_pair}
+use Rattle.pg_world.specs.PgMachine.Machine.{Machine}
+use Rattle.pg_world.specs.PgMachine.Clocked.{Timed, Stamped}
+use Rattle.pg_world.specs.PgMachine.Timely.{KeepsTime}
 use Rattle.pg_joining.specs.Logs.{LoggedAct, NodeLeads, sent_to}
 
 pub all_append : {A : Type 0} (Q : A → Type 0) (xs ys : List A) → AllByRecursion Q xs → AllByRecursion Q ys → AllByRecursion Q (xs ++ ys)

@@ -1,18 +1,18 @@
 -- The answers that a node gave by its acts are those that are reported of it.
 use Rattle.std.proofs.Common.{◌≡◌, ℕ, Bool, true, false, cond, nat_eq, map, List, []}
 use Rattle.std.proofs.Common.{◌∷◌, ◌++◌, refl, sym, ap, subst, append_assoc, append-nil}
-use Rattle.pg_machine.specs.Runs.{reported_by}
-use Rattle.pg_history.specs.History.{all_reported, answer_at, answers_by}
+use Rattle.pg_world.specs.PgMachine.Runs.{reported_by}
+use Rattle.pg_world.specs.PgHistory.History.{all_reported, answer_at, answers_by}
 use Rattle.pg_joining.specs.Logs.{reports_of}
-use Rattle.pg_opens.specs.Places.{name_at}
+use Rattle.pg_world.specs.PgOpens.Places.{name_at}
 use Rattle.pg_run.specs.Acts.{Act, Standing, AllLead}
-use Rattle.pg_step.specs.Config.{Config}
-use Rattle.pg_step.specs.Nodes.{Node}
-use Rattle.pg_step.specs.State.{Response}
-use Rattle.pg_step.specs.Turns.{Report}
+use Rattle.pg_world.specs.PgStep.Config.{Config}
+use Rattle.pg_world.specs.PgStep.Nodes.{Node}
+use Rattle.pg_world.specs.PgStep.State.{Response}
+use Rattle.pg_world.specs.PgStep.Turns.{Report}
 use Rattle.pg_joining.proofs.Turns.{act_at}
-use Rattle.pg_frame_world.specs.Worlds.{AreAnswers}
-use Rattle.pg_frame_world.proofs.Answering.{answers_given}
+use Rattle.pg_world.specs.PgFrameWorld.Worlds.{AreAnswers}
+use Rattle.pg_world.proofs.PgFrameWorld.Answering.{answers_given}
 
 -- what a report tells of a port
 abbrev pub given_at : ℕ → Report → List (ℕ × Response)

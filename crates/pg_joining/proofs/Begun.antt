@@ -5,26 +5,26 @@ use Rattle.std.specs.Prelude.{option_map}
 use Rattle.std.specs.List.{IsDistinct}
 use Rattle.std.proofs.lemmas.Option.{slice_get-map, slice_get_within, get_or_from_slice_get}
 use Rattle.std.proofs.lemmas.List.{get_or-map, get_or-replicate, length-map}
-use Rattle.pg_group.specs.declared.table.GroupTable.{Ghosts}
-use Rattle.pg_machine.specs.Machine.{start_of}
-use Rattle.pg_machine.specs.Places.{is_pair}
-use Rattle.pg_node.specs.declared.node.Node.{Node}
-use Rattle.pg_node_state.specs.Issued.{ports_of}
-use Rattle.pg_node.specs.Links.{Link}
-use Rattle.pg_node.specs.Nodes.{held_by, links_of}
+use Rattle.pg_world.specs.PgGroup.declared.table.GroupTable.{Ghosts}
+use Rattle.pg_world.specs.PgMachine.Machine.{start_of}
+use Rattle.pg_world.specs.PgMachine.Places.{is_pair}
+use Rattle.pg_world.specs.PgNode.declared.node.Node.{Node}
+use Rattle.pg_world.specs.PgNodeState.Issued.{ports_of}
+use Rattle.pg_world.specs.PgNode.Links.{Link}
+use Rattle.pg_world.specs.PgNode.Nodes.{held_by, links_of}
 use Rattle.pg_run.specs.Acts.{AllLead}
 use Rattle.pg_run.specs.Follows.{node_of, peers_of, standing_of}
-use Rattle.pg_step.specs.Config.{Config, names_of as names_in, nodes_at, ports_at}
-use Rattle.pg_step.specs.FrameMachine.{frame_machine}
-use Rattle.pg_step.specs.Nodes.{all_of}
+use Rattle.pg_world.specs.PgStep.Config.{Config, names_of as names_in, nodes_at, ports_at}
+use Rattle.pg_world.specs.PgStep.FrameMachine.{frame_machine}
+use Rattle.pg_world.specs.PgStep.Nodes.{all_of}
 use Rattle.pg_term.specs.Same.{same_atom}
 use Rattle.pg_joining.specs.Apart.{Linked, HaveRun}
 use Rattle.pg_joining.proofs.Sent.{frames_on}
 use Rattle.pg_world.specs.Crossings.{no_links, node_of as seen_node}
-use Rattle.pg_frame_world.specs.Views.{peer_place}
-use Rattle.pg_frame_world.specs.Worlds.{ShowsNode}
-use Rattle.pg_frame_world.proofs.Peering.{place_within}
-use Rattle.pg_frame_world.proofs.Turning.{pair_is}
+use Rattle.pg_world.specs.PgFrameWorld.Views.{peer_place}
+use Rattle.pg_world.specs.PgFrameWorld.Worlds.{ShowsNode}
+use Rattle.pg_world.proofs.PgFrameWorld.Peering.{place_within}
+use Rattle.pg_world.proofs.PgFrameWorld.Turning.{pair_is}
 
 module _ {T : Type 0} {g : Ghosts T} (config : Config) (nodes : List (Node T g)) (begun ended : ℕ → Linked T g) (ran : HaveRun config nodes begun ended) where
   pub apart : IsDistinct same_atom (names_in config)

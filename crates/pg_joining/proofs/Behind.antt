@@ -4,8 +4,8 @@ use Rattle.std.proofs.Common.{List, [], ◌∷◌, ◌++◌, refl, ap, sym, ◌�
 use Rattle.std.specs.List.{AllByRecursion, flat_map}
 use Rattle.std.proofs.lemmas.Bool.{cases_eq, cases_lt, eq-eqb, ne_eqb, lt-ltb, le-ltb, ltb-true, ltb-false, eqb-true}
 use Rattle.std.proofs.lemmas.List.{append-nil, append_assoc, length-drop}
-use Rattle.pg_machine.specs.Places.{set_at}
-use Rattle.pg_machine.proofs.Places.{set_at_here, set_at_other}
+use Rattle.pg_world.specs.PgMachine.Places.{set_at}
+use Rattle.pg_world.proofs.PgMachine.Places.{set_at_here, set_at_other}
 use Rattle.pg_joining.specs.Merge.{ComesFirst, IsNext, rest_of, MergesRest, Merges}
 use Rattle.pg_joining.specs.Losses.{last_from, with_loss, loss_alone, losses_alone, loss_behind, with_losses}
 use Rattle.pg_joining.proofs.Acts.{drop_next}

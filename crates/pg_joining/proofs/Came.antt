@@ -3,22 +3,22 @@ use Rattle.std.proofs.Common.{◌≡◌, ◌≢◌, ◌∙◌, ℕ, Bool, true, 
 use Rattle.std.proofs.Common.{◌++◌, Some, None, Ok, Result, refl, sym, ap, subst, append_assoc, arith}
 use Rattle.std.specs.List.{flat_map}
 use Rattle.std.proofs.Math.ListN.{drop_of_length-le}
-use Rattle.pg_frame.specs.Frames.{frame, front_of, behind}
-use Rattle.pg_frame.specs.Laws.{PiecesContinue, WrittenIsRead}
-use Rattle.pg_message.specs.declared.message.Message.{Message}
-use Rattle.pg_message.specs.declared.packet.Packet.{Packet}
-use Rattle.pg_message.specs.Reading.{packet_spelled}
-use Rattle.pg_machine.specs.Clocked.{Stamped}
+use Rattle.pg_world.specs.PgFrame.Frames.{frame, front_of, behind}
+use Rattle.pg_world.specs.PgFrame.Laws.{PiecesContinue, WrittenIsRead}
+use Rattle.pg_world.specs.PgMessage.declared.message.Message.{Message}
+use Rattle.pg_world.specs.PgMessage.declared.packet.Packet.{Packet}
+use Rattle.pg_world.specs.PgMessage.Reading.{packet_spelled}
+use Rattle.pg_world.specs.PgMachine.Clocked.{Stamped}
 use Rattle.pg_joining.specs.Logs.{packet_from, taken_from}
-use Rattle.pg_sends.specs.Sent.{stamped_of}
+use Rattle.pg_world.specs.PgSends.Sent.{stamped_of}
 use Rattle.pg_run.specs.Acts.{Act, Given, Took, Saw, Did, Came, IsFrameOf, Standing, AllLead, is_from, frames_taken}
-use Rattle.pg_step.specs.Config.{Config}
-use Rattle.pg_step.specs.Nodes.{Node}
+use Rattle.pg_world.specs.PgStep.Config.{Config}
+use Rattle.pg_world.specs.PgStep.Nodes.{Node}
 use Rattle.pg_joining.proofs.Sent.{frames_on, CanAllCross}
 use Rattle.pg_joining.proofs.Turns.{act_at, input_at}
 use Rattle.pg_world.specs.Crossings.{packet_as, written_of}
-use Rattle.pg_frame_world.specs.Views.{peer_place}
-use Rattle.pg_frame_world.proofs.Peering.{same_place}
+use Rattle.pg_world.specs.PgFrameWorld.Views.{peer_place}
+use Rattle.pg_world.proofs.PgFrameWorld.Peering.{same_place}
 
 -- the packet of an input, where it is one of the peer at a place
 abbrev pub packet_of_peer : ℕ → Given → List (Stamped Message)

@@ -2,27 +2,27 @@
 use Rattle.std.proofs.Common.{◌≡◌, ◌<◌, ◌∙◌, ℕ, true, drop, length, map, List}
 use Rattle.std.proofs.Common.{[], ◌∷◌, ◌++◌, sym, ap, subst, append_assoc, arith}
 use Rattle.std.proofs.Math.Seq.{drop-append_seam}
-use Rattle.pg_frame.specs.Laws.{PiecesContinue, WrittenIsRead}
-use Rattle.pg_group.specs.declared.table.GroupTable.{Ghosts}
-use Rattle.pg_machine.specs.Places.{is_pair}
-use Rattle.pg_machine.specs.Clocked.{Stamped}
-use Rattle.pg_message.specs.declared.message.Message.{Message}
+use Rattle.pg_world.specs.PgFrame.Laws.{PiecesContinue, WrittenIsRead}
+use Rattle.pg_world.specs.PgGroup.declared.table.GroupTable.{Ghosts}
+use Rattle.pg_world.specs.PgMachine.Places.{is_pair}
+use Rattle.pg_world.specs.PgMachine.Clocked.{Stamped}
+use Rattle.pg_world.specs.PgMessage.declared.message.Message.{Message}
 use Rattle.pg_joining.specs.Logs.{sent_to, taken_from}
-use Rattle.pg_node.specs.declared.node.Node.{Node}
-use Rattle.pg_node.specs.Nodes.{links_of}
+use Rattle.pg_world.specs.PgNode.declared.node.Node.{Node}
+use Rattle.pg_world.specs.PgNode.Nodes.{links_of}
 use Rattle.pg_run.specs.Acts.{frames_sent, frames_taken}
 use Rattle.pg_run.specs.Follows.{node_of, peers_of, standing_of}
-use Rattle.pg_step.specs.Config.{Config, nodes_at, ports_at}
-use Rattle.pg_step.specs.FrameMachine.{frame_machine}
-use Rattle.pg_step.specs.Nodes.{all_of}
+use Rattle.pg_world.specs.PgStep.Config.{Config, nodes_at, ports_at}
+use Rattle.pg_world.specs.PgStep.FrameMachine.{frame_machine}
+use Rattle.pg_world.specs.PgStep.Nodes.{all_of}
 use Rattle.pg_joining.specs.Apart.{End, Linked, HaveRun, Unseen}
 use Rattle.pg_joining.proofs.Begun.{apart, leads, opened, place_there}
 use Rattle.pg_joining.proofs.Came.{Leaves, all_acts, left_can_cross, packets_taken, taken_alike}
 use Rattle.pg_joining.proofs.Sent.{CanAllCross, cross_join, frames_are, frames_join}
 use Rattle.pg_joining.proofs.Sent.{frames_on, packets_sent, sent_alike, sent_can_cross}
 use Rattle.pg_joining.proofs.Turns.{act_at}
-use Rattle.pg_frame_world.specs.Views.{peer_place}
-use Rattle.pg_frame_world.proofs.Turning.{pair_is, pair_turned}
+use Rattle.pg_world.specs.PgFrameWorld.Views.{peer_place}
+use Rattle.pg_world.proofs.PgFrameWorld.Turning.{pair_is, pair_turned}
 
 -- one of a list that has a place
 one_of : {A : Type 0} (xs : List A) (k : ℕ) → k < length xs → A

@@ -5,39 +5,39 @@ use Rattle.std.proofs.Common.{Result, refl, sym, ap, subst, inl, inr, ◌⊎◌,
 use Rattle.std.specs.List.{IsDistinct, filter, flat_map, list_any}
 use Rattle.std.proofs.lemmas.Bool.{cases_eq, eq-eqb, ne_eqb, eqb-true, lt-ltb}
 use Rattle.pg_term.specs.Same.{same_atom}
-use Rattle.pg_group.specs.Functions.{upd}
-use Rattle.pg_message.specs.declared.message.Message.{Message}
-use Rattle.pg_machine.specs.Clocked.{Timed, Stamped, stamped}
-use Rattle.pg_machine.specs.Losing.{Noticed}
-use Rattle.pg_machine.specs.Machine.{Taken, Own}
+use Rattle.pg_world.specs.PgGroup.Functions.{upd}
+use Rattle.pg_world.specs.PgMessage.declared.message.Message.{Message}
+use Rattle.pg_world.specs.PgMachine.Clocked.{Timed, Stamped, stamped}
+use Rattle.pg_world.specs.PgMachine.Losing.{Noticed}
+use Rattle.pg_world.specs.PgMachine.Machine.{Taken, Own}
 use Rattle.pg_joining.specs.Logs.{packet_from, taken_from}
-use Rattle.pg_opens.specs.Places.{name_at}
+use Rattle.pg_world.specs.PgOpens.Places.{name_at}
 use Rattle.pg_run.specs.declared.log.NodeEvent.{NodeEvent}
 use Rattle.pg_run.specs.declared.log.NodeEvent.TheVariants as entries
 use Rattle.pg_run.specs.Acts.{Act, Given, Took, Saw, Did, IsFromPeer, Standing, ActLeads}
 use Rattle.pg_run.specs.Acts.{AllLead, log_entry, event_of, loss_of, losses_of, act_step}
-use Rattle.pg_step.specs.Config.{Config, name_at as config_name, names_of, nodes_at, ports_at}
-use Rattle.pg_step.specs.FrameMachine.{placed, place_turn, sent_packet}
-use Rattle.pg_step.specs.Losses.{see_loss}
-use Rattle.pg_step.specs.Nodes.{Node, Nodes, all_of, is_peer}
-use Rattle.pg_step.specs.State.{State, live_nodes}
-use Rattle.pg_step.specs.Step.{Issue, Retry, TimedTurn, CLOCK_LIMIT, acted}
-use Rattle.pg_step.specs.Step.{at_clock, node_acts, node_takes, taken, timed}
-use Rattle.pg_step.specs.Turns.{NodeTurn}
-use Rattle.pg_step.specs.declared.refusal.Refusal.{Refusal}
-use Rattle.pg_step.specs.declared.refusal.Refusal.TheVariants.{NotAMessage, NoSuchPlace, NodeLost}
-use Rattle.pg_step.specs.declared.refusal.Refusal.TheVariants.{NotLost, NotDrained, NotWaiting, ClockFull}
-use Rattle.pg_step.proofs.Once.{Once, OnceIfOk, acts_once, same_is, takes_once}
-use Rattle.pg_step.proofs.Peers.{alone}
-use Rattle.pg_history.proofs.steps.Lossless.{step_sees_none}
-use Rattle.pg_opens.proofs.Named.{atom_self}
+use Rattle.pg_world.specs.PgStep.Config.{Config, name_at as config_name, names_of, nodes_at, ports_at}
+use Rattle.pg_world.specs.PgStep.FrameMachine.{placed, place_turn, sent_packet}
+use Rattle.pg_world.specs.PgStep.Losses.{see_loss}
+use Rattle.pg_world.specs.PgStep.Nodes.{Node, Nodes, all_of, is_peer}
+use Rattle.pg_world.specs.PgStep.State.{State, live_nodes}
+use Rattle.pg_world.specs.PgStep.Step.{Issue, Retry, TimedTurn, CLOCK_LIMIT, acted}
+use Rattle.pg_world.specs.PgStep.Step.{at_clock, node_acts, node_takes, taken, timed}
+use Rattle.pg_world.specs.PgStep.Turns.{NodeTurn}
+use Rattle.pg_world.specs.PgStep.declared.refusal.Refusal.{Refusal}
+use Rattle.pg_world.specs.PgStep.declared.refusal.Refusal.TheVariants.{NotAMessage, NoSuchPlace, NodeLost}
+use Rattle.pg_world.specs.PgStep.declared.refusal.Refusal.TheVariants.{NotLost, NotDrained, NotWaiting, ClockFull}
+use Rattle.pg_world.proofs.PgStep.Once.{Once, OnceIfOk, acts_once, same_is, takes_once}
+use Rattle.pg_world.proofs.PgStep.Peers.{alone}
+use Rattle.pg_world.proofs.PgHistory.steps.Lossless.{step_sees_none}
+use Rattle.pg_world.proofs.PgOpens.Named.{atom_self}
 use Rattle.pg_joining.proofs.Came.{packet_of_peer, packets_taken}
 use Rattle.pg_joining.proofs.Noticed.{losing_act, losing_input, notice_at}
 use Rattle.pg_joining.proofs.Sent.{packets_sent}
 use Rattle.pg_joining.proofs.Told.{Ceases}
 use Rattle.pg_joining.specs.ApartWithLosses.{is_take, takes_of}
-use Rattle.pg_frame_world.specs.Views.{packets_to, peer_place, place_of_peer}
-use Rattle.pg_frame_world.proofs.Peering.{named, own_place, peer_name, same_place, sent_to, there_and_back}
+use Rattle.pg_world.specs.PgFrameWorld.Views.{packets_to, peer_place, place_of_peer}
+use Rattle.pg_world.proofs.PgFrameWorld.Peering.{named, own_place, peer_name, same_place, sent_to, there_and_back}
 
 none_more : (n : ℕ) → 0 + n ≡ n
 none_more n = omega arith

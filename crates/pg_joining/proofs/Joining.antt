@@ -4,14 +4,14 @@ use Rattle.std.proofs.Common.{◌∷◌, ◌++◌, Some, refl, ap, sym, ◌∙�
 use Rattle.std.specs.List.{AllByRecursion}
 use Rattle.std.proofs.lemmas.Bool.{cases_eq, eq-eqb, ne_eqb}
 use Rattle.std.proofs.lemmas.List.{append-nil, append_assoc, append_cancel_left, drop-map}
-use Rattle.pg_machine.specs.Places.{set_at}
-use Rattle.pg_machine.specs.Machine.{Input, Machine, Event, Taken, Own, is_there, node_of, start_of, happens}
-use Rattle.pg_machine.specs.Runs.{Leads, events_of, reported_by}
-use Rattle.pg_machine.specs.Clocked.{Timed, Stamped, TimedWorld}
-use Rattle.pg_machine.specs.Timely.{KeepsTime}
-use Rattle.pg_machine.proofs.Places.{set_at_here, set_at_other}
-use Rattle.pg_machine.proofs.Sequences.{told_by_append}
-use Rattle.pg_machine.proofs.Steps.{pair_apart}
+use Rattle.pg_world.specs.PgMachine.Places.{set_at}
+use Rattle.pg_world.specs.PgMachine.Machine.{Input, Machine, Event, Taken, Own, is_there, node_of, start_of, happens}
+use Rattle.pg_world.specs.PgMachine.Runs.{Leads, events_of, reported_by}
+use Rattle.pg_world.specs.PgMachine.Clocked.{Timed, Stamped, TimedWorld}
+use Rattle.pg_world.specs.PgMachine.Timely.{KeepsTime}
+use Rattle.pg_world.proofs.PgMachine.Places.{set_at_here, set_at_other}
+use Rattle.pg_world.proofs.PgMachine.Sequences.{told_by_append}
+use Rattle.pg_world.proofs.PgMachine.Steps.{pair_apart}
 use Rattle.pg_joining.specs.Logs.{LoggedAct, event_of, NodeLeads, sent_to, packet_from}
 use Rattle.pg_joining.specs.Logs.{taken_from, log_entry, reports_of, AreLogs}
 use Rattle.pg_joining.specs.Merge.{ComesFirst, IsNext, rest_of, MergesRest, Merges, clocks_of, entry_at, merged_logs}

@@ -20,3 +20,14 @@ pub mod Sorted
 pub mod Sound
 pub mod Told
 pub mod Turns
+pub use Rattle.pg_world.proofs.PgFrame
+pub use Rattle.pg_world.proofs.PgFrameWorld
+pub use Rattle.pg_world.proofs.PgGroup
+pub use Rattle.pg_world.proofs.PgHistory
+pub use Rattle.pg_world.proofs.PgLeft
+pub use Rattle.pg_world.proofs.PgLoss
+pub use Rattle.pg_world.proofs.PgMachine
+pub use Rattle.pg_world.proofs.PgQuery
+pub use Rattle.pg_world.proofs.PgReplica
+pub use Rattle.pg_run.proofs as PgRun
+pub use Rattle.pg_world.proofs.PgStep

@@ -1,27 +1,27 @@
 -- The logs of nodes that ran apart join to one run.
 use Rattle.std.proofs.Common.{◌≡◌, ◌<◌, ◌∙◌, ℕ, true, false, length, map, List, [], ◌∷◌, ◌++◌, refl, sym, ap, subst}
 use Rattle.std.proofs.lemmas.Simd.{map-map}
-use Rattle.pg_frame.specs.Laws.{PiecesContinue, WrittenIsRead}
-use Rattle.pg_group.specs.declared.table.GroupTable.{Ghosts}
-use Rattle.pg_machine.specs.Machine.{Event}
-use Rattle.pg_machine.specs.Clocked.{Timed, plain}
-use Rattle.pg_machine.specs.Places.{is_pair}
-use Rattle.pg_history.specs.Headline.{OneHistory}
-use Rattle.pg_history.specs.History.{all_reported, answers_by}
+use Rattle.pg_world.specs.PgFrame.Laws.{PiecesContinue, WrittenIsRead}
+use Rattle.pg_world.specs.PgGroup.declared.table.GroupTable.{Ghosts}
+use Rattle.pg_world.specs.PgMachine.Machine.{Event}
+use Rattle.pg_world.specs.PgMachine.Clocked.{Timed, plain}
+use Rattle.pg_world.specs.PgMachine.Places.{is_pair}
+use Rattle.pg_world.specs.PgHistory.Headline.{OneHistory}
+use Rattle.pg_world.specs.PgHistory.History.{all_reported, answers_by}
 use Rattle.pg_joining.specs.Joined.{Joined}
 use Rattle.pg_joining.specs.Logs.{AreLogs, NodeLeads, event_of as machine_event, log_entry as machine_entry}
 use Rattle.pg_joining.specs.Merge.{Merges, clocks_of, merged_logs, seen_log}
-use Rattle.pg_node.specs.declared.node.Node.{Node}
-use Rattle.pg_node.specs.Nodes.{held_by, links_of}
-use Rattle.pg_node_state.specs.States.{answers_of, state_of}
+use Rattle.pg_world.specs.PgNode.declared.node.Node.{Node}
+use Rattle.pg_world.specs.PgNode.Nodes.{held_by, links_of}
+use Rattle.pg_world.specs.PgNodeState.States.{answers_of, state_of}
 use Rattle.pg_run.specs.declared.log.NodeEvent.{NodeEvent}
 use Rattle.pg_run.specs.Acts.{Act, Given, Took, Saw, Did, SawNone, log_entry, event_of}
 use Rattle.pg_run.specs.Follows.{log_of, node_of, standing_of}
-use Rattle.pg_step.specs.Config.{Config, name_at, nodes_at, ports_at}
-use Rattle.pg_step.specs.FrameMachine.{frame_machine}
-use Rattle.pg_step.specs.Nodes.{all_of}
-use Rattle.pg_step.specs.State.{Response, State}
-use Rattle.pg_step.specs.Step.{Action, Issue, Retry}
+use Rattle.pg_world.specs.PgStep.Config.{Config, name_at, nodes_at, ports_at}
+use Rattle.pg_world.specs.PgStep.FrameMachine.{frame_machine}
+use Rattle.pg_world.specs.PgStep.Nodes.{all_of}
+use Rattle.pg_world.specs.PgStep.State.{Response, State}
+use Rattle.pg_world.specs.PgStep.Step.{Action, Issue, Retry}
 use Rattle.pg_joining.specs.Apart.{Linked, HaveRun, RanTogether, Unseen, event_at, events_in}
 use Rattle.pg_joining.proofs.Answered.{answers_on, answers_reported, given_at}
 use Rattle.pg_joining.proofs.Begun.{leads, shown}
@@ -29,9 +29,9 @@ use Rattle.pg_joining.proofs.Crossing.{first_taken, left_on, puts_all}
 use Rattle.pg_joining.proofs.Turns.{act_at, first_none, input_at, leads_alike}
 use Rattle.pg_joining.proofs.Turns.{others_none, saw_none, PlacedAct, SeesNone}
 use Rattle.pg_world.specs.Crossings.{node_of as seen_node}
-use Rattle.pg_frame_world.specs.Views.{peer_place}
-use Rattle.pg_frame_world.specs.Worlds.{AreAnswers, ShowsNode}
-use Rattle.pg_frame_world.proofs.Turning.{is_pair_so}
+use Rattle.pg_world.specs.PgFrameWorld.Views.{peer_place}
+use Rattle.pg_world.specs.PgFrameWorld.Worlds.{AreAnswers, ShowsNode}
+use Rattle.pg_world.proofs.PgFrameWorld.Turning.{is_pair_so}
 
 -- ---- entries
 

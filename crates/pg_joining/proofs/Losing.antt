@@ -6,15 +6,15 @@ use Rattle.std.specs.Prelude.{option_map}
 use Rattle.std.specs.List.{AllByRecursion}
 use Rattle.std.proofs.lemmas.Bool.{cases_eq, eq-eqb, ne_eqb, lt-ltb, le-leb}
 use Rattle.std.proofs.lemmas.List.{append-nil, append_assoc, append_cancel_left, drop-map, length-append}
-use Rattle.pg_machine.specs.Places.{is_pair, set_at}
-use Rattle.pg_machine.specs.Machine.{Input, Machine, Taken, Own, is_there, node_of, start_of, happens}
-use Rattle.pg_machine.specs.Runs.{reported_by}
-use Rattle.pg_machine.specs.Clocked.{Timed, Stamped, TimedWorld}
-use Rattle.pg_machine.specs.Timely.{KeepsTime}
-use Rattle.pg_machine.specs.Losing.{LosingWorld, Step, Lose, nobody_gone, each_place, can_keep, stopped, losing_happens}
-use Rattle.pg_machine.proofs.Places.{set_at_here, set_at_other}
-use Rattle.pg_machine.proofs.Sequences.{told_by_append}
-use Rattle.pg_machine.proofs.Steps.{pair_apart}
+use Rattle.pg_world.specs.PgMachine.Places.{is_pair, set_at}
+use Rattle.pg_world.specs.PgMachine.Machine.{Input, Machine, Taken, Own, is_there, node_of, start_of, happens}
+use Rattle.pg_world.specs.PgMachine.Runs.{reported_by}
+use Rattle.pg_world.specs.PgMachine.Clocked.{Timed, Stamped, TimedWorld}
+use Rattle.pg_world.specs.PgMachine.Timely.{KeepsTime}
+use Rattle.pg_world.specs.PgMachine.Losing.{LosingWorld, Step, Lose, nobody_gone, each_place, can_keep, stopped, losing_happens}
+use Rattle.pg_world.proofs.PgMachine.Places.{set_at_here, set_at_other}
+use Rattle.pg_world.proofs.PgMachine.Sequences.{told_by_append}
+use Rattle.pg_world.proofs.PgMachine.Steps.{pair_apart}
 use Rattle.pg_joining.specs.Logs.{LoggedAct, event_of, NodeLeads, sent_to, packet_from, taken_from, reports_of}
 use Rattle.pg_joining.specs.Merge.{ComesFirst, IsNext, rest_of, MergesRest, Merges, clocks_of, entry_at, merged_logs}
 use Rattle.pg_joining.specs.Losses.{Logged, Turned, Stopped, still_kept, events_told, turn_entry, losing_log, arriving}

@@ -5,9 +5,9 @@ use Rattle.std.proofs.Common.{subst, inl, inr, ◌⊎◌, arith, zero, suc, appe
 use Rattle.std.specs.List.{AllByRecursion}
 use Rattle.std.proofs.lemmas.Grind.{flat_map-append}
 use Rattle.std.proofs.lemmas.List.{length-map, map-append}
-use Rattle.pg_frame.specs.Laws.{PiecesContinue, WrittenIsRead}
-use Rattle.pg_group.specs.declared.table.GroupTable.{Ghosts}
-use Rattle.pg_history.specs.History.{all_reported, answers_by}
+use Rattle.pg_world.specs.PgFrame.Laws.{PiecesContinue, WrittenIsRead}
+use Rattle.pg_world.specs.PgGroup.declared.table.GroupTable.{Ghosts}
+use Rattle.pg_world.specs.PgHistory.History.{all_reported, answers_by}
 use Rattle.pg_joining.specs.Logs.{NodeLeads, event_of as machine_event, reports_of, sent_to, taken_from}
 use Rattle.pg_joining.specs.Losses.{AreLosingLogs, Logged, LosingJoined, MarkedEvent, MarkedLeads, Stopped, Turned}
 use Rattle.pg_joining.specs.Losses.{arriving, is_sight, last_from, losing_log, turn_entry, with_loss, with_losses}
@@ -15,28 +15,28 @@ use Rattle.pg_joining.specs.Merge.{IsNext, Merges, MergesRest, clocks_of, merged
 use Rattle.pg_joining.proofs.Behind.{merges_with_losses}
 use Rattle.pg_joining.proofs.Losing.{losing_joined}
 use Rattle.pg_joining.proofs.Seen.{same_clocks}
-use Rattle.pg_loss.specs.Reached.{LosingReaches}
-use Rattle.pg_retries.specs.Survived.{LossesSurvived}
-use Rattle.pg_machine.specs.Clocked.{Timed, Stamped}
-use Rattle.pg_machine.specs.Losing.{LosingLeads, LosingWorld, Noticed, nobody_gone}
-use Rattle.pg_machine.specs.Machine.{Machine, start_of}
-use Rattle.pg_machine.specs.Places.{is_pair, set_at}
-use Rattle.pg_machine.specs.Timely.{KeepsTime}
-use Rattle.pg_message.specs.declared.message.Message.{Message}
-use Rattle.pg_node.specs.declared.node.Node.{Node}
-use Rattle.pg_sends.specs.Frames.{frames_to}
-use Rattle.pg_node.specs.Nodes.{held_by, links_of}
-use Rattle.pg_ring.specs.Ends.{Receives, Sends}
-use Rattle.pg_node_state.specs.States.{answers_of, state_of}
+use Rattle.pg_world.specs.PgLoss.Reached.{LosingReaches}
+use Rattle.pg_world.specs.PgRetries.Survived.{LossesSurvived}
+use Rattle.pg_world.specs.PgMachine.Clocked.{Timed, Stamped}
+use Rattle.pg_world.specs.PgMachine.Losing.{LosingLeads, LosingWorld, Noticed, nobody_gone}
+use Rattle.pg_world.specs.PgMachine.Machine.{Machine, start_of}
+use Rattle.pg_world.specs.PgMachine.Places.{is_pair, set_at}
+use Rattle.pg_world.specs.PgMachine.Timely.{KeepsTime}
+use Rattle.pg_world.specs.PgMessage.declared.message.Message.{Message}
+use Rattle.pg_world.specs.PgNode.declared.node.Node.{Node}
+use Rattle.pg_world.specs.PgSends.Frames.{frames_to}
+use Rattle.pg_world.specs.PgNode.Nodes.{held_by, links_of}
+use Rattle.pg_world.specs.PgRing.Ends.{Receives, Sends}
+use Rattle.pg_world.specs.PgNodeState.States.{answers_of, state_of}
 use Rattle.pg_run.specs.declared.log.NodeEvent.{NodeEvent}
 use Rattle.pg_run.specs.Acts.{Act, Given, Took, Saw, Did, Standing, AllLead, log_entry, event_of, frames_sent, losses_of}
 use Rattle.pg_run.specs.Follows.{HasMoved, WasClosed, log_of, node_of, peers_of, standing_of}
-use Rattle.pg_step.specs.Config.{Config, name_at, nodes_at, ports_at}
-use Rattle.pg_step.specs.FrameMachine.{frame_machine, last_notice, losing_frame_machine, machine_of, sent_packet}
-use Rattle.pg_step.specs.LossLaws.{LosingFrameWorld}
-use Rattle.pg_step.specs.Nodes.{all_of}
-use Rattle.pg_step.specs.State.{Response, State}
-use Rattle.pg_step.specs.Step.{Action, CLOCK_LIMIT, Issue, Retry}
+use Rattle.pg_world.specs.PgStep.Config.{Config, name_at, nodes_at, ports_at}
+use Rattle.pg_world.specs.PgStep.FrameMachine.{frame_machine, last_notice, losing_frame_machine, machine_of, sent_packet}
+use Rattle.pg_world.specs.PgStep.LossLaws.{LosingFrameWorld}
+use Rattle.pg_world.specs.PgStep.Nodes.{all_of}
+use Rattle.pg_world.specs.PgStep.State.{Response, State}
+use Rattle.pg_world.specs.PgStep.Step.{Action, CLOCK_LIMIT, Issue, Retry}
 use Rattle.pg_joining.specs.Apart.{HaveRun, Linked}
 use Rattle.pg_joining.specs.ApartWithLosses.{MarkedReaches, RanPastLosses, SeesLost, without_marks, clock_of}
 use Rattle.pg_joining.specs.ApartWithLosses.{is_last_notice, losing_events, nodes_in, takes_in, takes_of}
@@ -50,9 +50,9 @@ use Rattle.pg_joining.proofs.Sent.{frames_are, frames_on, packets_sent}
 use Rattle.pg_joining.proofs.Told.{Ceases, all_told, full_log, takes_all, turned_at}
 use Rattle.pg_joining.proofs.Turns.{act_at}
 use Rattle.pg_world.specs.Crossings.{node_of as seen_node}
-use Rattle.pg_frame_world.specs.Views.{peer_place}
-use Rattle.pg_frame_world.specs.Worlds.{AreAnswers, ShowsNode}
-use Rattle.pg_frame_world.proofs.Turning.{is_pair_so, pair_is, pair_turned}
+use Rattle.pg_world.specs.PgFrameWorld.Views.{peer_place}
+use Rattle.pg_world.specs.PgFrameWorld.Worlds.{AreAnswers, ShowsNode}
+use Rattle.pg_world.proofs.PgFrameWorld.Turning.{is_pair_so, pair_is, pair_turned}
 
 -- ---- lists
 

@@ -1,10 +1,10 @@
 -- What one turn of a node changes in the world.
 use Rattle.std.proofs.Common.{◌≡◌, ◌≢◌, ℕ, true, cond, List, [], ◌∷◌, ◌++◌, Some, refl, ap, sym, ◌∙◌, inl, inr, ◌⊎◌}
 use Rattle.std.proofs.lemmas.Bool.{cases_eq, eq-eqb, ne_eqb}
-use Rattle.pg_machine.specs.Machine.{Input, Turn, Machine, World, Taken, Own, Take, Do}
-use Rattle.pg_machine.specs.Machine.{is_there, first_from, without_input, perform, happens}
-use Rattle.pg_machine.specs.Happened.{Happened, Changes}
-use Rattle.pg_machine.proofs.Steps.{happens_so, changes}
+use Rattle.pg_world.specs.PgMachine.Machine.{Input, Turn, Machine, World, Taken, Own, Take, Do}
+use Rattle.pg_world.specs.PgMachine.Machine.{is_there, first_from, without_input, perform, happens}
+use Rattle.pg_world.specs.PgMachine.Happened.{Happened, Changes}
+use Rattle.pg_world.proofs.PgMachine.Steps.{happens_so, changes}
 use Rattle.pg_joining.specs.Logs.{event_of, packet_from}
 
 pub record Moved {S P C O : Type 0} (m : Machine S P C O) (w v : World S P O) (i : ℕ) (input : Input P C) (turn : Turn S P O) : Type 0 where

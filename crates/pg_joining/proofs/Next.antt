@@ -2,24 +2,24 @@
 -- tells of it no fault that damages the link, unless it refuses that packet as no message.
 use Rattle.std.proofs.Common.{◌≡◌, ◌∙◌, ℕ, Bool, true, false, cond, List, [], ◌∷◌, ◌++◌}
 use Rattle.std.proofs.Common.{Option, Some, None, Result, Ok, Err, refl, sym, ap, subst}
-use Rattle.pg_frame.specs.declared.fault.TooLong as frame
-use Rattle.pg_frame.specs.Frames.{front_of, too_long}
-use Rattle.pg_frame.specs.Laws.{PiecesContinue, WrittenIsRead}
-use Rattle.pg_machine.specs.Clocked.{Stamped, Timed}
-use Rattle.pg_message.specs.declared.message.Message.{Message}
-use Rattle.pg_message.specs.declared.packet.Packet.{Packet}
-use Rattle.pg_message.specs.Reading.{packet_spelled}
-use Rattle.pg_node.specs.Bytes.{damages, packet_in, packet_at}
-use Rattle.pg_node.specs.Nodes.{step_link, taken_as, taken_of}
-use Rattle.pg_sends.specs.Sent.{stamped_of}
-use Rattle.pg_node_state.specs.declared.state.fault.NodeFault.{NodeFault}
-use Rattle.pg_node_state.specs.declared.state.fault.NodeFault.TheVariants.{Refused}
+use Rattle.pg_world.specs.PgFrame.declared.fault.TooLong as frame
+use Rattle.pg_world.specs.PgFrame.Frames.{front_of, too_long}
+use Rattle.pg_world.specs.PgFrame.Laws.{PiecesContinue, WrittenIsRead}
+use Rattle.pg_world.specs.PgMachine.Clocked.{Stamped, Timed}
+use Rattle.pg_world.specs.PgMessage.declared.message.Message.{Message}
+use Rattle.pg_world.specs.PgMessage.declared.packet.Packet.{Packet}
+use Rattle.pg_world.specs.PgMessage.Reading.{packet_spelled}
+use Rattle.pg_world.specs.PgNode.Bytes.{damages, packet_in, packet_at}
+use Rattle.pg_world.specs.PgNode.Nodes.{step_link, taken_as, taken_of}
+use Rattle.pg_world.specs.PgSends.Sent.{stamped_of}
+use Rattle.pg_world.specs.PgNodeState.declared.state.fault.NodeFault.{NodeFault}
+use Rattle.pg_world.specs.PgNodeState.declared.state.fault.NodeFault.TheVariants.{Refused}
 use Rattle.pg_run.specs.Follows.{sound_link}
-use Rattle.pg_step.specs.Nodes.{Node, Nodes}
-use Rattle.pg_step.specs.State.{State}
-use Rattle.pg_step.specs.Step.{TimedTurn, step_take}
-use Rattle.pg_step.specs.declared.refusal.Refusal.{Refusal}
-use Rattle.pg_step.specs.declared.refusal.Refusal.TheVariants.{NotAMessage, NodeLost}
+use Rattle.pg_world.specs.PgStep.Nodes.{Node, Nodes}
+use Rattle.pg_world.specs.PgStep.State.{State}
+use Rattle.pg_world.specs.PgStep.Step.{TimedTurn, step_take}
+use Rattle.pg_world.specs.PgStep.declared.refusal.Refusal.{Refusal}
+use Rattle.pg_world.specs.PgStep.declared.refusal.Refusal.TheVariants.{NotAMessage, NodeLost}
 use Rattle.pg_joining.proofs.Sent.{frames_on, CanAllCross}
 use Rattle.pg_world.specs.Crossings.{packet_as, written_of}
 

@@ -4,28 +4,28 @@ use Rattle.std.proofs.Common.{List, [], ◌∷◌, Option, Some, None, Ok, Err, 
 use Rattle.std.specs.Prelude.{option_map}
 use Rattle.std.proofs.Math.Path.{fun_ext}
 use Rattle.std.proofs.lemmas.List.{length-map}
-use Rattle.pg_message.specs.declared.message.Message.{Message}
-use Rattle.pg_machine.specs.Clocked.{Timed, Stamped, stamped, timed as machine_timed, timed_turn}
-use Rattle.pg_machine.specs.Losing.{Noticed, Sent, Last, mapped_turn}
-use Rattle.pg_machine.specs.Machine.{Input, Turn, Taken, Own, is_there}
+use Rattle.pg_world.specs.PgMessage.declared.message.Message.{Message}
+use Rattle.pg_world.specs.PgMachine.Clocked.{Timed, Stamped, stamped, timed as machine_timed, timed_turn}
+use Rattle.pg_world.specs.PgMachine.Losing.{Noticed, Sent, Last, mapped_turn}
+use Rattle.pg_world.specs.PgMachine.Machine.{Input, Turn, Taken, Own, is_there}
 use Rattle.pg_joining.specs.Logs.{LoggedAct as MachineAct, NodeLeads, event_of as machine_event}
-use Rattle.pg_opens.specs.Places.{name_at}
+use Rattle.pg_world.specs.PgOpens.Places.{name_at}
 use Rattle.pg_run.specs.Acts.{Act, Given, Took, Saw, Did, IsFromPeer, Standing, AllLead, act_step}
-use Rattle.pg_step.specs.Config.{Config, name_at as config_name, nodes_at, ports_at}
-use Rattle.pg_step.specs.FrameMachine.{losing_frame_machine, placed, place_turn, sent_packet}
-use Rattle.pg_step.specs.Losses.{see_loss}
-use Rattle.pg_step.specs.Nodes.{Node, all_of}
-use Rattle.pg_step.specs.State.{State}
-use Rattle.pg_step.specs.Step.{Action, TimedTurn, CLOCK_LIMIT, timed}
-use Rattle.pg_step.specs.StepLaws.{place_timed, timed_placed}
-use Rattle.pg_step.specs.Turns.{NodeTurn, Report}
-use Rattle.pg_step.specs.declared.refusal.Refusal.TheVariants.{NodeLost}
-use Rattle.pg_step.proofs.Refusals.{same_step}
-use Rattle.pg_step.proofs.Unnoticed.{frames_embed}
+use Rattle.pg_world.specs.PgStep.Config.{Config, name_at as config_name, nodes_at, ports_at}
+use Rattle.pg_world.specs.PgStep.FrameMachine.{losing_frame_machine, placed, place_turn, sent_packet}
+use Rattle.pg_world.specs.PgStep.Losses.{see_loss}
+use Rattle.pg_world.specs.PgStep.Nodes.{Node, all_of}
+use Rattle.pg_world.specs.PgStep.State.{State}
+use Rattle.pg_world.specs.PgStep.Step.{Action, TimedTurn, CLOCK_LIMIT, timed}
+use Rattle.pg_world.specs.PgStep.StepLaws.{place_timed, timed_placed}
+use Rattle.pg_world.specs.PgStep.Turns.{NodeTurn, Report}
+use Rattle.pg_world.specs.PgStep.declared.refusal.Refusal.TheVariants.{NodeLost}
+use Rattle.pg_world.proofs.PgStep.Refusals.{same_step}
+use Rattle.pg_world.proofs.PgStep.Unnoticed.{frames_embed}
 use Rattle.pg_joining.proofs.Turns.{inputs_there, steps_alike}
-use Rattle.pg_frame_world.specs.Views.{place_of_peer}
-use Rattle.pg_frame_world.proofs.Peering.{named, own_place, peer_name, peer_within}
-use Rattle.pg_frame_world.proofs.Turning.{is_pair_so}
+use Rattle.pg_world.specs.PgFrameWorld.Views.{place_of_peer}
+use Rattle.pg_world.proofs.PgFrameWorld.Peering.{named, own_place, peer_name, peer_within}
+use Rattle.pg_world.proofs.PgFrameWorld.Turning.{is_pair_so}
 
 -- the last notice of a node whose clock was this
 abbrev pub notice_at : ℕ → Stamped (Noticed Message)

@@ -1,6 +1,6 @@
 -- Logs are merged in one order.
 use Rattle.std.proofs.Common.{◌≡◌, ℕ, ◌+◌, List, [], ◌∷◌, refl, ap, sym, ◌∙◌, subst, arith}
-use Rattle.pg_machine.specs.Places.{set_at}
+use Rattle.pg_world.specs.PgMachine.Places.{set_at}
 use Rattle.pg_joining.specs.Merge.{ComesFirst, IsNext, rest_of, MergesRest}
 
 same_next : (size : ℕ) (rest : ℕ → List ℕ) (i j : ℕ) → IsNext size rest i → IsNext size rest j → i ≡ j

@@ -7,8 +7,8 @@ use Rattle.std.proofs.Math.Path.{fun_ext}
 use Rattle.std.proofs.lemmas.Bool.{cases_eq}
 use Rattle.std.proofs.lemmas.List.{append_assoc, append-nil, get_or-map, get_or-set_same}
 use Rattle.std.proofs.lemmas.List.{get_or-set_other, get_or_read, length-set, length-map, length-drop}
-use Rattle.pg_machine.specs.Places.{set_at}
-use Rattle.pg_machine.proofs.Places.{set_at_here, set_at_other}
+use Rattle.pg_world.specs.PgMachine.Places.{set_at}
+use Rattle.pg_world.proofs.PgMachine.Places.{set_at_here, set_at_other}
 use Rattle.pg_joining.specs.Merge.{ComesFirst, IsNext, rest_of, MergesRest, Merges, clocks_of, log_at, clocks_in}
 
 -- the entry that comes first among the logs before log i, and its clock

@@ -3,21 +3,21 @@ use Rattle.std.proofs.Common.{◌≡◌, ◌≢◌, ◌<◌, ◌∙◌, ℕ, con
 use Rattle.std.specs.List.{IsDistinct, AllByRecursion, flat_map}
 use Rattle.std.proofs.lemmas.Bool.{lt-ltb}
 use Rattle.std.proofs.lemmas.Grind.{flat_map-append}
-use Rattle.pg_frame.specs.Frames.{frame}
-use Rattle.pg_message.specs.declared.message.Message.{Message}
-use Rattle.pg_message.specs.declared.packet.Packet.{Packet}
-use Rattle.pg_machine.specs.Clocked.{Stamped}
-use Rattle.pg_frame.specs.Pieces.{frames_of}
+use Rattle.pg_world.specs.PgFrame.Frames.{frame}
+use Rattle.pg_world.specs.PgMessage.declared.message.Message.{Message}
+use Rattle.pg_world.specs.PgMessage.declared.packet.Packet.{Packet}
+use Rattle.pg_world.specs.PgMachine.Clocked.{Stamped}
+use Rattle.pg_world.specs.PgFrame.Pieces.{frames_of}
 use Rattle.pg_joining.specs.Logs.{sent_to}
 use Rattle.pg_run.specs.Acts.{Act, Standing, ActLeads, AllLead, frames_sent}
-use Rattle.pg_step.specs.Config.{Config, names_of, name_at, nodes_at, ports_at}
-use Rattle.pg_step.specs.Nodes.{Node, all_of}
+use Rattle.pg_world.specs.PgStep.Config.{Config, names_of, name_at, nodes_at, ports_at}
+use Rattle.pg_world.specs.PgStep.Nodes.{Node, all_of}
 use Rattle.pg_term.specs.Same.{same_atom}
 use Rattle.pg_joining.proofs.Turns.{act_at}
 use Rattle.pg_world.specs.Crossings.{CanCross, packet_as, written_of}
-use Rattle.pg_frame_world.specs.Views.{packets_to, peer_place}
+use Rattle.pg_world.specs.PgFrameWorld.Views.{packets_to, peer_place}
 use Rattle.pg_world.proofs.Crossed.{map_append, sent_cross, frames_sent as frames_going}
-use Rattle.pg_frame_world.proofs.Peering as places
+use Rattle.pg_world.proofs.PgFrameWorld.Peering as places
 
 -- the packets that went out to the peer at a place
 abbrev pub packets_sent : ℕ → List Act → List (Stamped Message)

@@ -4,8 +4,8 @@ use Rattle.std.proofs.Common.{List, [], ◌∷◌, refl, ap, sym, ◌∙◌, sub
 use Rattle.std.specs.List.{AllByRecursion, range_with_len}
 use Rattle.std.proofs.lemmas.Bool.{cases_eq, eq-eqb, ne_eqb}
 use Rattle.std.proofs.lemmas.List.{length-drop, drop_more}
-use Rattle.pg_machine.specs.Places.{set_at}
-use Rattle.pg_machine.proofs.Places.{set_at_here, set_at_other}
+use Rattle.pg_world.specs.PgMachine.Places.{set_at}
+use Rattle.pg_world.proofs.PgMachine.Places.{set_at_here, set_at_other}
 use Rattle.pg_joining.specs.Merge.{ComesFirst, IsNext, rest_of, MergesRest, places_of, IsRising, clock_at, IsSorted}
 use Rattle.pg_joining.proofs.Acts.{all_weaker, drop_next}
 

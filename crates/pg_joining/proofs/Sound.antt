@@ -3,39 +3,39 @@
 use Rattle.std.proofs.Common.{◌≡◌, ◌≢◌, ◌<◌, ◌+◌, ◌∙◌, ℕ, Bool, true, false, length, map, List}
 use Rattle.std.proofs.Common.{◌∷◌, ◌++◌, Err, refl, sym, ap, subst, inl, inr, ◌⊎◌, append_assoc}
 use Rattle.std.proofs.lemmas.List.{map-append}
-use Rattle.pg_frame.specs.Laws.{PiecesContinue, WrittenIsRead}
-use Rattle.pg_group.specs.declared.table.GroupTable.{Ghosts}
-use Rattle.pg_history.specs.Reached.{TimedFrameWorld, Reaches}
+use Rattle.pg_world.specs.PgFrame.Laws.{PiecesContinue, WrittenIsRead}
+use Rattle.pg_world.specs.PgGroup.declared.table.GroupTable.{Ghosts}
+use Rattle.pg_world.specs.PgHistory.Reached.{TimedFrameWorld, Reaches}
 use Rattle.pg_joining.specs.Joined.{Joined, Passes}
 use Rattle.pg_joining.specs.Logs.{NodeLeads}
-use Rattle.pg_machine.specs.Clocked.{Stamped}
-use Rattle.pg_machine.specs.Machine.{Event, start_of}
-use Rattle.pg_machine.specs.Places.{is_pair}
-use Rattle.pg_machine.specs.Runs.{Leads}
-use Rattle.pg_message.specs.declared.message.Message.{Message}
-use Rattle.pg_node.specs.declared.node.Node.{Node}
-use Rattle.pg_node_state.specs.Issued.{ports_of}
-use Rattle.pg_node.specs.Links.{Link}
-use Rattle.pg_node.specs.Nodes.{held_by, links_of}
-use Rattle.pg_node_state.specs.States.{names_of}
-use Rattle.pg_opens.specs.Places.{name_at as place_name}
+use Rattle.pg_world.specs.PgMachine.Clocked.{Stamped}
+use Rattle.pg_world.specs.PgMachine.Machine.{Event, start_of}
+use Rattle.pg_world.specs.PgMachine.Places.{is_pair}
+use Rattle.pg_world.specs.PgMachine.Runs.{Leads}
+use Rattle.pg_world.specs.PgMessage.declared.message.Message.{Message}
+use Rattle.pg_world.specs.PgNode.declared.node.Node.{Node}
+use Rattle.pg_world.specs.PgNodeState.Issued.{ports_of}
+use Rattle.pg_world.specs.PgNode.Links.{Link}
+use Rattle.pg_world.specs.PgNode.Nodes.{held_by, links_of}
+use Rattle.pg_world.specs.PgNodeState.States.{names_of}
+use Rattle.pg_world.specs.PgOpens.Places.{name_at as place_name}
 use Rattle.pg_run.specs.Acts.{SawNone, Standing, losses_of}
 use Rattle.pg_run.specs.Follows.{WasMarked, node_of, standing_of}
 use Rattle.pg_run.proofs.Moving.{none_first}
-use Rattle.pg_step.specs.Config.{Config, name_at, names_of as names_in, nodes_at, ports_at}
-use Rattle.pg_step.specs.FrameMachine.{frame_machine}
-use Rattle.pg_step.specs.Nodes.{Node as Name, all_of}
-use Rattle.pg_step.specs.Step.{Action, step_take}
-use Rattle.pg_step.specs.declared.refusal.Refusal.TheVariants.{NotAMessage}
+use Rattle.pg_world.specs.PgStep.Config.{Config, name_at, names_of as names_in, nodes_at, ports_at}
+use Rattle.pg_world.specs.PgStep.FrameMachine.{frame_machine}
+use Rattle.pg_world.specs.PgStep.Nodes.{Node as Name, all_of}
+use Rattle.pg_world.specs.PgStep.Step.{Action, step_take}
+use Rattle.pg_world.specs.PgStep.declared.refusal.Refusal.TheVariants.{NotAMessage}
 use Rattle.pg_joining.specs.Apart.{Linked, HaveRun, Unseen}
 use Rattle.pg_joining.proofs.Begun.{links_there, place_there, shown}
 use Rattle.pg_joining.proofs.Crossing.{PutsFirst, bytes_cross, left_crosses, left_frames, left_on, puts_all, unread_on}
 use Rattle.pg_joining.proofs.Logged.{acts_on, ends_on, logs_on}
 use Rattle.pg_joining.proofs.Next.{refused_first}
 use Rattle.pg_joining.proofs.Turns.{act_at, leads_alike}
-use Rattle.pg_frame_world.specs.Views.{peer_place}
-use Rattle.pg_frame_world.proofs.Peering.{named, peer_name, there_and_back}
-use Rattle.pg_frame_world.proofs.Turning.{pair_is, pair_turned}
+use Rattle.pg_world.specs.PgFrameWorld.Views.{peer_place}
+use Rattle.pg_world.proofs.PgFrameWorld.Peering.{named, peer_name, there_and_back}
+use Rattle.pg_world.proofs.PgFrameWorld.Turning.{pair_is, pair_turned}
 
 -- what first_packets_were_welcome of pg_history says of a configuration
 abbrev pub WereWelcome : Config → Type 0

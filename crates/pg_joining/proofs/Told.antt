@@ -7,19 +7,19 @@ use Rattle.std.proofs.Math.Path.{fun_ext}
 use Rattle.std.proofs.lemmas.Bool.{cases_eq, eq-eqb, ne_eqb, eqb-true}
 use Rattle.std.proofs.lemmas.Grind.{flat_map-append}
 use Rattle.std.proofs.lemmas.List.{drop-map, length-map}
-use Rattle.pg_machine.specs.Places.{set_at}
-use Rattle.pg_machine.proofs.Places.{set_at_here, set_at_other}
+use Rattle.pg_world.specs.PgMachine.Places.{set_at}
+use Rattle.pg_world.proofs.PgMachine.Places.{set_at_here, set_at_other}
 use Rattle.pg_joining.specs.Losses.{Logged, Turned, Stopped, events_told, loss_alone}
 use Rattle.pg_joining.specs.Losses.{losses_alone, loss_behind, still_kept, with_losses}
 use Rattle.pg_joining.specs.Merge.{IsNext, Merges, MergesRest, clocks_of, entry_at, merged_logs, rest_of, seen_log}
 use Rattle.pg_joining.proofs.Acts.{drop_next, map_cons, map_nil}
 use Rattle.pg_run.specs.declared.log.NodeEvent.{NodeEvent}
 use Rattle.pg_run.specs.declared.log.NodeEvent.TheVariants as entries
-use Rattle.pg_step.specs.Step.{Action}
+use Rattle.pg_world.specs.PgStep.Step.{Action}
 use Rattle.pg_joining.specs.Apart.{event_at}
 use Rattle.pg_joining.specs.ApartWithLosses.{Logs, is_take, takes_of, takes_in, loss_before, losses_first}
 use Rattle.pg_joining.specs.ApartWithLosses.{events_behind, losing_events, marked_at, sees_loss}
-use Rattle.pg_frame_world.specs.Views.{place_of_peer}
+use Rattle.pg_world.specs.PgFrameWorld.Views.{place_of_peer}
 
 -- what an entry of a log without losses is in a log with them
 abbrev pub turned_at : ℕ → NodeEvent → Logged Action

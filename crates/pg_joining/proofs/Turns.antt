@@ -4,25 +4,25 @@ use Rattle.std.proofs.Common.{[], ◌∷◌, Some, Ok, refl, sym, ap, subst, ari
 use Rattle.std.specs.Prelude.{cond, max}
 use Rattle.std.proofs.lemmas.Bool.{eq-eqb, lt-ltb}
 use Rattle.std.proofs.lemmas.List.{length-map}
-use Rattle.pg_message.specs.declared.message.Message.{Message}
-use Rattle.pg_machine.specs.Machine.{Input, Taken, Own, is_there}
-use Rattle.pg_machine.specs.Clocked.{Timed, Stamped}
+use Rattle.pg_world.specs.PgMessage.declared.message.Message.{Message}
+use Rattle.pg_world.specs.PgMachine.Machine.{Input, Taken, Own, is_there}
+use Rattle.pg_world.specs.PgMachine.Clocked.{Timed, Stamped}
 use Rattle.pg_joining.specs.Logs.{LoggedAct as MachineAct, NodeLeads, event_of as machine_event}
-use Rattle.pg_opens.specs.Places.{name_at}
+use Rattle.pg_world.specs.PgOpens.Places.{name_at}
 use Rattle.pg_run.specs.Acts.{Act, Given, Took, Saw, Did, IsFromPeer, SawNone}
 use Rattle.pg_run.specs.Acts.{Standing, AllLead, loss_of, losses_of, act_step}
 use Rattle.pg_run.proofs.Moving.{nil_first, nil_second}
-use Rattle.pg_step.specs.Config.{Config, name_at as config_name, nodes_at, ports_at}
-use Rattle.pg_step.specs.FrameMachine.{frame_machine}
-use Rattle.pg_step.specs.Nodes.{all_of}
-use Rattle.pg_step.specs.State.{State}
-use Rattle.pg_step.specs.Step.{Action, Retry, TimedTurn, node_takes, node_acts, step_take}
-use Rattle.pg_step.specs.StepLaws.{place_timed, timed_placed}
-use Rattle.pg_step.specs.Turns.{Report}
-use Rattle.pg_step.proofs.Refusals.{same_step}
-use Rattle.pg_frame_world.specs.Views.{place_of_peer}
-use Rattle.pg_frame_world.proofs.Peering.{named, own_place, peer_name, peer_within}
-use Rattle.pg_frame_world.proofs.Turning.{is_pair_so}
+use Rattle.pg_world.specs.PgStep.Config.{Config, name_at as config_name, nodes_at, ports_at}
+use Rattle.pg_world.specs.PgStep.FrameMachine.{frame_machine}
+use Rattle.pg_world.specs.PgStep.Nodes.{all_of}
+use Rattle.pg_world.specs.PgStep.State.{State}
+use Rattle.pg_world.specs.PgStep.Step.{Action, Retry, TimedTurn, node_takes, node_acts, step_take}
+use Rattle.pg_world.specs.PgStep.StepLaws.{place_timed, timed_placed}
+use Rattle.pg_world.specs.PgStep.Turns.{Report}
+use Rattle.pg_world.proofs.PgStep.Refusals.{same_step}
+use Rattle.pg_world.specs.PgFrameWorld.Views.{place_of_peer}
+use Rattle.pg_world.proofs.PgFrameWorld.Peering.{named, own_place, peer_name, peer_within}
+use Rattle.pg_world.proofs.PgFrameWorld.Turning.{is_pair_so}
 
 -- an act as the machine of a configuration knows it
 abbrev pub PlacedAct : Type 0

@@ -1,20 +1,20 @@
 -- Nodes that ran apart, each with its own links, and the one run that they made together.
 use Rattle.std.specs.Prelude.{◌≡◌, ℕ, ◌+◌, ◌<◌, true, false, get_or, length, map, slice_get, List, [], ◌++◌, Some}
-use Rattle.pg_group.specs.declared.table.GroupTable.{Ghosts}
-use Rattle.pg_machine.specs.Machine.{Event, Take, Do, start_of}
-use Rattle.pg_machine.specs.Clocked.{plain}
-use Rattle.pg_machine.specs.Places.{is_pair}
-use Rattle.pg_machine.specs.Runs.{Leads, events_of}
-use Rattle.pg_step.specs.Config.{Config}
-use Rattle.pg_step.specs.FrameMachine.{frame_machine}
-use Rattle.pg_step.specs.Step.{Action, Issue, Retry}
-use Rattle.pg_history.specs.Headline.{OneHistory}
+use Rattle.pg_world.specs.PgGroup.declared.table.GroupTable.{Ghosts}
+use Rattle.pg_world.specs.PgMachine.Machine.{Event, Take, Do, start_of}
+use Rattle.pg_world.specs.PgMachine.Clocked.{plain}
+use Rattle.pg_world.specs.PgMachine.Places.{is_pair}
+use Rattle.pg_world.specs.PgMachine.Runs.{Leads, events_of}
+use Rattle.pg_world.specs.PgStep.Config.{Config}
+use Rattle.pg_world.specs.PgStep.FrameMachine.{frame_machine}
+use Rattle.pg_world.specs.PgStep.Step.{Action, Issue, Retry}
+use Rattle.pg_world.specs.PgHistory.Headline.{OneHistory}
 use Rattle.pg_joining.specs.Merge.{merged_logs, seen_log}
-use Rattle.pg_node.specs.declared.node.Node.{Node}
-use Rattle.pg_node.specs.Nodes.{links_of}
-use Rattle.pg_ring.specs.declared.ring_out.RingOut.{RingOut}
-use Rattle.pg_ring.specs.declared.ring_in.RingIn.{RingIn}
-use Rattle.pg_ring.specs.Ends.{Sends, Receives, bytes_sent, bytes_received}
+use Rattle.pg_world.specs.PgNode.declared.node.Node.{Node}
+use Rattle.pg_world.specs.PgNode.Nodes.{links_of}
+use Rattle.pg_world.specs.PgRing.declared.ring_out.RingOut.{RingOut}
+use Rattle.pg_world.specs.PgRing.declared.ring_in.RingIn.{RingIn}
+use Rattle.pg_world.specs.PgRing.Ends.{Sends, Receives, bytes_sent, bytes_received}
 use Rattle.pg_run.specs.declared.linked.LinkedNode.{LinkedNode}
 use Rattle.pg_run.specs.declared.linked.Peer.{Peer}
 use Rattle.pg_run.specs.declared.log.NodeEvent.{NodeEvent}
@@ -22,9 +22,9 @@ use Rattle.pg_run.specs.declared.log.NodeEvent.TheVariants as events
 use Rattle.pg_run.specs.Acts.{Act, SawNone}
 use Rattle.pg_run.specs.Follows.{Follows, node_of, peers_of, log_of}
 use Rattle.pg_world.specs.Crossings.{ShowsBytes, idle_crossing, node_of as seen_node}
-use Rattle.pg_frame_world.specs.Views.{peer_place, place_of_peer}
-use Rattle.pg_account.specs.Histories.{no_account}
-use Rattle.pg_frame_world.specs.Worlds.{TimedFrameWorld, ShowsNode}
+use Rattle.pg_world.specs.PgFrameWorld.Views.{peer_place, place_of_peer}
+use Rattle.pg_world.specs.PgAccount.Histories.{no_account}
+use Rattle.pg_world.specs.PgFrameWorld.Worlds.{TimedFrameWorld, ShowsNode}
 
 -- the event of all nodes that an entry in the log of node i tells; a loss is seen as the last notice of the peer is taken
 abbrev pub event_at : ℕ → NodeEvent → Event Action

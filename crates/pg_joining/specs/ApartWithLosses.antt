@@ -2,31 +2,31 @@
 use Rattle.std.specs.Prelude.{◌≡◌, ℕ, zero, suc, ◌+◌, ◌<◌, Bool, true, false, ◌&&◌}
 use Rattle.std.specs.Prelude.{cond, nat_eq, length, map, List, [], ◌∷◌, ◌++◌}
 use Rattle.std.specs.List.{AllByRecursion}
-use Rattle.pg_group.specs.declared.table.GroupTable.{Ghosts}
+use Rattle.pg_world.specs.PgGroup.declared.table.GroupTable.{Ghosts}
 use Rattle.pg_joining.specs.Losses.{MarkedEvent, MarkedLeads}
 use Rattle.pg_joining.specs.Merge.{entry_at}
-use Rattle.pg_loss.specs.Reached.{LosingReaches}
-use Rattle.pg_retries.specs.Survived.{LossesSurvived}
-use Rattle.pg_machine.specs.Clocked.{Stamped}
-use Rattle.pg_machine.specs.Losing.{LosingEvent, Noticed, Step, Lose, nobody_gone}
-use Rattle.pg_machine.specs.Machine.{start_of}
-use Rattle.pg_machine.specs.Places.{is_pair}
-use Rattle.pg_message.specs.declared.message.Message.{Message}
-use Rattle.pg_node.specs.declared.node.Node.{Node}
-use Rattle.pg_node.specs.Nodes.{held_by}
-use Rattle.pg_node_state.specs.States.{state_of}
+use Rattle.pg_world.specs.PgLoss.Reached.{LosingReaches}
+use Rattle.pg_world.specs.PgRetries.Survived.{LossesSurvived}
+use Rattle.pg_world.specs.PgMachine.Clocked.{Stamped}
+use Rattle.pg_world.specs.PgMachine.Losing.{LosingEvent, Noticed, Step, Lose, nobody_gone}
+use Rattle.pg_world.specs.PgMachine.Machine.{start_of}
+use Rattle.pg_world.specs.PgMachine.Places.{is_pair}
+use Rattle.pg_world.specs.PgMessage.declared.message.Message.{Message}
+use Rattle.pg_world.specs.PgNode.declared.node.Node.{Node}
+use Rattle.pg_world.specs.PgNode.Nodes.{held_by}
+use Rattle.pg_world.specs.PgNodeState.States.{state_of}
 use Rattle.pg_run.specs.declared.log.NodeEvent.{NodeEvent}
 use Rattle.pg_run.specs.declared.log.NodeEvent.TheVariants as events
 use Rattle.pg_run.specs.Acts.{losses_of}
 use Rattle.pg_run.specs.Follows.{node_of}
-use Rattle.pg_step.specs.Config.{Config}
-use Rattle.pg_step.specs.FrameMachine.{last_notice, losing_frame_machine}
-use Rattle.pg_step.specs.LossLaws.{LosingFrameWorld, is_notice}
-use Rattle.pg_step.specs.Step.{Action}
+use Rattle.pg_world.specs.PgStep.Config.{Config}
+use Rattle.pg_world.specs.PgStep.FrameMachine.{last_notice, losing_frame_machine}
+use Rattle.pg_world.specs.PgStep.LossLaws.{LosingFrameWorld, is_notice}
+use Rattle.pg_world.specs.PgStep.Step.{Action}
 use Rattle.pg_joining.specs.Apart.{HaveRun, Linked, event_at}
 use Rattle.pg_world.specs.Crossings.{node_of as seen_node}
-use Rattle.pg_frame_world.specs.Views.{peer_place, place_of_peer}
-use Rattle.pg_frame_world.specs.Worlds.{ShowsNode, TimedFrameWorld}
+use Rattle.pg_world.specs.PgFrameWorld.Views.{peer_place, place_of_peer}
+use Rattle.pg_world.specs.PgFrameWorld.Worlds.{ShowsNode, TimedFrameWorld}
 
 -- ---- the events that logs tell
 

@@ -1,8 +1,8 @@
 -- One run of all nodes out of the logs of each.
 use Rattle.std.specs.Prelude.{◌≡◌, ◌≢◌, ℕ, ◌<◌, map, List, ◌++◌}
-use Rattle.pg_machine.specs.Machine.{Machine, Event, start_of}
-use Rattle.pg_machine.specs.Clocked.{Timed, Stamped, TimedWorld}
-use Rattle.pg_machine.specs.Runs.{Leads, events_of, reported_by}
+use Rattle.pg_world.specs.PgMachine.Machine.{Machine, Event, start_of}
+use Rattle.pg_world.specs.PgMachine.Clocked.{Timed, Stamped, TimedWorld}
+use Rattle.pg_world.specs.PgMachine.Runs.{Leads, events_of, reported_by}
 use Rattle.pg_joining.specs.Logs.{LoggedAct, NodeLeads, reports_of}
 
 -- These events lead from one world to another through a world in which node i is in the state s.

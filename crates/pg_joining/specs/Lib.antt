@@ -4,3 +4,29 @@ pub mod Joined
 pub mod Logs
 pub mod Losses
 pub mod Merge
+pub use Rattle.pg_world.specs.PgAccount
+pub use Rattle.pg_world.specs.PgConfig
+pub use Rattle.pg_world.specs.PgEnds
+pub use Rattle.pg_world.specs.PgExchange
+pub use Rattle.pg_world.specs.PgFrame
+pub use Rattle.pg_world.specs.PgFrameWorld
+pub use Rattle.pg_world.specs.PgGroup
+pub use Rattle.pg_world.specs.PgHistory
+pub use Rattle.pg_world.specs.PgIndex
+pub use Rattle.pg_world.specs.PgLeft
+pub use Rattle.pg_world.specs.PgLock
+pub use Rattle.pg_world.specs.PgLoss
+pub use Rattle.pg_world.specs.PgMachine
+pub use Rattle.pg_world.specs.PgMessage
+pub use Rattle.pg_world.specs.PgNode
+pub use Rattle.pg_world.specs.PgNodeState
+pub use Rattle.pg_world.specs.PgOpens
+pub use Rattle.pg_world.specs.PgQuery
+pub use Rattle.pg_world.specs.PgReplica
+pub use Rattle.pg_world.specs.PgRetries
+pub use Rattle.pg_run.specs as PgRun
+pub use Rattle.pg_world.specs.PgSends
+pub use Rattle.pg_world.specs.PgStarts
+pub use Rattle.pg_world.specs.PgStep
+pub use Rattle.pg_world.specs.PgTermIo
+pub use Rattle.pg_world.specs as PgWorld

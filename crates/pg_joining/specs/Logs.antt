@@ -1,8 +1,8 @@
 -- The logs of nodes that ran apart.
 use Rattle.std.specs.Prelude.{◌≡◌, ◌≢◌, ℕ, ◌<◌, true, cond, nat_eq, map, List, [], ◌∷◌, ◌++◌, Some}
 use Rattle.std.specs.List.{flat_map}
-use Rattle.pg_machine.specs.Machine.{Input, Turn, Machine, Event, Taken, Own, Take, Do, is_there}
-use Rattle.pg_machine.specs.Clocked.{Timed, Stamped}
+use Rattle.pg_world.specs.PgMachine.Machine.{Input, Turn, Machine, Event, Taken, Own, Take, Do, is_there}
+use Rattle.pg_world.specs.PgMachine.Clocked.{Timed, Stamped}
 
 -- what a node was given, and the turn that its step made of it
 pub record LoggedAct (State Packet Command Report : Type 0) : Type 0 where

@@ -2,10 +2,10 @@
 use Rattle.std.specs.Prelude.{◌≡◌, ◌≢◌, ℕ, zero, suc, ◌+◌, ◌-◌, ◌<◌, ◌≤◌, Bool, true, false}
 use Rattle.std.specs.Prelude.{◌&&◌, cond, nat_eq, map, take, length, List, [], ◌∷◌, ◌++◌, Some}
 use Rattle.std.specs.List.{flat_map}
-use Rattle.pg_machine.specs.Machine.{Input, Machine, World, Event, Taken, Own, Take, Do, start_of}
-use Rattle.pg_machine.specs.Clocked.{Timed, Stamped}
-use Rattle.pg_machine.specs.Runs.{reported_by}
-use Rattle.pg_machine.specs.Losing.{LosingWorld, LosingEvent, Step, Lose, losing_happens, nobody_gone}
+use Rattle.pg_world.specs.PgMachine.Machine.{Input, Machine, World, Event, Taken, Own, Take, Do, start_of}
+use Rattle.pg_world.specs.PgMachine.Clocked.{Timed, Stamped}
+use Rattle.pg_world.specs.PgMachine.Runs.{reported_by}
+use Rattle.pg_world.specs.PgMachine.Losing.{LosingWorld, LosingEvent, Step, Lose, losing_happens, nobody_gone}
 use Rattle.pg_joining.specs.Logs.{LoggedAct, NodeLeads, event_of, sent_to, taken_from, reports_of}
 
 -- what an entry says: an event of its node, and whether a last notice is taken by it; or that its node stopped

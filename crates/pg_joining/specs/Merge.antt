@@ -2,7 +2,7 @@
 use Rattle.std.specs.Prelude.{◌≡◌, ℕ, ◌+◌, ◌<◌, ◌≤◌, cond, nat_eq, drop, take}
 use Rattle.std.specs.Prelude.{map, slice_index, slice_index_or, List, [], ◌∷◌}
 use Rattle.std.specs.List.{AllByRecursion, flat_map}
-use Rattle.pg_machine.specs.Places.{set_at}
+use Rattle.pg_world.specs.PgMachine.Places.{set_at}
 
 -- a clock of log i comes no later than another of log j
 pub record ComesFirst (clock i other j : ℕ) : Type 0 where

@@ -1,21 +1,20 @@
 ghost use Rattle.std.specs.Prelude.{◌≡◌, ℕ, List, length};
 ghost use Rattle.std.specs.List.{IsDistinct};
 ghost use Rattle.pg_term.specs.Same.{same_atom};
-ghost use Rattle.pg_message.specs.declared.message.Message.{Message};
-ghost use Rattle.pg_machine.specs.Machine.{Event};
-ghost use Rattle.pg_machine.specs.Clocked.{Timed, Stamped, plain};
-ghost use Rattle.pg_step.specs.State.{State};
-ghost use Rattle.pg_step.specs.Turns.{Report};
-ghost use Rattle.pg_step.specs.Step.{Action};
-ghost use Rattle.pg_step.specs.Config.{Config, names_of};
-ghost use Rattle.pg_step.specs.FrameMachine.{frame_machine};
-ghost use Rattle.pg_history.specs.Headline.{OneHistory};
+ghost use Rattle.pg_world.specs.PgMessage.declared.message.Message.{Message};
+ghost use Rattle.pg_world.specs.PgMachine.Machine.{Event};
+ghost use Rattle.pg_world.specs.PgMachine.Clocked.{Timed, Stamped, plain};
+ghost use Rattle.pg_world.specs.PgStep.State.{State};
+ghost use Rattle.pg_world.specs.PgStep.Turns.{Report};
+ghost use Rattle.pg_world.specs.PgStep.Step.{Action};
+ghost use Rattle.pg_world.specs.PgStep.Config.{Config, names_of};
+ghost use Rattle.pg_world.specs.PgStep.FrameMachine.{frame_machine};
+ghost use Rattle.pg_world.specs.PgHistory.Headline.{OneHistory};
 ghost use Rattle.pg_joining.specs.Logs.{LoggedAct, AreLogs};
 ghost use Rattle.pg_joining.specs.Merge.{Merges, clocks_of, merged_logs};
 ghost use Rattle.pg_joining.specs.Joined.{Joined};
 
-use pg_history::one_history;
-use pg_step::nodes_keep_time;
+use pg_world::{nodes_keep_time, one_history};
 
 /// The nodes of a configuration that ran apart have one history of each group: their logs join to one run, and of the world that it
 /// leads to, which shows each node as its log ended, everything holds that `one_history` says.

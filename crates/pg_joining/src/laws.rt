@@ -1,8 +1,8 @@
 ghost use Rattle.std.specs.Prelude.{◌≡◌, ◌<◌, ℕ, Bool, List, map, length};
 ghost use Rattle.std.specs.List.{AllByRecursion, range_with_len};
-ghost use Rattle.pg_machine.specs.Machine.{Machine, Event};
-ghost use Rattle.pg_machine.specs.Clocked.{Timed, Stamped};
-ghost use Rattle.pg_machine.specs.Timely.{KeepsTime};
+ghost use Rattle.pg_world.specs.PgMachine.Machine.{Machine, Event};
+ghost use Rattle.pg_world.specs.PgMachine.Clocked.{Timed, Stamped};
+ghost use Rattle.pg_world.specs.PgMachine.Timely.{KeepsTime};
 ghost use Rattle.pg_joining.specs.Logs.{LoggedAct, AreLogs};
 ghost use Rattle.pg_joining.specs.Merge.{Merges, IsRising, IsSorted, places_of, clocks_of, merged_logs, seen_log};
 ghost use Rattle.pg_joining.specs.Joined.{Joined};

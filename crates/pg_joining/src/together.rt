@@ -1,18 +1,18 @@
 ghost use Rattle.std.specs.Prelude.{ℕ, Bool, List, length};
-ghost use Rattle.pg_index.specs.declared.index_table.IndexTable.{IndexTable};
-ghost use Rattle.pg_index.specs.contracts.index_table.IndexTableGroupTable.TheImpl.{ghosts};
+ghost use Rattle.pg_world.specs.PgIndex.declared.index_table.IndexTable.{IndexTable};
+ghost use Rattle.pg_world.specs.PgIndex.contracts.index_table.IndexTableGroupTable.TheImpl.{ghosts};
 ghost use Rattle.pg_joining.specs.Merge.{Merges, clocks_of};
-ghost use Rattle.pg_node.specs.declared.node.Node.{Node};
+ghost use Rattle.pg_world.specs.PgNode.declared.node.Node.{Node};
 ghost use Rattle.pg_run.specs.Follows.{log_of};
-ghost use Rattle.pg_step.specs.Config.{Config};
+ghost use Rattle.pg_world.specs.PgStep.Config.{Config};
 ghost use Rattle.pg_joining.specs.Apart.{Linked, RanApart, RanTogether, events_in};
 ghost use Rattle.pg_joining.specs.ApartWithLosses.{RanLosing, RanPastLosses, losing_events};
 
 use crate::history::joined_history;
-use pg_frame::{pieces_continue, written_is_read};
-use pg_history::first_packets_were_welcome;
-use pg_retries::each_world_past_losses;
-use pg_step::losing_nodes_keep_time;
+use pg_world::{
+    each_world_past_losses, first_packets_were_welcome, losing_nodes_keep_time, pieces_continue,
+    written_is_read,
+};
 
 /// Nodes of a configuration that ran apart, with rings between them, made one run together: their logs, merged by clock and then by
 /// node, are events that happen one after another from the start, and lead to a world that shows each node as it ended and of

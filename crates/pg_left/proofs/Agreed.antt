@@ -5,18 +5,18 @@ use Rattle.std.proofs.Math.Path.{fun_ext}
 use Rattle.pg_term.specs.declared.pid.Pid.{Pid}
 use Rattle.pg_term.specs.declared.term.Term.{Term}
 use Rattle.pg_term.specs.Same.{same_atom}
-use Rattle.pg_group.specs.Value.{less}
-use Rattle.pg_machine.specs.Losing.{LosingEvent}
-use Rattle.pg_machine.specs.Places.{is_pair}
-use Rattle.pg_step.specs.Config.{Config, name_at, names_of, nodes_at}
-use Rattle.pg_step.specs.LossLaws.{LosingFrameWorld}
-use Rattle.pg_step.specs.State.{formed}
-use Rattle.pg_step.specs.Step.{Action}
-use Rattle.pg_history.specs.History.{applied_by, base, replay}
-use Rattle.pg_history.specs.WithLosses.{NonePendingLive}
-use Rattle.pg_history.proofs.ends.Apart.{pair_second}
-use Rattle.pg_history.proofs.places.Shown.{IsHere}
-use Rattle.pg_history.proofs.references.Keys.{atoms}
+use Rattle.pg_loss.specs.PgGroup.Value.{less}
+use Rattle.pg_loss.specs.PgMachine.Losing.{LosingEvent}
+use Rattle.pg_loss.specs.PgMachine.Places.{is_pair}
+use Rattle.pg_loss.specs.PgStep.Config.{Config, name_at, names_of, nodes_at}
+use Rattle.pg_loss.specs.PgStep.LossLaws.{LosingFrameWorld}
+use Rattle.pg_loss.specs.PgStep.State.{formed}
+use Rattle.pg_loss.specs.PgStep.Step.{Action}
+use Rattle.pg_loss.specs.PgHistory.History.{applied_by, base, replay}
+use Rattle.pg_loss.specs.PgHistory.WithLosses.{NonePendingLive}
+use Rattle.pg_loss.proofs.PgHistory.ends.Apart.{pair_second}
+use Rattle.pg_loss.proofs.PgHistory.places.Shown.{IsHere}
+use Rattle.pg_loss.proofs.PgHistory.references.Keys.{atoms}
 use Rattle.pg_loss.specs.Agreeing.{EndedHome, SawAll}
 use Rattle.pg_loss.specs.Reached.{LosingReaches}
 use Rattle.pg_loss.proofs.Bridges.{Bridged, bridged}

@@ -4,14 +4,14 @@ use Rattle.std.proofs.Common.{List, [], ◌∷◌, ◌++◌, refl, ap, sym, ◌�
 use Rattle.std.specs.List.{AllByRecursion, IsDistinct}
 use Rattle.pg_term.specs.declared.term.Term.{Term}
 use Rattle.pg_term.specs.Same.{same_atom}
-use Rattle.pg_group.specs.Value.{less}
-use Rattle.pg_machine.specs.Losing.{LosingEvent}
-use Rattle.pg_step.specs.Config.{Config, name_at, names_of}
-use Rattle.pg_step.specs.LossLaws.{LosingFrameWorld}
-use Rattle.pg_step.specs.Step.{Action}
-use Rattle.pg_history.specs.History.{Entry, answered_count, known, replay}
-use Rattle.pg_history.specs.WithLosses.{Marked, has_seen, left_of, left_out}
-use Rattle.pg_history.proofs.places.Shown.{IsHere}
+use Rattle.pg_loss.specs.PgGroup.Value.{less}
+use Rattle.pg_loss.specs.PgMachine.Losing.{LosingEvent}
+use Rattle.pg_loss.specs.PgStep.Config.{Config, name_at, names_of}
+use Rattle.pg_loss.specs.PgStep.LossLaws.{LosingFrameWorld}
+use Rattle.pg_loss.specs.PgStep.Step.{Action}
+use Rattle.pg_loss.specs.PgHistory.History.{Entry, answered_count, known, replay}
+use Rattle.pg_loss.specs.PgHistory.WithLosses.{Marked, has_seen, left_of, left_out}
+use Rattle.pg_loss.proofs.PgHistory.places.Shown.{IsHere}
 use Rattle.pg_loss.specs.Reached.{LosingReaches}
 use Rattle.pg_loss.proofs.Lossy.{bare}
 use Rattle.pg_loss.proofs.Thinned.{EachOut}

@@ -5,19 +5,19 @@ use Rattle.std.specs.List.{AllByRecursion, IsDistinct}
 use Rattle.std.proofs.lemmas.Bool.{eq-eqb}
 use Rattle.pg_term.specs.declared.term.Term.{Term}
 use Rattle.pg_term.specs.Same.{same_atom, same_term}
-use Rattle.pg_group.specs.Value.{name_of}
-use Rattle.pg_refs.specs.Numbered.{numbered}
-use Rattle.pg_lock.specs.Locks.{is_holder}
-use Rattle.pg_machine.specs.Losing.{LosingEvent}
-use Rattle.pg_step.specs.Attempts.{same_op}
-use Rattle.pg_step.specs.declared.command.OpId.{OpId}
-use Rattle.pg_step.specs.Config.{Config, name_at, names_of}
-use Rattle.pg_step.specs.LossLaws.{LosingFrameWorld}
-use Rattle.pg_step.specs.Step.{Action}
-use Rattle.pg_history.specs.History.{Entry, answered_count, applied_by, entries, history, of_group, times, updates_of}
-use Rattle.pg_history.specs.WithLosses.{Marked, all_entries, has_seen, left_of, left_out}
-use Rattle.pg_history.proofs.places.Prefixes.{node_here}
-use Rattle.pg_history.proofs.places.Shown.{IsHere}
+use Rattle.pg_loss.specs.PgGroup.Value.{name_of}
+use Rattle.pg_loss.specs.PgRefs.Numbered.{numbered}
+use Rattle.pg_loss.specs.PgLock.Locks.{is_holder}
+use Rattle.pg_loss.specs.PgMachine.Losing.{LosingEvent}
+use Rattle.pg_loss.specs.PgStep.Attempts.{same_op}
+use Rattle.pg_loss.specs.PgStep.declared.command.OpId.{OpId}
+use Rattle.pg_loss.specs.PgStep.Config.{Config, name_at, names_of}
+use Rattle.pg_loss.specs.PgStep.LossLaws.{LosingFrameWorld}
+use Rattle.pg_loss.specs.PgStep.Step.{Action}
+use Rattle.pg_loss.specs.PgHistory.History.{Entry, answered_count, applied_by, entries, history, of_group, times, updates_of}
+use Rattle.pg_loss.specs.PgHistory.WithLosses.{Marked, all_entries, has_seen, left_of, left_out}
+use Rattle.pg_loss.proofs.PgHistory.places.Prefixes.{node_here}
+use Rattle.pg_loss.proofs.PgHistory.places.Shown.{IsHere}
 use Rattle.pg_loss.specs.Reached.{LosingReaches}
 use Rattle.pg_loss.specs.Survived.{KeptPastLosses}
 use Rattle.pg_loss.specs.Thinned.{AppliesThinned}

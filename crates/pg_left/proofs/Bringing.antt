@@ -8,35 +8,35 @@ use Rattle.std.proofs.lemmas.List.{append_assoc, map-append}
 use Rattle.pg_term.specs.declared.term.Term.{Term}
 use Rattle.pg_term.specs.RefParts.{RefParts, ref_eq}
 use Rattle.pg_term.specs.Same.{same_atom}
-use Rattle.pg_refs.specs.Numbered.{numbered}
-use Rattle.pg_group.specs.declared.update.Update.{Update}
-use Rattle.pg_group.specs.Value.{name_of}
-use Rattle.pg_message.specs.declared.message.Message.{Message}
-use Rattle.pg_message.specs.declared.message.Message.TheVariants.{Call, Reply, DelLock, Exchange, Down}
-use Rattle.pg_message.specs.declared.message.Request.TheVariants.{SetLock, Change}
-use Rattle.pg_machine.specs.Losing.{Noticed, Sent, Last}
-use Rattle.pg_step.specs.declared.command.OpId.{OpId}
-use Rattle.pg_step.specs.Config.{Config, name_at, names_of, nodes_at}
-use Rattle.pg_step.specs.Nodes.{Node, is_peer}
-use Rattle.pg_step.specs.State.{State, Status, Use, live_nodes}
-use Rattle.pg_step.specs.State.Status.{Unasked, Asked, Yes, No}
-use Rattle.pg_step.specs.State.Use.{Fresh, Spent, Locking, Owning, Updating}
-use Rattle.pg_history.specs.Exclusive.{IsUpdateOf}
-use Rattle.pg_history.specs.History.{Entry, history}
-use Rattle.pg_history.proofs.ends.Apart.{place_below, same_place}
-use Rattle.pg_history.proofs.locks.Kept.{Due, Inv, IsOpOf, IsOurs, Tale, carried, near, talk}
-use Rattle.pg_history.proofs.locks.Lines.{Fits, FitsReply, FitsStatus, Line, outs}
-use Rattle.pg_history.proofs.locks.Lines.Line.{Quiet, Closing, Wanting, Giving, Refusing, Having, Telling, Confirming}
-use Rattle.pg_history.proofs.locks.Moves.{change_line}
-use Rattle.pg_history.proofs.locks.Named.{World, Entry as Named}
-use Rattle.pg_history.proofs.locks.Telling.{carried-append}
-use Rattle.pg_history.proofs.locks.Unique.{one_update}
-use Rattle.pg_history.proofs.places.Located.{is_named, left_out, same_names}
-use Rattle.pg_history.proofs.places.Prefixes.{group_shown}
-use Rattle.pg_history.proofs.places.Shown.{IsHere, by_name}
-use Rattle.pg_history.proofs.references.Keys.{atoms}
-use Rattle.pg_history.proofs.references.References.{about, about-append, about_here, numbered_same, refers}
-use Rattle.pg_history.proofs.steps.Ways.{all_behind}
+use Rattle.pg_loss.specs.PgRefs.Numbered.{numbered}
+use Rattle.pg_loss.specs.PgGroup.declared.update.Update.{Update}
+use Rattle.pg_loss.specs.PgGroup.Value.{name_of}
+use Rattle.pg_loss.specs.PgMessage.declared.message.Message.{Message}
+use Rattle.pg_loss.specs.PgMessage.declared.message.Message.TheVariants.{Call, Reply, DelLock, Exchange, Down}
+use Rattle.pg_loss.specs.PgMessage.declared.message.Request.TheVariants.{SetLock, Change}
+use Rattle.pg_loss.specs.PgMachine.Losing.{Noticed, Sent, Last}
+use Rattle.pg_loss.specs.PgStep.declared.command.OpId.{OpId}
+use Rattle.pg_loss.specs.PgStep.Config.{Config, name_at, names_of, nodes_at}
+use Rattle.pg_loss.specs.PgStep.Nodes.{Node, is_peer}
+use Rattle.pg_loss.specs.PgStep.State.{State, Status, Use, live_nodes}
+use Rattle.pg_loss.specs.PgStep.State.Status.{Unasked, Asked, Yes, No}
+use Rattle.pg_loss.specs.PgStep.State.Use.{Fresh, Spent, Locking, Owning, Updating}
+use Rattle.pg_loss.specs.PgHistory.Exclusive.{IsUpdateOf}
+use Rattle.pg_loss.specs.PgHistory.History.{Entry, history}
+use Rattle.pg_loss.proofs.PgHistory.ends.Apart.{place_below, same_place}
+use Rattle.pg_loss.proofs.PgHistory.locks.Kept.{Due, Inv, IsOpOf, IsOurs, Tale, carried, near, talk}
+use Rattle.pg_loss.proofs.PgHistory.locks.Lines.{Fits, FitsReply, FitsStatus, Line, outs}
+use Rattle.pg_loss.proofs.PgHistory.locks.Lines.Line.{Quiet, Closing, Wanting, Giving, Refusing, Having, Telling, Confirming}
+use Rattle.pg_loss.proofs.PgHistory.locks.Moves.{change_line}
+use Rattle.pg_loss.proofs.PgHistory.locks.Named.{World, Entry as Named}
+use Rattle.pg_loss.proofs.PgHistory.locks.Telling.{carried-append}
+use Rattle.pg_loss.proofs.PgHistory.locks.Unique.{one_update}
+use Rattle.pg_loss.proofs.PgHistory.places.Located.{is_named, left_out, same_names}
+use Rattle.pg_loss.proofs.PgHistory.places.Prefixes.{group_shown}
+use Rattle.pg_loss.proofs.PgHistory.places.Shown.{IsHere, by_name}
+use Rattle.pg_loss.proofs.PgHistory.references.Keys.{atoms}
+use Rattle.pg_loss.proofs.PgHistory.references.References.{about, about-append, about_here, numbered_same, refers}
+use Rattle.pg_loss.proofs.PgHistory.steps.Ways.{all_behind}
 use Rattle.pg_loss.proofs.Bridge.{Left, any_filter, live_at, next_left, whole_of}
 use Rattle.pg_loss.proofs.Bridges.{Bridged}
 use Rattle.pg_loss.proofs.Lossy.{Lossy}

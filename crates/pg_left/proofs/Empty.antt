@@ -5,31 +5,31 @@ use Rattle.std.specs.List.{IsDistinct}
 use Rattle.std.proofs.lemmas.Bool.{ne_eqb}
 use Rattle.pg_term.specs.declared.term.Term.{Term}
 use Rattle.pg_term.specs.Same.{same_atom}
-use Rattle.pg_group.specs.declared.update.Update.{Update}
-use Rattle.pg_group.specs.Value.{name_of}
-use Rattle.pg_refs.specs.Numbered.{numbered}
-use Rattle.pg_lock.specs.Locks.{is_holder}
-use Rattle.pg_message.specs.declared.message.Message.{Message}
-use Rattle.pg_machine.specs.Happened.{Happened}
-use Rattle.pg_machine.specs.Losing.{LosingEvent, Noticed, nobody_gone}
-use Rattle.pg_machine.specs.Machine.{Event, World, node_of, start_of}
-use Rattle.pg_machine.proofs.Places.{by_place}
-use Rattle.pg_machine.proofs.Steps.{changes}
-use Rattle.pg_step.specs.declared.command.OpId.{OpId}
-use Rattle.pg_step.specs.Config.{Config, name_at, names_of, nodes_at}
-use Rattle.pg_step.specs.FrameMachine.{losing_frame_machine, losing_machine_of}
-use Rattle.pg_step.specs.LossLaws.{LosingFrameWorld}
-use Rattle.pg_step.specs.State.{State, formed}
-use Rattle.pg_step.specs.Step.{Action}
-use Rattle.pg_step.specs.Turns.{Report}
-use Rattle.pg_history.specs.History.{Entry, answered_count, applied_by, entries, entry_of}
-use Rattle.pg_history.specs.History.{history, of_group, update_by, update_of, updates_of}
-use Rattle.pg_history.specs.WithLosses.{Marked, Thinned, all_entries, left_of}
-use Rattle.pg_history.proofs.places.Shown.{IsHere}
-use Rattle.pg_history.proofs.references.Keys.{terms}
-use Rattle.pg_history.proofs.steps.Grows.{entries_append}
-use Rattle.pg_history.proofs.steps.Lasting.{all_stay}
-use Rattle.pg_history.proofs.steps.Ways.{own_place, told_append}
+use Rattle.pg_loss.specs.PgGroup.declared.update.Update.{Update}
+use Rattle.pg_loss.specs.PgGroup.Value.{name_of}
+use Rattle.pg_loss.specs.PgRefs.Numbered.{numbered}
+use Rattle.pg_loss.specs.PgLock.Locks.{is_holder}
+use Rattle.pg_loss.specs.PgMessage.declared.message.Message.{Message}
+use Rattle.pg_loss.specs.PgMachine.Happened.{Happened}
+use Rattle.pg_loss.specs.PgMachine.Losing.{LosingEvent, Noticed, nobody_gone}
+use Rattle.pg_loss.specs.PgMachine.Machine.{Event, World, node_of, start_of}
+use Rattle.pg_loss.proofs.PgMachine.Places.{by_place}
+use Rattle.pg_loss.proofs.PgMachine.Steps.{changes}
+use Rattle.pg_loss.specs.PgStep.declared.command.OpId.{OpId}
+use Rattle.pg_loss.specs.PgStep.Config.{Config, name_at, names_of, nodes_at}
+use Rattle.pg_loss.specs.PgStep.FrameMachine.{losing_frame_machine, losing_machine_of}
+use Rattle.pg_loss.specs.PgStep.LossLaws.{LosingFrameWorld}
+use Rattle.pg_loss.specs.PgStep.State.{State, formed}
+use Rattle.pg_loss.specs.PgStep.Step.{Action}
+use Rattle.pg_loss.specs.PgStep.Turns.{Report}
+use Rattle.pg_loss.specs.PgHistory.History.{Entry, answered_count, applied_by, entries, entry_of}
+use Rattle.pg_loss.specs.PgHistory.History.{history, of_group, update_by, update_of, updates_of}
+use Rattle.pg_loss.specs.PgHistory.WithLosses.{Marked, Thinned, all_entries, left_of}
+use Rattle.pg_loss.proofs.PgHistory.places.Shown.{IsHere}
+use Rattle.pg_loss.proofs.PgHistory.references.Keys.{terms}
+use Rattle.pg_loss.proofs.PgHistory.steps.Grows.{entries_append}
+use Rattle.pg_loss.proofs.PgHistory.steps.Lasting.{all_stay}
+use Rattle.pg_loss.proofs.PgHistory.steps.Ways.{own_place, told_append}
 use Rattle.pg_loss.specs.Reached.{LosingReaches}
 use Rattle.pg_loss.specs.Thinned.{AppliesThinned}
 use Rattle.pg_loss.proofs.Bridge.{Has, not_true}

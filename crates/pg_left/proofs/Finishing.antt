@@ -6,45 +6,45 @@ use Rattle.std.proofs.lemmas.Bool.{eq-eqb}
 use Rattle.std.proofs.lemmas.List.{append_assoc}
 use Rattle.pg_term.specs.declared.pid.Pid.{Pid}
 use Rattle.pg_term.specs.Same.{same_atom}
-use Rattle.pg_group.specs.declared.update.Update.{Update}
-use Rattle.pg_group.specs.declared.update.Update.TheVariants as update
-use Rattle.pg_group.specs.Value.{name_of}
-use Rattle.pg_group.proofs.Changes.{upd_at}
-use Rattle.pg_message.specs.declared.message.Message.{Message}
-use Rattle.pg_message.specs.declared.message.Message.TheVariants.{Call, Reply, DelLock, Exchange, Down}
-use Rattle.pg_machine.specs.Happened.{Happened}
-use Rattle.pg_machine.specs.Losing.{Last, Lose, LosingEvent, Noticed, Sent, Step, nobody_gone}
-use Rattle.pg_machine.specs.Machine.{Input, Turn, Event, Taken, Own, Take, Do}
-use Rattle.pg_machine.specs.Machine.{World, first_from, input_of, node_of, start_of}
-use Rattle.pg_machine.specs.Places.{is_place}
-use Rattle.pg_machine.proofs.Options.{some_is}
-use Rattle.pg_machine.proofs.Plain.{plain_start}
-use Rattle.pg_machine.proofs.Steps.{pair_apart}
-use Rattle.pg_step.specs.Attempts.{attempt, same_op, tried_again, waits}
-use Rattle.pg_step.specs.Commands.{OPEN_LIMIT, answer, carried_out, change, change_by, command as command_in}
-use Rattle.pg_step.specs.Commands.{command_by, count_command, fault_of, look, next_op, open_command, refused, undertake}
-use Rattle.pg_step.specs.Config.{Config, name_at, names_of, nodes_at, ports_at}
-use Rattle.pg_step.specs.FrameMachine.{losing_frame_machine, losing_machine_of, node_step, place_turn}
-use Rattle.pg_step.specs.LossLaws.{LosingFrameWorld}
-use Rattle.pg_step.specs.Nodes.{Nodes}
-use Rattle.pg_step.specs.Peers.{process_end}
-use Rattle.pg_step.specs.State.{State, live_nodes}
-use Rattle.pg_step.specs.Step.{Action, CLOCK_LIMIT, Issue, Retry, acted, taken}
-use Rattle.pg_step.specs.Turns.{NodeTurn, Report, and_then}
-use Rattle.pg_step.specs.declared.answer.Reply.{Reply as Answer}
-use Rattle.pg_step.specs.declared.command.Command.{Command}
-use Rattle.pg_step.specs.declared.command.Command.TheVariants as command
-use Rattle.pg_step.specs.declared.command.OpId.{OpId}
-use Rattle.pg_step.specs.declared.command_fault.CommandFault.{CommandFault}
-use Rattle.pg_step.specs.declared.command_fault.CommandFault.TheVariants.{Busy}
-use Rattle.pg_step.specs.declared.refusal.Refusal.TheVariants.{NoSuchPlace, NotWaiting}
-use Rattle.pg_step.proofs.Once.{is_same, same_is}
-use Rattle.pg_history.specs.Reached.{FinishedAt}
-use Rattle.pg_history.proofs.ends.Apart.{pair_second, same_place}
-use Rattle.pg_history.proofs.steps.Made.{did_so, ended_by, took_so}
-use Rattle.pg_history.proofs.steps.Single.{Any, AnyUpdate, Makes as MakesTurn, OfSingle}
-use Rattle.pg_history.proofs.steps.Single.{attempt_so, ok_is, taken_so, tried_so}
-use Rattle.pg_history.proofs.steps.Ways.{own_place, packet_there, pair_there, state_after}
+use Rattle.pg_loss.specs.PgGroup.declared.update.Update.{Update}
+use Rattle.pg_loss.specs.PgGroup.declared.update.Update.TheVariants as update
+use Rattle.pg_loss.specs.PgGroup.Value.{name_of}
+use Rattle.pg_loss.proofs.PgGroup.Changes.{upd_at}
+use Rattle.pg_loss.specs.PgMessage.declared.message.Message.{Message}
+use Rattle.pg_loss.specs.PgMessage.declared.message.Message.TheVariants.{Call, Reply, DelLock, Exchange, Down}
+use Rattle.pg_loss.specs.PgMachine.Happened.{Happened}
+use Rattle.pg_loss.specs.PgMachine.Losing.{Last, Lose, LosingEvent, Noticed, Sent, Step, nobody_gone}
+use Rattle.pg_loss.specs.PgMachine.Machine.{Input, Turn, Event, Taken, Own, Take, Do}
+use Rattle.pg_loss.specs.PgMachine.Machine.{World, first_from, input_of, node_of, start_of}
+use Rattle.pg_loss.specs.PgMachine.Places.{is_place}
+use Rattle.pg_loss.proofs.PgMachine.Options.{some_is}
+use Rattle.pg_loss.proofs.PgMachine.Plain.{plain_start}
+use Rattle.pg_loss.proofs.PgMachine.Steps.{pair_apart}
+use Rattle.pg_loss.specs.PgStep.Attempts.{attempt, same_op, tried_again, waits}
+use Rattle.pg_loss.specs.PgStep.Commands.{OPEN_LIMIT, answer, carried_out, change, change_by, command as command_in}
+use Rattle.pg_loss.specs.PgStep.Commands.{command_by, count_command, fault_of, look, next_op, open_command, refused, undertake}
+use Rattle.pg_loss.specs.PgStep.Config.{Config, name_at, names_of, nodes_at, ports_at}
+use Rattle.pg_loss.specs.PgStep.FrameMachine.{losing_frame_machine, losing_machine_of, node_step, place_turn}
+use Rattle.pg_loss.specs.PgStep.LossLaws.{LosingFrameWorld}
+use Rattle.pg_loss.specs.PgStep.Nodes.{Nodes}
+use Rattle.pg_loss.specs.PgStep.Peers.{process_end}
+use Rattle.pg_loss.specs.PgStep.State.{State, live_nodes}
+use Rattle.pg_loss.specs.PgStep.Step.{Action, CLOCK_LIMIT, Issue, Retry, acted, taken}
+use Rattle.pg_loss.specs.PgStep.Turns.{NodeTurn, Report, and_then}
+use Rattle.pg_loss.specs.PgStep.declared.answer.Reply.{Reply as Answer}
+use Rattle.pg_loss.specs.PgStep.declared.command.Command.{Command}
+use Rattle.pg_loss.specs.PgStep.declared.command.Command.TheVariants as command
+use Rattle.pg_loss.specs.PgStep.declared.command.OpId.{OpId}
+use Rattle.pg_loss.specs.PgStep.declared.command_fault.CommandFault.{CommandFault}
+use Rattle.pg_loss.specs.PgStep.declared.command_fault.CommandFault.TheVariants.{Busy}
+use Rattle.pg_loss.specs.PgStep.declared.refusal.Refusal.TheVariants.{NoSuchPlace, NotWaiting}
+use Rattle.pg_loss.proofs.PgStep.Once.{is_same, same_is}
+use Rattle.pg_loss.specs.PgHistory.Reached.{FinishedAt}
+use Rattle.pg_loss.proofs.PgHistory.ends.Apart.{pair_second, same_place}
+use Rattle.pg_loss.proofs.PgHistory.steps.Made.{did_so, ended_by, took_so}
+use Rattle.pg_loss.proofs.PgHistory.steps.Single.{Any, AnyUpdate, Makes as MakesTurn, OfSingle}
+use Rattle.pg_loss.proofs.PgHistory.steps.Single.{attempt_so, ok_is, taken_so, tried_so}
+use Rattle.pg_loss.proofs.PgHistory.steps.Ways.{own_place, packet_there, pair_there, state_after}
 use Rattle.pg_loss.specs.Reached.{LosingReaches, steps_of}
 use Rattle.pg_loss.proofs.Homes.{AllOwn, Homed, passed_homed, start_homed}
 use Rattle.pg_loss.proofs.Lossy.{bare, Passed, Went, Died, passed, kept_past, Makes, Steps, Sees, makes, noted}

@@ -2,25 +2,25 @@
 use Rattle.std.proofs.Common.{◌≡◌, ◌≢◌, ◌⊎◌, inl, inr, ℕ, zero, suc, Bool, true, false, cond}
 use Rattle.std.proofs.Common.{length, map, take, List, [], ◌∷◌, ◌++◌, refl, ap, sym, ◌∙◌, subst}
 use Rattle.pg_term.specs.Same.{same_atom}
-use Rattle.pg_message.specs.declared.message.Message.{Message}
-use Rattle.pg_message.specs.declared.message.Message.TheVariants.{Exchange}
-use Rattle.pg_machine.specs.Happened.{Happened}
-use Rattle.pg_machine.specs.Losing.{Noticed, Sent, Last, LosingEvent, nobody_gone}
-use Rattle.pg_machine.specs.Machine.{Event, Input, Taken, Own, Turn, node_of, start_of}
-use Rattle.pg_machine.specs.Places.{is_pair}
-use Rattle.pg_machine.proofs.Places.{by_place}
-use Rattle.pg_machine.proofs.Plain.{plain_start}
-use Rattle.pg_machine.proofs.Steps.{pair_apart}
-use Rattle.pg_step.specs.Config.{Config, name_at, groups_at}
-use Rattle.pg_step.specs.FrameMachine.{losing_frame_machine, losing_machine_of}
-use Rattle.pg_step.specs.LossLaws.{LosingFrameWorld}
-use Rattle.pg_step.specs.State.{State}
-use Rattle.pg_step.specs.Step.{CLOCK_LIMIT, Action}
-use Rattle.pg_step.specs.Turns.{NodeTurn, Report}
-use Rattle.pg_history.proofs.ends.Apart.{pair_swapped}
-use Rattle.pg_history.proofs.references.Keys.{atoms, read_at}
-use Rattle.pg_history.proofs.steps.Made.{StepMakes, Talking, Merging, Ending, TellsNothing, step_makes}
-use Rattle.pg_history.proofs.steps.Ways.{WayAfter, Grown, Shorter, Unchanged, state_after, way_after}
+use Rattle.pg_loss.specs.PgMessage.declared.message.Message.{Message}
+use Rattle.pg_loss.specs.PgMessage.declared.message.Message.TheVariants.{Exchange}
+use Rattle.pg_loss.specs.PgMachine.Happened.{Happened}
+use Rattle.pg_loss.specs.PgMachine.Losing.{Noticed, Sent, Last, LosingEvent, nobody_gone}
+use Rattle.pg_loss.specs.PgMachine.Machine.{Event, Input, Taken, Own, Turn, node_of, start_of}
+use Rattle.pg_loss.specs.PgMachine.Places.{is_pair}
+use Rattle.pg_loss.proofs.PgMachine.Places.{by_place}
+use Rattle.pg_loss.proofs.PgMachine.Plain.{plain_start}
+use Rattle.pg_loss.proofs.PgMachine.Steps.{pair_apart}
+use Rattle.pg_loss.specs.PgStep.Config.{Config, name_at, groups_at}
+use Rattle.pg_loss.specs.PgStep.FrameMachine.{losing_frame_machine, losing_machine_of}
+use Rattle.pg_loss.specs.PgStep.LossLaws.{LosingFrameWorld}
+use Rattle.pg_loss.specs.PgStep.State.{State}
+use Rattle.pg_loss.specs.PgStep.Step.{CLOCK_LIMIT, Action}
+use Rattle.pg_loss.specs.PgStep.Turns.{NodeTurn, Report}
+use Rattle.pg_loss.proofs.PgHistory.ends.Apart.{pair_swapped}
+use Rattle.pg_loss.proofs.PgHistory.references.Keys.{atoms, read_at}
+use Rattle.pg_loss.proofs.PgHistory.steps.Made.{StepMakes, Talking, Merging, Ending, TellsNothing, step_makes}
+use Rattle.pg_loss.proofs.PgHistory.steps.Ways.{WayAfter, Grown, Shorter, Unchanged, state_after, way_after}
 use Rattle.pg_loss.specs.Reached.{LosingReaches}
 use Rattle.pg_loss.proofs.Bridge.{not_true}
 use Rattle.pg_loss.proofs.Lasts.{made_stays}

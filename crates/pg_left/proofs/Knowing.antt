@@ -9,41 +9,41 @@ use Rattle.std.proofs.lemmas.List.{append-nil, append_assoc}
 use Rattle.pg_term.specs.declared.pid.Pid.{Pid}
 use Rattle.pg_term.specs.declared.term.Term.{Term}
 use Rattle.pg_term.specs.Same.{same_atom}
-use Rattle.pg_group.specs.declared.update.Update.{Update}
-use Rattle.pg_group.specs.Functions.{upd}
-use Rattle.pg_group.specs.Scope.{at_node}
-use Rattle.pg_group.specs.Value.{Value, less}
-use Rattle.pg_exchange.specs.GroupList.{GroupList}
-use Rattle.pg_message.specs.declared.message.Message.{Message}
-use Rattle.pg_message.specs.declared.message.Message.TheVariants.{Exchange}
-use Rattle.pg_machine.specs.Clocked.{Stamped, packets_of}
-use Rattle.pg_machine.specs.Happened.{Happened}
-use Rattle.pg_machine.specs.Losing.{Noticed, Sent, Last, LosingEvent, Lose, Step, nobody_gone}
-use Rattle.pg_machine.specs.Machine.{Do, Event, Input, Take, Taken, Turn, World}
-use Rattle.pg_machine.specs.Machine.{first_from, input_of, node_of, start_of}
-use Rattle.pg_machine.specs.Places.{is_pair}
-use Rattle.pg_machine.proofs.Options.{some_is}
-use Rattle.pg_machine.proofs.Steps.{changes, pair_apart}
-use Rattle.pg_step.specs.Config.{Config, groups_at, name_at, names_of, nodes_at}
-use Rattle.pg_step.specs.FrameMachine.{losing_frame_machine, losing_machine_of}
-use Rattle.pg_step.specs.Losses.{see_loss}
-use Rattle.pg_step.specs.LossLaws.{LosingFrameWorld, is_notice}
-use Rattle.pg_step.specs.Nodes.{Node}
-use Rattle.pg_step.specs.Peers.{exchange}
-use Rattle.pg_step.specs.State.{State, formed}
-use Rattle.pg_step.specs.Step.{Action}
-use Rattle.pg_step.specs.Turns.{NodeTurn, Report}
-use Rattle.pg_history.specs.History.{applied_by, base, known, replay, update_by, update_of}
-use Rattle.pg_history.proofs.ends.Apart.{pair_second, same_place}
-use Rattle.pg_history.proofs.places.Shown.{IsHere}
-use Rattle.pg_history.proofs.quiet.Rest.{each_peer}
-use Rattle.pg_history.proofs.references.Keys.{atoms, read_at, read_other, split}
-use Rattle.pg_history.proofs.steps.Lossless.{step_sees_none}
-use Rattle.pg_history.proofs.steps.Ways.{pair_there, packet_there, told_append}
-use Rattle.pg_history.proofs.tables.Applied.{Applying, EndingOne, Merges, StepTables, Tables, Tabling, step_tables}
-use Rattle.pg_history.proofs.tables.Formed.{all_merged, knows_all, not_formed}
-use Rattle.pg_history.proofs.tables.Tabled.{TableIs, exchange_step, has, table_start, tables_step}
-use Rattle.pg_group.proofs.Changes.{upd_by}
+use Rattle.pg_loss.specs.PgGroup.declared.update.Update.{Update}
+use Rattle.pg_loss.specs.PgGroup.Functions.{upd}
+use Rattle.pg_loss.specs.PgGroup.Scope.{at_node}
+use Rattle.pg_loss.specs.PgGroup.Value.{Value, less}
+use Rattle.pg_loss.specs.PgExchange.GroupList.{GroupList}
+use Rattle.pg_loss.specs.PgMessage.declared.message.Message.{Message}
+use Rattle.pg_loss.specs.PgMessage.declared.message.Message.TheVariants.{Exchange}
+use Rattle.pg_loss.specs.PgMachine.Clocked.{Stamped, packets_of}
+use Rattle.pg_loss.specs.PgMachine.Happened.{Happened}
+use Rattle.pg_loss.specs.PgMachine.Losing.{Noticed, Sent, Last, LosingEvent, Lose, Step, nobody_gone}
+use Rattle.pg_loss.specs.PgMachine.Machine.{Do, Event, Input, Take, Taken, Turn, World}
+use Rattle.pg_loss.specs.PgMachine.Machine.{first_from, input_of, node_of, start_of}
+use Rattle.pg_loss.specs.PgMachine.Places.{is_pair}
+use Rattle.pg_loss.proofs.PgMachine.Options.{some_is}
+use Rattle.pg_loss.proofs.PgMachine.Steps.{changes, pair_apart}
+use Rattle.pg_loss.specs.PgStep.Config.{Config, groups_at, name_at, names_of, nodes_at}
+use Rattle.pg_loss.specs.PgStep.FrameMachine.{losing_frame_machine, losing_machine_of}
+use Rattle.pg_loss.specs.PgStep.Losses.{see_loss}
+use Rattle.pg_loss.specs.PgStep.LossLaws.{LosingFrameWorld, is_notice}
+use Rattle.pg_loss.specs.PgStep.Nodes.{Node}
+use Rattle.pg_loss.specs.PgStep.Peers.{exchange}
+use Rattle.pg_loss.specs.PgStep.State.{State, formed}
+use Rattle.pg_loss.specs.PgStep.Step.{Action}
+use Rattle.pg_loss.specs.PgStep.Turns.{NodeTurn, Report}
+use Rattle.pg_loss.specs.PgHistory.History.{applied_by, base, known, replay, update_by, update_of}
+use Rattle.pg_loss.proofs.PgHistory.ends.Apart.{pair_second, same_place}
+use Rattle.pg_loss.proofs.PgHistory.places.Shown.{IsHere}
+use Rattle.pg_loss.proofs.PgHistory.quiet.Rest.{each_peer}
+use Rattle.pg_loss.proofs.PgHistory.references.Keys.{atoms, read_at, read_other, split}
+use Rattle.pg_loss.proofs.PgHistory.steps.Lossless.{step_sees_none}
+use Rattle.pg_loss.proofs.PgHistory.steps.Ways.{pair_there, packet_there, told_append}
+use Rattle.pg_loss.proofs.PgHistory.tables.Applied.{Applying, EndingOne, Merges, StepTables, Tables, Tabling, step_tables}
+use Rattle.pg_loss.proofs.PgHistory.tables.Formed.{all_merged, knows_all, not_formed}
+use Rattle.pg_loss.proofs.PgHistory.tables.Tabled.{TableIs, exchange_step, has, table_start, tables_step}
+use Rattle.pg_loss.proofs.PgGroup.Changes.{upd_by}
 use Rattle.pg_loss.specs.Reached.{LosingReaches}
 use Rattle.pg_loss.proofs.Bridge.{not_true}
 use Rattle.pg_loss.proofs.Lasts.{made_stays, unheard_input}

@@ -10,3 +10,7 @@ pub mod Missing
 pub mod Passing
 pub mod Turning
 pub mod Unlocked
+pub use Rattle.pg_loss.proofs.PgHistory
+pub use Rattle.pg_loss.proofs as PgLoss
+pub use Rattle.pg_loss.proofs.PgMachine
+pub use Rattle.pg_loss.proofs.PgStep

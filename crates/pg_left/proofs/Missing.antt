@@ -9,44 +9,44 @@ use Rattle.std.proofs.lemmas.List.{append_assoc, map-append, take-append-drop}
 use Rattle.pg_term.specs.declared.term.Term.{Term}
 use Rattle.pg_term.specs.RefParts.{RefParts}
 use Rattle.pg_term.specs.Same.{same_atom, same_term}
-use Rattle.pg_group.specs.declared.update.Update.{Update}
-use Rattle.pg_group.specs.Functions.{upd}
-use Rattle.pg_group.specs.Value.{name_of}
-use Rattle.pg_group.proofs.Changes.{upd_by}
-use Rattle.pg_exchange.specs.GroupList.{GroupList}
-use Rattle.pg_message.specs.declared.message.Message.{Message}
-use Rattle.pg_message.specs.declared.message.Message.TheVariants.{Call, Exchange}
-use Rattle.pg_message.specs.declared.message.Request.TheVariants.{Change}
-use Rattle.pg_machine.specs.Happened.{Changes, Happened}
-use Rattle.pg_machine.specs.Losing.{Noticed, Sent, Last, LosingEvent, mapped_turn, nobody_gone, stopped}
-use Rattle.pg_machine.specs.Machine.{Event, Input, Taken, Turn, World, node_of, start_of}
-use Rattle.pg_machine.specs.Places.{is_pair, set_at}
-use Rattle.pg_machine.proofs.Options.{some_is}
-use Rattle.pg_machine.proofs.Places.{by_place, set_at_here, set_at_other}
-use Rattle.pg_machine.proofs.Plain.{plain_start}
-use Rattle.pg_machine.proofs.Steps.{changes, pair_apart}
-use Rattle.pg_step.specs.declared.command.OpId.{OpId}
-use Rattle.pg_step.specs.Config.{Config, groups_at, name_at, names_of}
-use Rattle.pg_step.specs.FrameMachine.{losing_frame_machine, losing_machine_of, place_turn, node_step}
-use Rattle.pg_step.specs.Losses.{see_loss}
-use Rattle.pg_step.specs.LossLaws.{LosingFrameWorld}
-use Rattle.pg_step.specs.Nodes.{Node}
-use Rattle.pg_step.specs.State.{State}
-use Rattle.pg_step.specs.Step.{CLOCK_LIMIT, Action}
-use Rattle.pg_step.specs.Turns.{Report, nothing}
-use Rattle.pg_history.specs.Exclusive.{IsUpdateOf}
-use Rattle.pg_history.specs.History.{Entry, answered_count, applied_by, entries, entry_of, history, is_op}
-use Rattle.pg_history.specs.History.{is_update_of, of_group, update_by, update_of, updates_of}
-use Rattle.pg_history.specs.WithLosses.{Marked, all_entries, left_of, left_out}
-use Rattle.pg_history.proofs.ends.Apart.{pair_second}
-use Rattle.pg_history.proofs.locks.Kept.{IsOpOf, carried, live_own, near, near_swap}
-use Rattle.pg_history.proofs.places.Prefixes.{answers_shown}
-use Rattle.pg_history.proofs.places.Shown.{IsHere, by_name}
-use Rattle.pg_history.proofs.references.Keys.{atoms, read_at, read_other, same_is, split, terms}
-use Rattle.pg_history.proofs.steps.Grows.{of_group_append}
-use Rattle.pg_history.proofs.steps.Lossless.{step_sees_none}
-use Rattle.pg_history.proofs.steps.Ways.{WayAfter, Grown, Shorter, Unchanged, own_place, pair_there}
-use Rattle.pg_history.proofs.steps.Ways.{told_append, way_after}
+use Rattle.pg_loss.specs.PgGroup.declared.update.Update.{Update}
+use Rattle.pg_loss.specs.PgGroup.Functions.{upd}
+use Rattle.pg_loss.specs.PgGroup.Value.{name_of}
+use Rattle.pg_loss.proofs.PgGroup.Changes.{upd_by}
+use Rattle.pg_loss.specs.PgExchange.GroupList.{GroupList}
+use Rattle.pg_loss.specs.PgMessage.declared.message.Message.{Message}
+use Rattle.pg_loss.specs.PgMessage.declared.message.Message.TheVariants.{Call, Exchange}
+use Rattle.pg_loss.specs.PgMessage.declared.message.Request.TheVariants.{Change}
+use Rattle.pg_loss.specs.PgMachine.Happened.{Changes, Happened}
+use Rattle.pg_loss.specs.PgMachine.Losing.{Noticed, Sent, Last, LosingEvent, mapped_turn, nobody_gone, stopped}
+use Rattle.pg_loss.specs.PgMachine.Machine.{Event, Input, Taken, Turn, World, node_of, start_of}
+use Rattle.pg_loss.specs.PgMachine.Places.{is_pair, set_at}
+use Rattle.pg_loss.proofs.PgMachine.Options.{some_is}
+use Rattle.pg_loss.proofs.PgMachine.Places.{by_place, set_at_here, set_at_other}
+use Rattle.pg_loss.proofs.PgMachine.Plain.{plain_start}
+use Rattle.pg_loss.proofs.PgMachine.Steps.{changes, pair_apart}
+use Rattle.pg_loss.specs.PgStep.declared.command.OpId.{OpId}
+use Rattle.pg_loss.specs.PgStep.Config.{Config, groups_at, name_at, names_of}
+use Rattle.pg_loss.specs.PgStep.FrameMachine.{losing_frame_machine, losing_machine_of, place_turn, node_step}
+use Rattle.pg_loss.specs.PgStep.Losses.{see_loss}
+use Rattle.pg_loss.specs.PgStep.LossLaws.{LosingFrameWorld}
+use Rattle.pg_loss.specs.PgStep.Nodes.{Node}
+use Rattle.pg_loss.specs.PgStep.State.{State}
+use Rattle.pg_loss.specs.PgStep.Step.{CLOCK_LIMIT, Action}
+use Rattle.pg_loss.specs.PgStep.Turns.{Report, nothing}
+use Rattle.pg_loss.specs.PgHistory.Exclusive.{IsUpdateOf}
+use Rattle.pg_loss.specs.PgHistory.History.{Entry, answered_count, applied_by, entries, entry_of, history, is_op}
+use Rattle.pg_loss.specs.PgHistory.History.{is_update_of, of_group, update_by, update_of, updates_of}
+use Rattle.pg_loss.specs.PgHistory.WithLosses.{Marked, all_entries, left_of, left_out}
+use Rattle.pg_loss.proofs.PgHistory.ends.Apart.{pair_second}
+use Rattle.pg_loss.proofs.PgHistory.locks.Kept.{IsOpOf, carried, live_own, near, near_swap}
+use Rattle.pg_loss.proofs.PgHistory.places.Prefixes.{answers_shown}
+use Rattle.pg_loss.proofs.PgHistory.places.Shown.{IsHere, by_name}
+use Rattle.pg_loss.proofs.PgHistory.references.Keys.{atoms, read_at, read_other, same_is, split, terms}
+use Rattle.pg_loss.proofs.PgHistory.steps.Grows.{of_group_append}
+use Rattle.pg_loss.proofs.PgHistory.steps.Lossless.{step_sees_none}
+use Rattle.pg_loss.proofs.PgHistory.steps.Ways.{WayAfter, Grown, Shorter, Unchanged, own_place, pair_there}
+use Rattle.pg_loss.proofs.PgHistory.steps.Ways.{told_append, way_after}
 use Rattle.pg_loss.specs.Reached.{LosingReaches}
 use Rattle.pg_loss.proofs.Bridge.{live_at, near_at, not_true, whole_of}
 use Rattle.pg_loss.proofs.Bridges.{Bridged, bridged}

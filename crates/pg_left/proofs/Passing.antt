@@ -3,13 +3,13 @@ use Rattle.std.proofs.Common.{◌≡◌, List, [], ◌∷◌, ◌++◌, Some, re
 use Rattle.std.specs.List.{IsDistinct}
 use Rattle.std.proofs.lemmas.List.{append_assoc, append-nil}
 use Rattle.pg_term.specs.Same.{same_atom}
-use Rattle.pg_machine.specs.Losing.{LosingEvent, LosingLeads, losing_happens, nobody_gone}
-use Rattle.pg_machine.specs.Machine.{start_of}
-use Rattle.pg_machine.proofs.Options.{some_is}
-use Rattle.pg_step.specs.Config.{Config, names_of}
-use Rattle.pg_step.specs.FrameMachine.{last_notice, losing_frame_machine}
-use Rattle.pg_step.specs.LossLaws.{LosingFrameWorld}
-use Rattle.pg_step.specs.Step.{Action}
+use Rattle.pg_loss.specs.PgMachine.Losing.{LosingEvent, LosingLeads, losing_happens, nobody_gone}
+use Rattle.pg_loss.specs.PgMachine.Machine.{start_of}
+use Rattle.pg_loss.proofs.PgMachine.Options.{some_is}
+use Rattle.pg_loss.specs.PgStep.Config.{Config, names_of}
+use Rattle.pg_loss.specs.PgStep.FrameMachine.{last_notice, losing_frame_machine}
+use Rattle.pg_loss.specs.PgStep.LossLaws.{LosingFrameWorld}
+use Rattle.pg_loss.specs.PgStep.Step.{Action}
 use Rattle.pg_loss.specs.Reached.{LosingReaches}
 use Rattle.pg_loss.specs.Survived.{KeptPastLosses}
 

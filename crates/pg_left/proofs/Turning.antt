@@ -5,47 +5,47 @@ use Rattle.std.proofs.Common.{Ok, Err, refl, ap, sym, ◌∙◌, subst, append-n
 use Rattle.std.specs.Prelude.{map}
 use Rattle.pg_term.specs.RefParts.{RefParts}
 use Rattle.pg_term.specs.Same.{same_atom}
-use Rattle.pg_group.specs.declared.update.Update.{Update}
-use Rattle.pg_group.specs.declared.update.Update.TheVariants as update
-use Rattle.pg_group.specs.Value.{name_of}
-use Rattle.pg_refs.specs.Numbered.{number_in}
-use Rattle.pg_lock.specs.Attempts.{after_round, does_wait}
-use Rattle.pg_message.specs.declared.message.Message.{Message}
-use Rattle.pg_message.specs.declared.message.Message.TheVariants.{Call, Reply, DelLock, Exchange, Down}
-use Rattle.pg_message.specs.declared.message.Request.TheVariants.{SetLock, Change}
-use Rattle.pg_message.specs.declared.message.Said.{Said}
-use Rattle.pg_machine.specs.Losing.{Noticed, Sent}
-use Rattle.pg_machine.specs.Machine.{Input, Turn, Taken, Own}
-use Rattle.pg_step.specs.declared.command.Command.{Command}
-use Rattle.pg_step.specs.declared.command.Command.TheVariants as command
-use Rattle.pg_step.specs.declared.command_fault.CommandFault.{CommandFault}
-use Rattle.pg_step.specs.declared.command_fault.CommandFault.TheVariants.{Busy}
-use Rattle.pg_step.specs.declared.command.OpId.{OpId}
-use Rattle.pg_step.specs.declared.answer.Reply.{Reply as Answer}
-use Rattle.pg_step.specs.declared.refusal.Refusal.TheVariants.{NotAMessage, NoSuchPlace, NotWaiting}
-use Rattle.pg_step.specs.Attempts.{own_reference, round_of, all_granted, none_missing, none_denied, ask}
-use Rattle.pg_step.specs.Attempts.{give_up, begin, finish, attempt, waits, tried_again}
-use Rattle.pg_step.specs.Attempts.{new_attempt, count_answer, count_ok, replies_in, locks_in, go_on, use_of}
-use Rattle.pg_step.specs.Attempts.{counted, lock_status, reply_under}
-use Rattle.pg_step.specs.Commands.{OPEN_LIMIT, fault_of, look, open_command, change_by, change, carried_out}
-use Rattle.pg_step.specs.Commands.{command_by, next_op}
-use Rattle.pg_step.specs.Commands.{answer, count_command, command as command_in, refused}
-use Rattle.pg_step.specs.Config.{Config, name_at, nodes_at, ports_at}
-use Rattle.pg_step.specs.FrameMachine.{node_step, place_turn}
-use Rattle.pg_step.specs.Losses.{see_loss}
-use Rattle.pg_step.specs.Nodes.{Node, Nodes, every, greatest, is_peer}
-use Rattle.pg_step.specs.Peers.{is_bad_exchange, exchange}
-use Rattle.pg_step.specs.State.{State, Use, Stage, live_nodes}
-use Rattle.pg_step.specs.State.Status.{Unasked}
-use Rattle.pg_step.specs.State.Use.{Fresh, Locking, Owning, Updating, Spent}
-use Rattle.pg_step.specs.State.Stage.{Closed, Waiting, Asking, Changing}
-use Rattle.pg_step.specs.Step.{Action, Issue, Retry, acted, taken}
-use Rattle.pg_step.specs.Turns.{NodeTurn, Report, nothing, becomes, and_then, first_of}
-use Rattle.pg_history.proofs.locks.Kept.{carried}
-use Rattle.pg_history.proofs.locks.Telling.{carried-append}
-use Rattle.pg_history.proofs.places.Shown.{IsHere}
-use Rattle.pg_history.proofs.steps.Made.{did_so, took_so}
-use Rattle.pg_history.proofs.steps.Single.{Any, AnyUpdate, OfSingle, Makes, acted_so, taken_so, ok_is, judged}
+use Rattle.pg_loss.specs.PgGroup.declared.update.Update.{Update}
+use Rattle.pg_loss.specs.PgGroup.declared.update.Update.TheVariants as update
+use Rattle.pg_loss.specs.PgGroup.Value.{name_of}
+use Rattle.pg_loss.specs.PgRefs.Numbered.{number_in}
+use Rattle.pg_loss.specs.PgLock.Attempts.{after_round, does_wait}
+use Rattle.pg_loss.specs.PgMessage.declared.message.Message.{Message}
+use Rattle.pg_loss.specs.PgMessage.declared.message.Message.TheVariants.{Call, Reply, DelLock, Exchange, Down}
+use Rattle.pg_loss.specs.PgMessage.declared.message.Request.TheVariants.{SetLock, Change}
+use Rattle.pg_loss.specs.PgMessage.declared.message.Said.{Said}
+use Rattle.pg_loss.specs.PgMachine.Losing.{Noticed, Sent}
+use Rattle.pg_loss.specs.PgMachine.Machine.{Input, Turn, Taken, Own}
+use Rattle.pg_loss.specs.PgStep.declared.command.Command.{Command}
+use Rattle.pg_loss.specs.PgStep.declared.command.Command.TheVariants as command
+use Rattle.pg_loss.specs.PgStep.declared.command_fault.CommandFault.{CommandFault}
+use Rattle.pg_loss.specs.PgStep.declared.command_fault.CommandFault.TheVariants.{Busy}
+use Rattle.pg_loss.specs.PgStep.declared.command.OpId.{OpId}
+use Rattle.pg_loss.specs.PgStep.declared.answer.Reply.{Reply as Answer}
+use Rattle.pg_loss.specs.PgStep.declared.refusal.Refusal.TheVariants.{NotAMessage, NoSuchPlace, NotWaiting}
+use Rattle.pg_loss.specs.PgStep.Attempts.{own_reference, round_of, all_granted, none_missing, none_denied, ask}
+use Rattle.pg_loss.specs.PgStep.Attempts.{give_up, begin, finish, attempt, waits, tried_again}
+use Rattle.pg_loss.specs.PgStep.Attempts.{new_attempt, count_answer, count_ok, replies_in, locks_in, go_on, use_of}
+use Rattle.pg_loss.specs.PgStep.Attempts.{counted, lock_status, reply_under}
+use Rattle.pg_loss.specs.PgStep.Commands.{OPEN_LIMIT, fault_of, look, open_command, change_by, change, carried_out}
+use Rattle.pg_loss.specs.PgStep.Commands.{command_by, next_op}
+use Rattle.pg_loss.specs.PgStep.Commands.{answer, count_command, command as command_in, refused}
+use Rattle.pg_loss.specs.PgStep.Config.{Config, name_at, nodes_at, ports_at}
+use Rattle.pg_loss.specs.PgStep.FrameMachine.{node_step, place_turn}
+use Rattle.pg_loss.specs.PgStep.Losses.{see_loss}
+use Rattle.pg_loss.specs.PgStep.Nodes.{Node, Nodes, every, greatest, is_peer}
+use Rattle.pg_loss.specs.PgStep.Peers.{is_bad_exchange, exchange}
+use Rattle.pg_loss.specs.PgStep.State.{State, Use, Stage, live_nodes}
+use Rattle.pg_loss.specs.PgStep.State.Status.{Unasked}
+use Rattle.pg_loss.specs.PgStep.State.Use.{Fresh, Locking, Owning, Updating, Spent}
+use Rattle.pg_loss.specs.PgStep.State.Stage.{Closed, Waiting, Asking, Changing}
+use Rattle.pg_loss.specs.PgStep.Step.{Action, Issue, Retry, acted, taken}
+use Rattle.pg_loss.specs.PgStep.Turns.{NodeTurn, Report, nothing, becomes, and_then, first_of}
+use Rattle.pg_loss.proofs.PgHistory.locks.Kept.{carried}
+use Rattle.pg_loss.proofs.PgHistory.locks.Telling.{carried-append}
+use Rattle.pg_loss.proofs.PgHistory.places.Shown.{IsHere}
+use Rattle.pg_loss.proofs.PgHistory.steps.Made.{did_so, took_so}
+use Rattle.pg_loss.proofs.PgHistory.steps.Single.{Any, AnyUpdate, OfSingle, Makes, acted_so, taken_so, ok_is, judged}
 use Rattle.pg_loss.proofs.Lossy.{Makes as LossyMakes, Steps, Sees}
 
 -- the update of a turn that began one

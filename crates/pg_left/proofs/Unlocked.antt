@@ -6,37 +6,37 @@ use Rattle.pg_term.specs.declared.pid.Pid.{Pid}
 use Rattle.pg_term.specs.declared.term.Term.{Term}
 use Rattle.pg_term.specs.RefParts.{RefParts}
 use Rattle.pg_term.specs.Same.{same_atom, same_term}
-use Rattle.pg_group.specs.declared.update.Update.{Update}
-use Rattle.pg_group.specs.Functions.{upd}
-use Rattle.pg_group.proofs.Changes.{upd_by}
-use Rattle.pg_exchange.specs.GroupList.{GroupList}
-use Rattle.pg_lock.specs.Locks.{Locks, held, is_free, after_ask, given_up, freed_of}
-use Rattle.pg_message.specs.declared.message.Message.{Message}
-use Rattle.pg_message.specs.declared.message.Message.TheVariants.{Down}
-use Rattle.pg_machine.specs.Losing.{LosingEvent, Noticed, nobody_gone}
-use Rattle.pg_machine.specs.Machine.{Input, Turn, Taken, Own, node_of, start_of}
-use Rattle.pg_machine.proofs.Plain.{plain_start}
-use Rattle.pg_step.specs.declared.command.OpId.{OpId}
-use Rattle.pg_step.specs.Config.{Config, name_at, nodes_at, ports_at}
-use Rattle.pg_step.specs.FrameMachine.{losing_frame_machine, losing_machine_of, node_step, place_turn}
-use Rattle.pg_step.specs.Losses.{forgets, see_loss}
-use Rattle.pg_step.specs.LossLaws.{LosingFrameWorld}
-use Rattle.pg_step.specs.Nodes.{Node, Nodes, to_peers}
-use Rattle.pg_step.specs.Peers.{ended_in, exchange, process_end}
-use Rattle.pg_step.specs.State.{State, Status, Use, formed, live_nodes}
-use Rattle.pg_step.specs.State.Status.{Unasked, Asked, Yes, No}
-use Rattle.pg_step.specs.State.Use.{Fresh, Locking, Owning, Updating, Spent}
-use Rattle.pg_step.specs.Step.{Action, CLOCK_LIMIT}
-use Rattle.pg_step.specs.Turns.{NodeTurn, Report, becomes_and_sends}
-use Rattle.pg_history.proofs.places.Begun.{FitsOwn, KeepsOwn, OwnFits, TurnOwn, own_singly}
-use Rattle.pg_history.proofs.places.Unlocked.{NoneHeld, Unlocked, all_more, before_too}
-use Rattle.pg_history.proofs.references.Keys.{atoms, read_at, read_other, split}
-use Rattle.pg_history.proofs.steps.Lasting.{step_lasts}
-use Rattle.pg_history.proofs.steps.Lossless.{step_sees_none}
-use Rattle.pg_history.proofs.steps.Made.{did_so, took_so}
-use Rattle.pg_history.proofs.steps.Single.{Any, AnyUpdate, OfSingle, acted_so, taken_so}
-use Rattle.pg_history.proofs.steps.Ways.{state_after}
-use Rattle.pg_history.proofs.tables.Applied.{step_tables}
+use Rattle.pg_loss.specs.PgGroup.declared.update.Update.{Update}
+use Rattle.pg_loss.specs.PgGroup.Functions.{upd}
+use Rattle.pg_loss.proofs.PgGroup.Changes.{upd_by}
+use Rattle.pg_loss.specs.PgExchange.GroupList.{GroupList}
+use Rattle.pg_loss.specs.PgLock.Locks.{Locks, held, is_free, after_ask, given_up, freed_of}
+use Rattle.pg_loss.specs.PgMessage.declared.message.Message.{Message}
+use Rattle.pg_loss.specs.PgMessage.declared.message.Message.TheVariants.{Down}
+use Rattle.pg_loss.specs.PgMachine.Losing.{LosingEvent, Noticed, nobody_gone}
+use Rattle.pg_loss.specs.PgMachine.Machine.{Input, Turn, Taken, Own, node_of, start_of}
+use Rattle.pg_loss.proofs.PgMachine.Plain.{plain_start}
+use Rattle.pg_loss.specs.PgStep.declared.command.OpId.{OpId}
+use Rattle.pg_loss.specs.PgStep.Config.{Config, name_at, nodes_at, ports_at}
+use Rattle.pg_loss.specs.PgStep.FrameMachine.{losing_frame_machine, losing_machine_of, node_step, place_turn}
+use Rattle.pg_loss.specs.PgStep.Losses.{forgets, see_loss}
+use Rattle.pg_loss.specs.PgStep.LossLaws.{LosingFrameWorld}
+use Rattle.pg_loss.specs.PgStep.Nodes.{Node, Nodes, to_peers}
+use Rattle.pg_loss.specs.PgStep.Peers.{ended_in, exchange, process_end}
+use Rattle.pg_loss.specs.PgStep.State.{State, Status, Use, formed, live_nodes}
+use Rattle.pg_loss.specs.PgStep.State.Status.{Unasked, Asked, Yes, No}
+use Rattle.pg_loss.specs.PgStep.State.Use.{Fresh, Locking, Owning, Updating, Spent}
+use Rattle.pg_loss.specs.PgStep.Step.{Action, CLOCK_LIMIT}
+use Rattle.pg_loss.specs.PgStep.Turns.{NodeTurn, Report, becomes_and_sends}
+use Rattle.pg_loss.proofs.PgHistory.places.Begun.{FitsOwn, KeepsOwn, OwnFits, TurnOwn, own_singly}
+use Rattle.pg_loss.proofs.PgHistory.places.Unlocked.{NoneHeld, Unlocked, all_more, before_too}
+use Rattle.pg_loss.proofs.PgHistory.references.Keys.{atoms, read_at, read_other, split}
+use Rattle.pg_loss.proofs.PgHistory.steps.Lasting.{step_lasts}
+use Rattle.pg_loss.proofs.PgHistory.steps.Lossless.{step_sees_none}
+use Rattle.pg_loss.proofs.PgHistory.steps.Made.{did_so, took_so}
+use Rattle.pg_loss.proofs.PgHistory.steps.Single.{Any, AnyUpdate, OfSingle, acted_so, taken_so}
+use Rattle.pg_loss.proofs.PgHistory.steps.Ways.{state_after}
+use Rattle.pg_loss.proofs.PgHistory.tables.Applied.{step_tables}
 use Rattle.pg_loss.specs.Reached.{LosingReaches}
 use Rattle.pg_loss.proofs.Lossy.{Lossy, Passed, Went, Died, kept_past, Makes, Steps, Sees, makes}
 

@@ -1,13 +1,13 @@
 -- On which groups the live nodes agree, whoever was formed when.
 use Rattle.std.specs.Prelude.{◌≡◌, ℕ, true, false, length, List, None}
 use Rattle.pg_term.specs.declared.term.Term.{Term}
-use Rattle.pg_machine.specs.Losing.{LosingEvent}
-use Rattle.pg_machine.specs.Places.{is_place}
-use Rattle.pg_step.specs.Config.{Config, nodes_at}
-use Rattle.pg_step.specs.LossLaws.{LosingFrameWorld}
-use Rattle.pg_step.specs.State.{formed}
-use Rattle.pg_step.specs.Step.{Action}
-use Rattle.pg_history.specs.WithLosses.{NonePendingLive}
+use Rattle.pg_loss.specs.PgMachine.Losing.{LosingEvent}
+use Rattle.pg_loss.specs.PgMachine.Places.{is_place}
+use Rattle.pg_loss.specs.PgStep.Config.{Config, nodes_at}
+use Rattle.pg_loss.specs.PgStep.LossLaws.{LosingFrameWorld}
+use Rattle.pg_loss.specs.PgStep.State.{formed}
+use Rattle.pg_loss.specs.PgStep.Step.{Action}
+use Rattle.pg_loss.specs.PgHistory.WithLosses.{NonePendingLive}
 use Rattle.pg_loss.specs.Agreeing.{SawAll}
 use Rattle.pg_left.specs.Heard.{HeardTheLost, NoneOfLost}
 

@@ -2,17 +2,17 @@
 use Rattle.std.specs.Prelude.{◌≡◌, ◌↔◌, ◌||◌, ℕ, Bool, true, false, length, List, ◌∷◌, ◌++◌}
 use Rattle.pg_term.specs.declared.term.Term.{Term}
 use Rattle.pg_term.specs.Same.{same_atom}
-use Rattle.pg_group.specs.Value.{less}
-use Rattle.pg_machine.specs.Clocked.{Stamped}
-use Rattle.pg_machine.specs.Losing.{LosingEvent, Noticed, Step}
-use Rattle.pg_machine.specs.Machine.{Take}
-use Rattle.pg_machine.specs.Places.{is_pair}
-use Rattle.pg_message.specs.declared.message.Message.{Message}
-use Rattle.pg_step.specs.Config.{Config, name_at}
-use Rattle.pg_step.specs.Nodes.{Node}
-use Rattle.pg_step.specs.LossLaws.{LosingFrameWorld, is_notice}
-use Rattle.pg_step.specs.Step.{Action}
-use Rattle.pg_history.specs.History.{Entry, applied_by, history, known, replay}
+use Rattle.pg_loss.specs.PgGroup.Value.{less}
+use Rattle.pg_loss.specs.PgMachine.Clocked.{Stamped}
+use Rattle.pg_loss.specs.PgMachine.Losing.{LosingEvent, Noticed, Step}
+use Rattle.pg_loss.specs.PgMachine.Machine.{Take}
+use Rattle.pg_loss.specs.PgMachine.Places.{is_pair}
+use Rattle.pg_loss.specs.PgMessage.declared.message.Message.{Message}
+use Rattle.pg_loss.specs.PgStep.Config.{Config, name_at}
+use Rattle.pg_loss.specs.PgStep.Nodes.{Node}
+use Rattle.pg_loss.specs.PgStep.LossLaws.{LosingFrameWorld, is_notice}
+use Rattle.pg_loss.specs.PgStep.Step.{Action}
+use Rattle.pg_loss.specs.PgHistory.History.{Entry, applied_by, history, known, replay}
 use Rattle.pg_loss.specs.Reached.{LosingReaches}
 
 -- Among these events node i takes a packet of node p, and so its exchange, which is the first of all; a last notice is none.

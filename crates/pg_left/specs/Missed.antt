@@ -4,17 +4,17 @@ use Rattle.std.specs.Prelude.{length, List, [], ◌∷◌, ◌++◌}
 use Rattle.std.specs.List.{AllByRecursion}
 use Rattle.pg_term.specs.declared.term.Term.{Term}
 use Rattle.pg_term.specs.Same.{same_atom}
-use Rattle.pg_group.specs.Value.{less}
-use Rattle.pg_machine.specs.Losing.{LosingEvent}
-use Rattle.pg_machine.specs.Places.{is_pair}
-use Rattle.pg_step.specs.Config.{Config, name_at}
-use Rattle.pg_step.specs.LossLaws.{LosingFrameWorld}
-use Rattle.pg_step.specs.Nodes.{Node}
-use Rattle.pg_step.specs.Step.{Action}
-use Rattle.pg_step.specs.Turns.{Report}
-use Rattle.pg_history.specs.History.{Entry, answered_count, applied_by, entry_of, history, is_update_of, known}
-use Rattle.pg_history.specs.History.{of_group, replay, updates_of}
-use Rattle.pg_history.specs.WithLosses.{Marked, all_entries, has_seen, left_of}
+use Rattle.pg_loss.specs.PgGroup.Value.{less}
+use Rattle.pg_loss.specs.PgMachine.Losing.{LosingEvent}
+use Rattle.pg_loss.specs.PgMachine.Places.{is_pair}
+use Rattle.pg_loss.specs.PgStep.Config.{Config, name_at}
+use Rattle.pg_loss.specs.PgStep.LossLaws.{LosingFrameWorld}
+use Rattle.pg_loss.specs.PgStep.Nodes.{Node}
+use Rattle.pg_loss.specs.PgStep.Step.{Action}
+use Rattle.pg_loss.specs.PgStep.Turns.{Report}
+use Rattle.pg_loss.specs.PgHistory.History.{Entry, answered_count, applied_by, entry_of, history, is_update_of, known}
+use Rattle.pg_loss.specs.PgHistory.History.{of_group, replay, updates_of}
+use Rattle.pg_loss.specs.PgHistory.WithLosses.{Marked, all_entries, has_seen, left_of}
 use Rattle.pg_left.specs.Heard.{Heard}
 
 -- ---- which entries a node has applied

@@ -4,10 +4,8 @@ use crate::links::{Pair, link_to, lose, read, take, two_alone, two_of_three};
 use crate::sights::Sight::{self, *};
 use crate::sights::{holds, sees};
 use Part::*;
-use pg_step::Command;
+use pg_script::{Command, encode, read_term};
 use pg_term::Term;
-use pg_term_writer::encode;
-use pg_text::read_term;
 use std::alloc::Global;
 use std::process::Abort;
 

@@ -5,12 +5,8 @@ ghost use Rattle.std.specs.Prelude.{◌≤◌};
 ghost use Rattle.pg_ring.specs.MemRing.{Grows};
 ghost use Rattle.pg_ring.specs.MemRingLaws.{Grows-rests, Grows-composes, Grows-agrees};
 
-use pg_index::IndexTable;
-use pg_node::{Node, NodeFault, Outgoing};
 use pg_ring::{Link, MemRing};
-use pg_script::read_script;
-use pg_step::Command;
-use pg_world::starting_nodes;
+use pg_script::{Command, IndexTable, Node, NodeFault, Outgoing, read_script, starting_nodes};
 use std::alloc::Global;
 use std::process::Abort;
 

@@ -1,9 +1,6 @@
 //! What is seen of nodes.
 
-use pg_group::GroupTable;
-use pg_index::IndexTable;
-use pg_node::NodeState;
-use pg_step::{Answer, Reply};
+use pg_script::{Answer, GroupTable, IndexTable, NodeState, Reply};
 use pg_term::Term;
 use std::process::Abort;
 

@@ -2,10 +2,9 @@
 
 use crate::links::nodes_of;
 use crate::sights::{holds, is_ok};
-use pg_index::IndexTable;
 use pg_ring::{MemRing, SlotIn, slot_pair};
 use pg_run::{Client, Gate, LinkedNode, NOTICE_PLACES, NodeRun, Notice, Port, port_pair, run_node};
-use pg_step::Command;
+use pg_script::{Command, IndexTable};
 use pg_term::Term;
 use rand_pcg::Pcg32;
 use std::alloc::Global;

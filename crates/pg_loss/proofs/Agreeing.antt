@@ -5,12 +5,12 @@ use Rattle.std.proofs.Math.Path.{fun_ext}
 use Rattle.pg_term.specs.declared.pid.Pid.{Pid}
 use Rattle.pg_term.specs.declared.term.Term.{Term}
 use Rattle.pg_term.specs.Same.{same_atom}
-use Rattle.pg_group.specs.Value.{less}
-use Rattle.pg_machine.specs.Losing.{LosingEvent}
-use Rattle.pg_step.specs.Config.{Config, names_of, name_at, nodes_at}
-use Rattle.pg_step.specs.LossLaws.{LosingFrameWorld}
-use Rattle.pg_step.specs.State.{formed}
-use Rattle.pg_step.specs.Step.{Action}
+use Rattle.pg_history.specs.PgGroup.Value.{less}
+use Rattle.pg_history.specs.PgMachine.Losing.{LosingEvent}
+use Rattle.pg_history.specs.PgStep.Config.{Config, names_of, name_at, nodes_at}
+use Rattle.pg_history.specs.PgStep.LossLaws.{LosingFrameWorld}
+use Rattle.pg_history.specs.PgStep.State.{formed}
+use Rattle.pg_history.specs.PgStep.Step.{Action}
 use Rattle.pg_history.specs.History.{applied_by, base, replay}
 use Rattle.pg_history.specs.WithLosses.{FormedAtLosses, NonePendingLive}
 use Rattle.pg_history.proofs.places.Shown.{IsHere}

@@ -4,26 +4,26 @@ use Rattle.std.proofs.Common.{[], ◌∷◌, ◌++◌, Some, refl, ap, sym, ◌�
 use Rattle.std.specs.List.{AllByRecursion}
 use Rattle.std.proofs.lemmas.Bool.{cases_eq}
 use Rattle.std.proofs.lemmas.List.{append-nil, append_assoc}
-use Rattle.pg_group.specs.declared.update.Update.{Update}
-use Rattle.pg_message.specs.declared.message.Message.{Message}
-use Rattle.pg_machine.specs.Happened.{Happened}
-use Rattle.pg_machine.specs.Losing.{Noticed, Sent, LosingEvent, LosingLeads, Lose, Step, mapped_turn, nobody_gone}
-use Rattle.pg_machine.specs.Machine.{Turn, Event, Take, Do, Own, node_of, start_of}
-use Rattle.pg_machine.proofs.Options.{some_is}
-use Rattle.pg_machine.proofs.Plain.{plain_start}
-use Rattle.pg_machine.proofs.Steps.{changes}
-use Rattle.pg_step.specs.declared.command.Command.{Command}
-use Rattle.pg_step.specs.declared.command.OpId.{OpId}
-use Rattle.pg_step.specs.Commands.{change_of}
-use Rattle.pg_step.specs.Config.{Config, name_at}
-use Rattle.pg_step.specs.FrameMachine.{FrameWorld, last_notice, losing_frame_machine, losing_machine_of, place_turn}
-use Rattle.pg_step.specs.Losses.{forgets, see_loss}
-use Rattle.pg_step.specs.LossLaws.{LosingFrameWorld}
-use Rattle.pg_step.specs.Nodes.{Node}
-use Rattle.pg_step.specs.State.{State, Status, Use}
-use Rattle.pg_step.specs.State.Use.{Fresh, Locking, Owning, Updating, Spent}
-use Rattle.pg_step.specs.Step.{CLOCK_LIMIT, Action}
-use Rattle.pg_step.specs.Turns.{Report}
+use Rattle.pg_history.specs.PgGroup.declared.update.Update.{Update}
+use Rattle.pg_history.specs.PgMessage.declared.message.Message.{Message}
+use Rattle.pg_history.specs.PgMachine.Happened.{Happened}
+use Rattle.pg_history.specs.PgMachine.Losing.{Noticed, Sent, LosingEvent, LosingLeads, Lose, Step, mapped_turn, nobody_gone}
+use Rattle.pg_history.specs.PgMachine.Machine.{Turn, Event, Take, Do, Own, node_of, start_of}
+use Rattle.pg_history.proofs.PgMachine.Options.{some_is}
+use Rattle.pg_history.proofs.PgMachine.Plain.{plain_start}
+use Rattle.pg_history.proofs.PgMachine.Steps.{changes}
+use Rattle.pg_history.specs.PgStep.declared.command.Command.{Command}
+use Rattle.pg_history.specs.PgStep.declared.command.OpId.{OpId}
+use Rattle.pg_history.specs.PgStep.Commands.{change_of}
+use Rattle.pg_history.specs.PgStep.Config.{Config, name_at}
+use Rattle.pg_history.specs.PgStep.FrameMachine.{FrameWorld, last_notice, losing_frame_machine, losing_machine_of, place_turn}
+use Rattle.pg_history.specs.PgStep.Losses.{forgets, see_loss}
+use Rattle.pg_history.specs.PgStep.LossLaws.{LosingFrameWorld}
+use Rattle.pg_history.specs.PgStep.Nodes.{Node}
+use Rattle.pg_history.specs.PgStep.State.{State, Status, Use}
+use Rattle.pg_history.specs.PgStep.State.Use.{Fresh, Locking, Owning, Updating, Spent}
+use Rattle.pg_history.specs.PgStep.Step.{CLOCK_LIMIT, Action}
+use Rattle.pg_history.specs.PgStep.Turns.{Report}
 use Rattle.pg_history.specs.History.{Entry, IsAnsweredOk, answered_count, answers_by}
 use Rattle.pg_history.specs.History.{command_at, entries, issued, ok_means_lock}
 use Rattle.pg_history.proofs.commands.Answered.{Silent}

@@ -7,21 +7,21 @@ use Rattle.std.proofs.Math.Path.{fun_ext}
 use Rattle.std.proofs.lemmas.Bool.{cases_eq, eqb-true}
 use Rattle.std.proofs.lemmas.List.{append-nil, map-append, take-append-drop, take-map}
 use Rattle.pg_term.specs.Same.{same_atom}
-use Rattle.pg_group.specs.Functions.{upd}
-use Rattle.pg_message.specs.declared.message.Message.{Message}
-use Rattle.pg_machine.specs.Losing.{Noticed, Sent, Last, mapped_turn}
-use Rattle.pg_machine.specs.Machine.{Turn, Taken, Own, perform as perform_at}
-use Rattle.pg_machine.specs.Places.{is_pair, set_at, set_way}
-use Rattle.pg_machine.proofs.Options.{map_is_some}
-use Rattle.pg_machine.proofs.Places.{by_place, set_at_here, set_at_other, set_way_here, set_way_other}
-use Rattle.pg_machine.proofs.Steps.{pair_apart}
-use Rattle.pg_step.specs.Config.{Config, names_of, name_at, nodes_at, ports_at}
-use Rattle.pg_step.specs.FrameMachine.{FrameWorld, losing_machine_of, node_step, place_turn}
-use Rattle.pg_step.specs.Losses.{see_loss}
-use Rattle.pg_step.specs.Nodes.{Node, Nodes}
-use Rattle.pg_step.specs.State.{State, live_nodes}
-use Rattle.pg_step.specs.Step.{Action, acted, taken}
-use Rattle.pg_step.specs.Turns.{NodeTurn, Report}
+use Rattle.pg_history.specs.PgGroup.Functions.{upd}
+use Rattle.pg_history.specs.PgMessage.declared.message.Message.{Message}
+use Rattle.pg_history.specs.PgMachine.Losing.{Noticed, Sent, Last, mapped_turn}
+use Rattle.pg_history.specs.PgMachine.Machine.{Turn, Taken, Own, perform as perform_at}
+use Rattle.pg_history.specs.PgMachine.Places.{is_pair, set_at, set_way}
+use Rattle.pg_history.proofs.PgMachine.Options.{map_is_some}
+use Rattle.pg_history.proofs.PgMachine.Places.{by_place, set_at_here, set_at_other, set_way_here, set_way_other}
+use Rattle.pg_history.proofs.PgMachine.Steps.{pair_apart}
+use Rattle.pg_history.specs.PgStep.Config.{Config, names_of, name_at, nodes_at, ports_at}
+use Rattle.pg_history.specs.PgStep.FrameMachine.{FrameWorld, losing_machine_of, node_step, place_turn}
+use Rattle.pg_history.specs.PgStep.Losses.{see_loss}
+use Rattle.pg_history.specs.PgStep.Nodes.{Node, Nodes}
+use Rattle.pg_history.specs.PgStep.State.{State, live_nodes}
+use Rattle.pg_history.specs.PgStep.Step.{Action, acted, taken}
+use Rattle.pg_history.specs.PgStep.Turns.{NodeTurn, Report}
 use Rattle.pg_history.proofs.ends.Apart.{pair_first, pair_second, place_below}
 use Rattle.pg_history.proofs.locks.Chains.{upd_old, world_path}
 use Rattle.pg_history.proofs.locks.Kept.{Inv, live, near}

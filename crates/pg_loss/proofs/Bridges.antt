@@ -4,22 +4,22 @@ use Rattle.std.proofs.Common.{length, take, List, [], ◌∷◌, ◌++◌, Some,
 use Rattle.std.specs.List.{AllByRecursion, IsDistinct}
 use Rattle.std.proofs.lemmas.Bool.{cases_eq, ne_eqb}
 use Rattle.pg_term.specs.Same.{same_atom}
-use Rattle.pg_message.specs.declared.message.Message.{Message}
-use Rattle.pg_machine.specs.Happened.{Happened}
-use Rattle.pg_machine.specs.Losing.{Noticed, Sent, Last, LosingEvent, mapped_turn, nobody_gone, stopped}
-use Rattle.pg_machine.specs.Machine.{Input, Turn, Event, Take, Do, Taken, Own, node_of, start_of, perform as perform_at}
-use Rattle.pg_machine.specs.Places.{is_pair, set_at, set_way}
-use Rattle.pg_machine.proofs.Options.{some_is}
-use Rattle.pg_machine.proofs.Places.{by_place, set_at_here, set_at_other}
-use Rattle.pg_machine.proofs.Plain.{plain_start}
-use Rattle.pg_machine.proofs.Steps.{changes, happens_so, took}
-use Rattle.pg_step.specs.Config.{Config, names_of, name_at, nodes_at}
-use Rattle.pg_step.specs.FrameMachine.{losing_frame_machine, losing_machine_of, machine_of, place_turn}
-use Rattle.pg_step.specs.Losses.{see_loss}
-use Rattle.pg_step.specs.LossLaws.{LosingFrameWorld}
-use Rattle.pg_step.specs.State.{State}
-use Rattle.pg_step.specs.Step.{CLOCK_LIMIT, Action}
-use Rattle.pg_step.specs.Turns.{Report}
+use Rattle.pg_history.specs.PgMessage.declared.message.Message.{Message}
+use Rattle.pg_history.specs.PgMachine.Happened.{Happened}
+use Rattle.pg_history.specs.PgMachine.Losing.{Noticed, Sent, Last, LosingEvent, mapped_turn, nobody_gone, stopped}
+use Rattle.pg_history.specs.PgMachine.Machine.{Input, Turn, Event, Take, Do, Taken, Own, node_of, start_of, perform as perform_at}
+use Rattle.pg_history.specs.PgMachine.Places.{is_pair, set_at, set_way}
+use Rattle.pg_history.proofs.PgMachine.Options.{some_is}
+use Rattle.pg_history.proofs.PgMachine.Places.{by_place, set_at_here, set_at_other}
+use Rattle.pg_history.proofs.PgMachine.Plain.{plain_start}
+use Rattle.pg_history.proofs.PgMachine.Steps.{changes, happens_so, took}
+use Rattle.pg_history.specs.PgStep.Config.{Config, names_of, name_at, nodes_at}
+use Rattle.pg_history.specs.PgStep.FrameMachine.{losing_frame_machine, losing_machine_of, machine_of, place_turn}
+use Rattle.pg_history.specs.PgStep.Losses.{see_loss}
+use Rattle.pg_history.specs.PgStep.LossLaws.{LosingFrameWorld}
+use Rattle.pg_history.specs.PgStep.State.{State}
+use Rattle.pg_history.specs.PgStep.Step.{CLOCK_LIMIT, Action}
+use Rattle.pg_history.specs.PgStep.Turns.{Report}
 use Rattle.pg_history.proofs.ends.Apart.{pair_first}
 use Rattle.pg_history.proofs.locks.First.{first_holds}
 use Rattle.pg_history.proofs.places.Bridged.{first_is, first_world, shows_first}

@@ -1,21 +1,21 @@
 -- A step of a node that can be lost is one of the machine that knows of no loss, between worlds with the same nodes; so what was
 -- proved of that step, of nodes and of what they reported, holds here as it stands.
 use Rattle.std.proofs.Common.{◌≡◌, ℕ, List, [], ◌∷◌, ◌++◌, Some, refl, ap, sym, ◌∙◌, subst}
-use Rattle.pg_message.specs.declared.message.Message.{Message}
-use Rattle.pg_machine.specs.Happened.{Happened}
-use Rattle.pg_machine.specs.Losing.{Noticed, Sent, LosingEvent, mapped_turn, nobody_gone}
-use Rattle.pg_machine.specs.Machine.{Input, Turn, Event, Take, Do, Taken, Own, first_from}
-use Rattle.pg_machine.specs.Machine.{input_of, node_of, perform, start_of, without_input}
-use Rattle.pg_machine.specs.Places.{set_at}
-use Rattle.pg_machine.proofs.Options.{some_is}
-use Rattle.pg_machine.proofs.Plain.{plain_start}
-use Rattle.pg_step.specs.Config.{Config, name_at}
-use Rattle.pg_step.specs.FrameMachine.{FrameWorld, losing_frame_machine, losing_machine_of, machine_of, node_step}
-use Rattle.pg_step.specs.Losses.{see_loss}
-use Rattle.pg_step.specs.LossLaws.{LosingFrameWorld}
-use Rattle.pg_step.specs.State.{State}
-use Rattle.pg_step.specs.Step.{CLOCK_LIMIT, Action}
-use Rattle.pg_step.specs.Turns.{Report, nothing}
+use Rattle.pg_history.specs.PgMessage.declared.message.Message.{Message}
+use Rattle.pg_history.specs.PgMachine.Happened.{Happened}
+use Rattle.pg_history.specs.PgMachine.Losing.{Noticed, Sent, LosingEvent, mapped_turn, nobody_gone}
+use Rattle.pg_history.specs.PgMachine.Machine.{Input, Turn, Event, Take, Do, Taken, Own, first_from}
+use Rattle.pg_history.specs.PgMachine.Machine.{input_of, node_of, perform, start_of, without_input}
+use Rattle.pg_history.specs.PgMachine.Places.{set_at}
+use Rattle.pg_history.proofs.PgMachine.Options.{some_is}
+use Rattle.pg_history.proofs.PgMachine.Plain.{plain_start}
+use Rattle.pg_history.specs.PgStep.Config.{Config, name_at}
+use Rattle.pg_history.specs.PgStep.FrameMachine.{FrameWorld, losing_frame_machine, losing_machine_of, machine_of, node_step}
+use Rattle.pg_history.specs.PgStep.Losses.{see_loss}
+use Rattle.pg_history.specs.PgStep.LossLaws.{LosingFrameWorld}
+use Rattle.pg_history.specs.PgStep.State.{State}
+use Rattle.pg_history.specs.PgStep.Step.{CLOCK_LIMIT, Action}
+use Rattle.pg_history.specs.PgStep.Turns.{Report, nothing}
 use Rattle.pg_loss.specs.Reached.{LosingReaches}
 use Rattle.pg_loss.proofs.Lossy.{Lossy, bare, heard, Passed, Went, Died, kept_past, Makes, Steps, Sees, makes, noted}
 

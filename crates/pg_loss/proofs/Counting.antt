@@ -2,18 +2,18 @@
 use Rattle.std.proofs.Common.{◌≡◌, ℕ, zero, suc, ◌+◌, length, List, [], ◌∷◌}
 use Rattle.std.proofs.Common.{◌++◌, ◌⊎◌, inl, inr, refl, ap, sym, ◌∙◌, subst}
 use Rattle.pg_term.specs.declared.term.Term.{Term}
-use Rattle.pg_group.specs.Value.{NoneEnded}
-use Rattle.pg_group.proofs.Thinned.{kept_without_node}
-use Rattle.pg_machine.specs.Losing.{LosingEvent}
-use Rattle.pg_machine.proofs.Places.{by_place}
-use Rattle.pg_step.specs.Config.{Config, name_at, ports_at}
-use Rattle.pg_step.specs.FrameMachine.{FrameWorld}
-use Rattle.pg_step.specs.Losses.{see_loss}
-use Rattle.pg_step.specs.LossLaws.{LosingFrameWorld}
-use Rattle.pg_step.specs.Nodes.{Node}
-use Rattle.pg_step.specs.State.{State}
-use Rattle.pg_step.specs.Step.{Action}
-use Rattle.pg_step.specs.Turns.{nothing}
+use Rattle.pg_history.specs.PgGroup.Value.{NoneEnded}
+use Rattle.pg_history.proofs.PgGroup.Thinned.{kept_without_node}
+use Rattle.pg_history.specs.PgMachine.Losing.{LosingEvent}
+use Rattle.pg_history.proofs.PgMachine.Places.{by_place}
+use Rattle.pg_history.specs.PgStep.Config.{Config, name_at, ports_at}
+use Rattle.pg_history.specs.PgStep.FrameMachine.{FrameWorld}
+use Rattle.pg_history.specs.PgStep.Losses.{see_loss}
+use Rattle.pg_history.specs.PgStep.LossLaws.{LosingFrameWorld}
+use Rattle.pg_history.specs.PgStep.Nodes.{Node}
+use Rattle.pg_history.specs.PgStep.State.{State}
+use Rattle.pg_history.specs.PgStep.Step.{Action}
+use Rattle.pg_history.specs.PgStep.Turns.{nothing}
 use Rattle.std.proofs.lemmas.Bool.{cases_eq}
 use Rattle.pg_history.specs.Counted.{CountsCommands, open_at, open_in}
 use Rattle.pg_history.specs.History.{answers_by}

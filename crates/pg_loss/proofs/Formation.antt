@@ -4,27 +4,27 @@ use Rattle.std.proofs.Common.{◌≡◌, ◌≢◌, ◌⊎◌, inl, inr, ℕ, Bo
 use Rattle.std.proofs.Common.{map, List, [], ◌∷◌, ◌++◌, refl, ap, sym, ◌∙◌, subst}
 use Rattle.std.specs.List.{IsDistinct}
 use Rattle.pg_term.specs.Same.{same_atom}
-use Rattle.pg_group.specs.Functions.{upd}
-use Rattle.pg_exchange.specs.GroupList.{GroupList}
-use Rattle.pg_message.specs.declared.message.Message.{Message}
-use Rattle.pg_message.specs.declared.message.Message.TheVariants.{Exchange}
-use Rattle.pg_machine.specs.Clocked.{packets_of}
-use Rattle.pg_machine.specs.Happened.{Happened}
-use Rattle.pg_machine.specs.Losing.{Noticed, Sent, LosingEvent, nobody_gone}
-use Rattle.pg_machine.specs.Machine.{Event, Input, Taken, Turn, node_of, start_of}
-use Rattle.pg_machine.specs.Places.{is_pair}
-use Rattle.pg_machine.proofs.Places.{by_place, set_at_here, set_at_other}
-use Rattle.pg_machine.proofs.Plain.{plain_start}
-use Rattle.pg_machine.proofs.Steps.{changes, pair_apart}
-use Rattle.pg_step.specs.Config.{Config, names_of, name_at, nodes_at, groups_at}
-use Rattle.pg_step.specs.FrameMachine.{FrameWorld, losing_frame_machine, losing_machine_of, machine_of}
-use Rattle.pg_step.specs.Losses.{see_loss}
-use Rattle.pg_step.specs.LossLaws.{LosingFrameWorld}
-use Rattle.pg_step.specs.Nodes.{Node}
-use Rattle.pg_step.specs.State.{State, formed}
-use Rattle.pg_step.specs.Step.{CLOCK_LIMIT, Action}
-use Rattle.pg_step.specs.Turns.{NodeTurn, Report}
-use Rattle.pg_step.proofs.Once.{clash}
+use Rattle.pg_history.specs.PgGroup.Functions.{upd}
+use Rattle.pg_history.specs.PgExchange.GroupList.{GroupList}
+use Rattle.pg_history.specs.PgMessage.declared.message.Message.{Message}
+use Rattle.pg_history.specs.PgMessage.declared.message.Message.TheVariants.{Exchange}
+use Rattle.pg_history.specs.PgMachine.Clocked.{packets_of}
+use Rattle.pg_history.specs.PgMachine.Happened.{Happened}
+use Rattle.pg_history.specs.PgMachine.Losing.{Noticed, Sent, LosingEvent, nobody_gone}
+use Rattle.pg_history.specs.PgMachine.Machine.{Event, Input, Taken, Turn, node_of, start_of}
+use Rattle.pg_history.specs.PgMachine.Places.{is_pair}
+use Rattle.pg_history.proofs.PgMachine.Places.{by_place, set_at_here, set_at_other}
+use Rattle.pg_history.proofs.PgMachine.Plain.{plain_start}
+use Rattle.pg_history.proofs.PgMachine.Steps.{changes, pair_apart}
+use Rattle.pg_history.specs.PgStep.Config.{Config, names_of, name_at, nodes_at, groups_at}
+use Rattle.pg_history.specs.PgStep.FrameMachine.{FrameWorld, losing_frame_machine, losing_machine_of, machine_of}
+use Rattle.pg_history.specs.PgStep.Losses.{see_loss}
+use Rattle.pg_history.specs.PgStep.LossLaws.{LosingFrameWorld}
+use Rattle.pg_history.specs.PgStep.Nodes.{Node}
+use Rattle.pg_history.specs.PgStep.State.{State, formed}
+use Rattle.pg_history.specs.PgStep.Step.{CLOCK_LIMIT, Action}
+use Rattle.pg_history.specs.PgStep.Turns.{NodeTurn, Report}
+use Rattle.pg_history.proofs.PgStep.Once.{clash}
 use Rattle.pg_history.specs.Sent.{exchange_of}
 use Rattle.pg_history.proofs.ends.Apart.{pair_second, pair_swapped}
 use Rattle.pg_history.proofs.places.Shown.{IsHere}

@@ -4,23 +4,23 @@ use Rattle.std.proofs.Common.{take, List, [], ◌∷◌, ◌++◌, refl, ap, sym
 use Rattle.std.specs.List.{AllByRecursion}
 use Rattle.pg_term.specs.declared.pid.Pid.{Pid}
 use Rattle.pg_term.specs.Same.{same_atom}
-use Rattle.pg_message.specs.declared.message.Message.{Message}
-use Rattle.pg_message.specs.declared.message.Message.TheVariants.{Exchange, Down}
-use Rattle.pg_machine.specs.Happened.{Happened}
-use Rattle.pg_machine.specs.Losing.{Noticed, Sent, Last, LosingEvent, nobody_gone}
-use Rattle.pg_machine.specs.Machine.{Input, Turn, Event, Taken, node_of, start_of}
-use Rattle.pg_machine.specs.Places.{is_pair, is_place}
-use Rattle.pg_machine.proofs.Places.{by_place}
-use Rattle.pg_machine.proofs.Plain.{plain_start}
-use Rattle.pg_machine.proofs.Steps.{changes}
-use Rattle.pg_step.specs.Config.{Config, name_at, groups_at}
-use Rattle.pg_step.specs.FrameMachine.{losing_frame_machine, losing_machine_of}
-use Rattle.pg_step.specs.Losses.{see_loss}
-use Rattle.pg_step.specs.LossLaws.{LosingFrameWorld}
-use Rattle.pg_step.specs.State.{State}
-use Rattle.pg_step.specs.Step.{CLOCK_LIMIT, Action}
-use Rattle.pg_step.specs.Turns.{NodeTurn, Report}
-use Rattle.pg_step.proofs.Once.{same_is}
+use Rattle.pg_history.specs.PgMessage.declared.message.Message.{Message}
+use Rattle.pg_history.specs.PgMessage.declared.message.Message.TheVariants.{Exchange, Down}
+use Rattle.pg_history.specs.PgMachine.Happened.{Happened}
+use Rattle.pg_history.specs.PgMachine.Losing.{Noticed, Sent, Last, LosingEvent, nobody_gone}
+use Rattle.pg_history.specs.PgMachine.Machine.{Input, Turn, Event, Taken, node_of, start_of}
+use Rattle.pg_history.specs.PgMachine.Places.{is_pair, is_place}
+use Rattle.pg_history.proofs.PgMachine.Places.{by_place}
+use Rattle.pg_history.proofs.PgMachine.Plain.{plain_start}
+use Rattle.pg_history.proofs.PgMachine.Steps.{changes}
+use Rattle.pg_history.specs.PgStep.Config.{Config, name_at, groups_at}
+use Rattle.pg_history.specs.PgStep.FrameMachine.{losing_frame_machine, losing_machine_of}
+use Rattle.pg_history.specs.PgStep.Losses.{see_loss}
+use Rattle.pg_history.specs.PgStep.LossLaws.{LosingFrameWorld}
+use Rattle.pg_history.specs.PgStep.State.{State}
+use Rattle.pg_history.specs.PgStep.Step.{CLOCK_LIMIT, Action}
+use Rattle.pg_history.specs.PgStep.Turns.{NodeTurn, Report}
+use Rattle.pg_history.proofs.PgStep.Once.{same_is}
 use Rattle.pg_history.specs.Sent.{end_of, ends_in}
 use Rattle.pg_history.proofs.ends.Apart.{pair_second}
 use Rattle.pg_history.proofs.references.Keys.{atoms, read_at}

@@ -7,27 +7,27 @@ use Rattle.std.proofs.lemmas.Bool.{ne_eqb}
 use Rattle.std.proofs.lemmas.List.{append-nil, append_assoc}
 use Rattle.pg_term.specs.declared.pid.Pid.{Pid}
 use Rattle.pg_term.specs.Same.{same_atom}
-use Rattle.pg_group.specs.Scope.{at_node}
-use Rattle.pg_group.proofs.Changes.{upd_by}
-use Rattle.pg_message.specs.declared.message.Message.{Message}
-use Rattle.pg_machine.specs.Machine.{Input, Turn, Event, Take, Taken, node_of, first_from}
-use Rattle.pg_machine.specs.Happened.{Happened}
-use Rattle.pg_machine.specs.Losing.{Noticed, Sent, Last, LosingEvent, Step, LosingLeads, mapped_turn}
-use Rattle.pg_machine.specs.Runs.{reported_by}
-use Rattle.pg_machine.proofs.Options.{some_is, map_is_some}
-use Rattle.pg_machine.proofs.Places.{by_place}
-use Rattle.pg_machine.proofs.Sequences.{told_by_append}
-use Rattle.pg_machine.proofs.Steps.{changes}
-use Rattle.pg_step.specs.Config.{Config, name_at, nodes_at}
-use Rattle.pg_step.specs.FrameMachine.{losing_machine_of, losing_frame_machine}
-use Rattle.pg_step.specs.FrameMachine.{last_notice, node_step, place_turn, placed}
-use Rattle.pg_step.specs.Losses.{see_loss}
-use Rattle.pg_step.specs.LossLaws.{LosingFrameWorld}
-use Rattle.pg_step.specs.Nodes.{Node}
-use Rattle.pg_step.specs.State.{State, Response, formed, live_nodes}
-use Rattle.pg_step.specs.Step.{Action, taken}
-use Rattle.pg_step.specs.Turns.{Report}
-use Rattle.pg_step.specs.declared.refusal.Refusal.TheVariants.{NodeLost}
+use Rattle.pg_history.specs.PgGroup.Scope.{at_node}
+use Rattle.pg_history.proofs.PgGroup.Changes.{upd_by}
+use Rattle.pg_history.specs.PgMessage.declared.message.Message.{Message}
+use Rattle.pg_history.specs.PgMachine.Machine.{Input, Turn, Event, Take, Taken, node_of, first_from}
+use Rattle.pg_history.specs.PgMachine.Happened.{Happened}
+use Rattle.pg_history.specs.PgMachine.Losing.{Noticed, Sent, Last, LosingEvent, Step, LosingLeads, mapped_turn}
+use Rattle.pg_history.specs.PgMachine.Runs.{reported_by}
+use Rattle.pg_history.proofs.PgMachine.Options.{some_is, map_is_some}
+use Rattle.pg_history.proofs.PgMachine.Places.{by_place}
+use Rattle.pg_history.proofs.PgMachine.Sequences.{told_by_append}
+use Rattle.pg_history.proofs.PgMachine.Steps.{changes}
+use Rattle.pg_history.specs.PgStep.Config.{Config, name_at, nodes_at}
+use Rattle.pg_history.specs.PgStep.FrameMachine.{losing_machine_of, losing_frame_machine}
+use Rattle.pg_history.specs.PgStep.FrameMachine.{last_notice, node_step, place_turn, placed}
+use Rattle.pg_history.specs.PgStep.Losses.{see_loss}
+use Rattle.pg_history.specs.PgStep.LossLaws.{LosingFrameWorld}
+use Rattle.pg_history.specs.PgStep.Nodes.{Node}
+use Rattle.pg_history.specs.PgStep.State.{State, Response, formed, live_nodes}
+use Rattle.pg_history.specs.PgStep.Step.{Action, taken}
+use Rattle.pg_history.specs.PgStep.Turns.{Report}
+use Rattle.pg_history.specs.PgStep.declared.refusal.Refusal.TheVariants.{NodeLost}
 use Rattle.pg_history.specs.Headline.{GoesOn}
 use Rattle.pg_history.specs.History.{answer_by, answers_by, history}
 use Rattle.pg_history.proofs.steps.Grows.{history_append}

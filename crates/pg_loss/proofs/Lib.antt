@@ -22,3 +22,7 @@ pub mod Unanswered
 pub mod Unharmed
 pub mod Unheld
 pub mod tried
+pub use Rattle.pg_history.proofs.PgGroup
+pub use Rattle.pg_history.proofs as PgHistory
+pub use Rattle.pg_history.proofs.PgMachine
+pub use Rattle.pg_history.proofs.PgStep

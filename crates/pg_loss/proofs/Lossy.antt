@@ -5,25 +5,25 @@ use Rattle.std.specs.Prelude.{option_map}
 use Rattle.std.specs.Cmp.{first_so, second_so}
 use Rattle.std.proofs.Math.Path.{fun_ext}
 use Rattle.std.proofs.lemmas.List.{map-append, take-map}
-use Rattle.pg_message.specs.declared.message.Message.{Message}
-use Rattle.pg_machine.specs.Machine.{Input, Turn, Event, Taken, Own, node_of, happens}
-use Rattle.pg_machine.specs.Clocked.{Stamped, TimedWorld, packets_of, plain}
-use Rattle.pg_machine.specs.Happened.{Happened}
-use Rattle.pg_machine.specs.Losing.{Noticed, Sent, Last, LosingWorld, LosingEvent, Step, Lose}
-use Rattle.pg_machine.specs.Losing.{LosingLeads, losing_happens, can_keep, stopped, mapped_turn}
-use Rattle.pg_machine.specs.Places.{is_place, is_pair, set_at}
-use Rattle.pg_machine.proofs.Options.{some_is, map_is_some, cond_is_some}
-use Rattle.pg_machine.proofs.Places.{set_at_map}
-use Rattle.pg_machine.proofs.Plain.{plain_event}
-use Rattle.pg_machine.proofs.Steps.{happened}
-use Rattle.pg_step.specs.Config.{Config, name_at}
-use Rattle.pg_step.specs.FrameMachine.{FrameWorld, losing_machine_of, losing_frame_machine}
-use Rattle.pg_step.specs.FrameMachine.{last_notice, node_step, place_turn}
-use Rattle.pg_step.specs.Losses.{see_loss}
-use Rattle.pg_step.specs.LossLaws.{LosingFrameWorld}
-use Rattle.pg_step.specs.State.{State}
-use Rattle.pg_step.specs.Step.{CLOCK_LIMIT, Action}
-use Rattle.pg_step.specs.Turns.{Report}
+use Rattle.pg_history.specs.PgMessage.declared.message.Message.{Message}
+use Rattle.pg_history.specs.PgMachine.Machine.{Input, Turn, Event, Taken, Own, node_of, happens}
+use Rattle.pg_history.specs.PgMachine.Clocked.{Stamped, TimedWorld, packets_of, plain}
+use Rattle.pg_history.specs.PgMachine.Happened.{Happened}
+use Rattle.pg_history.specs.PgMachine.Losing.{Noticed, Sent, Last, LosingWorld, LosingEvent, Step, Lose}
+use Rattle.pg_history.specs.PgMachine.Losing.{LosingLeads, losing_happens, can_keep, stopped, mapped_turn}
+use Rattle.pg_history.specs.PgMachine.Places.{is_place, is_pair, set_at}
+use Rattle.pg_history.proofs.PgMachine.Options.{some_is, map_is_some, cond_is_some}
+use Rattle.pg_history.proofs.PgMachine.Places.{set_at_map}
+use Rattle.pg_history.proofs.PgMachine.Plain.{plain_event}
+use Rattle.pg_history.proofs.PgMachine.Steps.{happened}
+use Rattle.pg_history.specs.PgStep.Config.{Config, name_at}
+use Rattle.pg_history.specs.PgStep.FrameMachine.{FrameWorld, losing_machine_of, losing_frame_machine}
+use Rattle.pg_history.specs.PgStep.FrameMachine.{last_notice, node_step, place_turn}
+use Rattle.pg_history.specs.PgStep.Losses.{see_loss}
+use Rattle.pg_history.specs.PgStep.LossLaws.{LosingFrameWorld}
+use Rattle.pg_history.specs.PgStep.State.{State}
+use Rattle.pg_history.specs.PgStep.Step.{CLOCK_LIMIT, Action}
+use Rattle.pg_history.specs.PgStep.Turns.{Report}
 
 -- the nodes without their clocks, and which of them are lost
 abbrev pub Lossy : Type 0

@@ -7,41 +7,41 @@ use Rattle.std.proofs.lemmas.Bool.{eq-eqb}
 use Rattle.std.proofs.lemmas.Bool.Decides.{nat_tests}
 use Rattle.pg_term.specs.declared.pid.Pid.{Pid}
 use Rattle.pg_term.specs.Same.{same_atom}
-use Rattle.pg_group.specs.declared.update.Update.{Update}
-use Rattle.pg_group.specs.declared.update.Update.TheVariants as update
-use Rattle.pg_group.specs.Value.{name_of}
-use Rattle.pg_group.proofs.Changes.{upd_at}
-use Rattle.pg_ends.specs.Numbers.{is_among, number_in}
-use Rattle.pg_message.specs.declared.message.Message.{Message}
-use Rattle.pg_message.specs.declared.message.Message.TheVariants.{Call, Reply, DelLock, Exchange, Down}
-use Rattle.pg_machine.specs.Happened.{Happened}
-use Rattle.pg_machine.specs.Losing.{Noticed, Sent, Last, LosingEvent, nobody_gone}
-use Rattle.pg_machine.specs.Machine.{Input, Turn, Event, Taken, Own, node_of, start_of}
-use Rattle.pg_machine.specs.Places.{is_place}
-use Rattle.pg_machine.proofs.Plain.{plain_start}
-use Rattle.pg_machine.proofs.Steps.{pair_apart}
-use Rattle.pg_step.specs.Attempts.{attempt, same_op, tried_again, waits}
-use Rattle.pg_step.specs.Commands.{OPEN_LIMIT, answer, carried_out, change, change_by}
-use Rattle.pg_step.specs.Commands.{command as command_in, command_by, count_command, end_process}
-use Rattle.pg_step.specs.Commands.{fault_of, look, next_op, open_command, refused, undertake}
-use Rattle.pg_step.specs.Config.{Config, name_at, names_of, nodes_at, ports_at}
-use Rattle.pg_step.specs.Faults.{first_that_holds}
-use Rattle.pg_step.specs.FrameMachine.{losing_frame_machine, losing_machine_of, node_step, place_turn}
-use Rattle.pg_step.specs.LossLaws.{LosingFrameWorld}
-use Rattle.pg_step.specs.Nodes.{Nodes}
-use Rattle.pg_step.specs.Peers.{exchange, process_end}
-use Rattle.pg_step.specs.State.{State, formed, live_nodes}
-use Rattle.pg_step.specs.Step.{Action, CLOCK_LIMIT, Issue, Retry, acted, taken}
-use Rattle.pg_step.specs.Turns.{NodeTurn, Report, and_then}
-use Rattle.pg_step.specs.declared.answer.Reply.{Reply as Answer}
-use Rattle.pg_step.specs.declared.command.Command.{Command}
-use Rattle.pg_step.specs.declared.command.Command.TheVariants as command
-use Rattle.pg_step.specs.declared.command.OpId.{OpId}
-use Rattle.pg_step.specs.declared.command_fault.CommandFault.{CommandFault}
-use Rattle.pg_step.specs.declared.command_fault.CommandFault.TheVariants.{Busy, NameTooLarge, ForeignPid, NotFormed}
-use Rattle.pg_step.specs.declared.command_fault.CommandFault.TheVariants.{NotMade, AlreadyEnded, ProcessLimit}
-use Rattle.pg_step.specs.declared.refusal.Refusal.TheVariants.{NoSuchPlace, NotWaiting}
-use Rattle.pg_step.proofs.Once.{is_same, same_is}
+use Rattle.pg_history.specs.PgGroup.declared.update.Update.{Update}
+use Rattle.pg_history.specs.PgGroup.declared.update.Update.TheVariants as update
+use Rattle.pg_history.specs.PgGroup.Value.{name_of}
+use Rattle.pg_history.proofs.PgGroup.Changes.{upd_at}
+use Rattle.pg_history.specs.PgEnds.Numbers.{is_among, number_in}
+use Rattle.pg_history.specs.PgMessage.declared.message.Message.{Message}
+use Rattle.pg_history.specs.PgMessage.declared.message.Message.TheVariants.{Call, Reply, DelLock, Exchange, Down}
+use Rattle.pg_history.specs.PgMachine.Happened.{Happened}
+use Rattle.pg_history.specs.PgMachine.Losing.{Noticed, Sent, Last, LosingEvent, nobody_gone}
+use Rattle.pg_history.specs.PgMachine.Machine.{Input, Turn, Event, Taken, Own, node_of, start_of}
+use Rattle.pg_history.specs.PgMachine.Places.{is_place}
+use Rattle.pg_history.proofs.PgMachine.Plain.{plain_start}
+use Rattle.pg_history.proofs.PgMachine.Steps.{pair_apart}
+use Rattle.pg_history.specs.PgStep.Attempts.{attempt, same_op, tried_again, waits}
+use Rattle.pg_history.specs.PgStep.Commands.{OPEN_LIMIT, answer, carried_out, change, change_by}
+use Rattle.pg_history.specs.PgStep.Commands.{command as command_in, command_by, count_command, end_process}
+use Rattle.pg_history.specs.PgStep.Commands.{fault_of, look, next_op, open_command, refused, undertake}
+use Rattle.pg_history.specs.PgStep.Config.{Config, name_at, names_of, nodes_at, ports_at}
+use Rattle.pg_history.specs.PgStep.Faults.{first_that_holds}
+use Rattle.pg_history.specs.PgStep.FrameMachine.{losing_frame_machine, losing_machine_of, node_step, place_turn}
+use Rattle.pg_history.specs.PgStep.LossLaws.{LosingFrameWorld}
+use Rattle.pg_history.specs.PgStep.Nodes.{Nodes}
+use Rattle.pg_history.specs.PgStep.Peers.{exchange, process_end}
+use Rattle.pg_history.specs.PgStep.State.{State, formed, live_nodes}
+use Rattle.pg_history.specs.PgStep.Step.{Action, CLOCK_LIMIT, Issue, Retry, acted, taken}
+use Rattle.pg_history.specs.PgStep.Turns.{NodeTurn, Report, and_then}
+use Rattle.pg_history.specs.PgStep.declared.answer.Reply.{Reply as Answer}
+use Rattle.pg_history.specs.PgStep.declared.command.Command.{Command}
+use Rattle.pg_history.specs.PgStep.declared.command.Command.TheVariants as command
+use Rattle.pg_history.specs.PgStep.declared.command.OpId.{OpId}
+use Rattle.pg_history.specs.PgStep.declared.command_fault.CommandFault.{CommandFault}
+use Rattle.pg_history.specs.PgStep.declared.command_fault.CommandFault.TheVariants.{Busy, NameTooLarge, ForeignPid, NotFormed}
+use Rattle.pg_history.specs.PgStep.declared.command_fault.CommandFault.TheVariants.{NotMade, AlreadyEnded, ProcessLimit}
+use Rattle.pg_history.specs.PgStep.declared.refusal.Refusal.TheVariants.{NoSuchPlace, NotWaiting}
+use Rattle.pg_history.proofs.PgStep.Once.{is_same, same_is}
 use Rattle.pg_history.proofs.ends.Apart.{pair_second, same_place}
 use Rattle.pg_history.proofs.steps.Made.{did_so, ended_by, took_so}
 use Rattle.pg_history.proofs.steps.Single.{Any, AnyUpdate, Makes as MakesTurn, OfSingle}

@@ -5,18 +5,18 @@ use Rattle.std.specs.List.{list_any}
 use Rattle.pg_term.specs.declared.term.Term.{Term}
 use Rattle.pg_term.specs.RefParts.{RefParts, ref_eq}
 use Rattle.pg_term.specs.Same.{same_atom}
-use Rattle.pg_refs.specs.Numbered.{numbered}
-use Rattle.pg_group.specs.declared.update.Update.{Update}
-use Rattle.pg_group.specs.Functions.{upd}
-use Rattle.pg_group.specs.Value.{name_of}
-use Rattle.pg_lock.specs.Locks.{freed_of, is_holder}
-use Rattle.pg_step.specs.declared.command.OpId.{OpId}
-use Rattle.pg_step.specs.Losses.{forgets, see_loss}
-use Rattle.pg_step.specs.Nodes.{Node, Nodes}
-use Rattle.pg_step.specs.State.{State, Use, Stage}
-use Rattle.pg_step.specs.State.Stage.{Changing}
-use Rattle.pg_step.specs.State.Status.{Unasked}
-use Rattle.pg_step.specs.State.Use.{Fresh, Spent, Locking, Owning, Updating}
+use Rattle.pg_history.specs.PgRefs.Numbered.{numbered}
+use Rattle.pg_history.specs.PgGroup.declared.update.Update.{Update}
+use Rattle.pg_history.specs.PgGroup.Functions.{upd}
+use Rattle.pg_history.specs.PgGroup.Value.{name_of}
+use Rattle.pg_history.specs.PgLock.Locks.{freed_of, is_holder}
+use Rattle.pg_history.specs.PgStep.declared.command.OpId.{OpId}
+use Rattle.pg_history.specs.PgStep.Losses.{forgets, see_loss}
+use Rattle.pg_history.specs.PgStep.Nodes.{Node, Nodes}
+use Rattle.pg_history.specs.PgStep.State.{State, Use, Stage}
+use Rattle.pg_history.specs.PgStep.State.Stage.{Changing}
+use Rattle.pg_history.specs.PgStep.State.Status.{Unasked}
+use Rattle.pg_history.specs.PgStep.State.Use.{Fresh, Spent, Locking, Owning, Updating}
 use Rattle.pg_history.specs.ReferencesFit.{ReferencesFit}
 use Rattle.pg_history.proofs.references.Fitting.{is_changing}
 use Rattle.pg_history.proofs.references.Keys.{atoms, split, at_read, read_at, read_other}

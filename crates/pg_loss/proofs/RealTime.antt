@@ -1,14 +1,14 @@
 -- Histories go by real time, whoever is lost.
 use Rattle.std.proofs.Common.{◌≡◌, List, [], ◌∷◌, ◌++◌, Some, None, sym, ◌∙◌, subst}
 use Rattle.pg_term.specs.declared.term.Term.{Term}
-use Rattle.pg_machine.specs.Losing.{LosingEvent, LosingLeads, nobody_gone}
-use Rattle.pg_machine.specs.Machine.{start_of}
-use Rattle.pg_machine.proofs.Options.{some_is}
-use Rattle.pg_step.specs.declared.command.Command.{Command}
-use Rattle.pg_step.specs.Config.{Config}
-use Rattle.pg_step.specs.FrameMachine.{last_notice, losing_frame_machine}
-use Rattle.pg_step.specs.LossLaws.{LosingFrameWorld}
-use Rattle.pg_step.specs.Step.{Action}
+use Rattle.pg_history.specs.PgMachine.Losing.{LosingEvent, LosingLeads, nobody_gone}
+use Rattle.pg_history.specs.PgMachine.Machine.{start_of}
+use Rattle.pg_history.proofs.PgMachine.Options.{some_is}
+use Rattle.pg_history.specs.PgStep.declared.command.Command.{Command}
+use Rattle.pg_history.specs.PgStep.Config.{Config}
+use Rattle.pg_history.specs.PgStep.FrameMachine.{last_notice, losing_frame_machine}
+use Rattle.pg_history.specs.PgStep.LossLaws.{LosingFrameWorld}
+use Rattle.pg_history.specs.PgStep.Step.{Action}
 use Rattle.pg_history.specs.History.{Entry, command_at, entries, history}
 use Rattle.pg_history.specs.RealTime.{StandsBefore}
 use Rattle.pg_history.proofs.steps.RealTime.{stands_before}

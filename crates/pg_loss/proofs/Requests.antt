@@ -6,39 +6,39 @@ use Rattle.std.specs.List.{AllByRecursion}
 use Rattle.pg_term.specs.declared.term.Term.{Term}
 use Rattle.pg_term.specs.RefParts.{RefParts}
 use Rattle.pg_term.specs.Same.{same_atom, same_term}
-use Rattle.pg_refs.specs.Numbered.{number_in}
-use Rattle.pg_group.specs.declared.update.Update.{Update}
-use Rattle.pg_group.specs.declared.update.Update.TheVariants as update
-use Rattle.pg_group.specs.Value.{name_of}
-use Rattle.pg_lock.specs.Attempts.{after_round, does_wait}
-use Rattle.pg_lock.specs.Locks.{Locks, held, after_ask, given_up}
-use Rattle.pg_machine.proofs.Options.{some_is}
-use Rattle.pg_message.specs.declared.message.Message.{Message}
-use Rattle.pg_message.specs.declared.message.Message.TheVariants.{Call, Reply, DelLock, Exchange, Down}
-use Rattle.pg_message.specs.declared.message.Request.TheVariants.{SetLock, Change}
-use Rattle.pg_message.specs.declared.message.Said.{Said}
-use Rattle.pg_step.specs.declared.answer.Reply.{Reply as Answer}
-use Rattle.pg_step.specs.declared.answer.Reply.TheVariants as reply
-use Rattle.pg_step.specs.declared.command.Command.{Command}
-use Rattle.pg_step.specs.declared.command.Command.TheVariants as command
-use Rattle.pg_step.specs.declared.command.OpId.{OpId}
-use Rattle.pg_step.specs.declared.command_fault.CommandFault.{CommandFault}
-use Rattle.pg_step.specs.declared.command_fault.CommandFault.TheVariants.{Busy}
-use Rattle.pg_step.specs.declared.refusal.Refusal.TheVariants.{NoSuchPlace, NotAMessage, NotWaiting}
-use Rattle.pg_step.specs.Attempts.{all_granted, none_missing, none_denied, round_of, asks, own_reference}
-use Rattle.pg_step.specs.Attempts.{new_attempt, ask, give_up, begin, finish, count_answer, count_ok, replies_in}
-use Rattle.pg_step.specs.Attempts.{locks_in, go_on, attempt, waits, tried_again, counted, use_of, lock_status}
-use Rattle.pg_step.specs.Commands.{OPEN_LIMIT, fault_of, look, answer, open_command, change_by, change}
-use Rattle.pg_step.specs.Commands.{carried_out, command_by, next_op, count_command, command as command_in, refused}
-use Rattle.pg_step.specs.Nodes.{Node, Nodes, every, greatest, is_peer, to_peers, to_one}
-use Rattle.pg_step.specs.Peers.{is_bad_exchange, exchange, ended_in, would_grant}
-use Rattle.pg_step.specs.State.{State, Status, Use, Stage}
-use Rattle.pg_step.specs.State.Response.{Given}
-use Rattle.pg_step.specs.State.Stage.{Closed, Waiting, Asking, Changing}
-use Rattle.pg_step.specs.State.Status.{Unasked}
-use Rattle.pg_step.specs.State.Use.{Fresh, Locking, Owning, Updating, Spent}
-use Rattle.pg_step.specs.Step.{Action, Issue, Retry, taken, acted}
-use Rattle.pg_step.specs.Turns.{NodeTurn, becomes, becomes_and_sends, and_then}
+use Rattle.pg_history.specs.PgRefs.Numbered.{number_in}
+use Rattle.pg_history.specs.PgGroup.declared.update.Update.{Update}
+use Rattle.pg_history.specs.PgGroup.declared.update.Update.TheVariants as update
+use Rattle.pg_history.specs.PgGroup.Value.{name_of}
+use Rattle.pg_history.specs.PgLock.Attempts.{after_round, does_wait}
+use Rattle.pg_history.specs.PgLock.Locks.{Locks, held, after_ask, given_up}
+use Rattle.pg_history.proofs.PgMachine.Options.{some_is}
+use Rattle.pg_history.specs.PgMessage.declared.message.Message.{Message}
+use Rattle.pg_history.specs.PgMessage.declared.message.Message.TheVariants.{Call, Reply, DelLock, Exchange, Down}
+use Rattle.pg_history.specs.PgMessage.declared.message.Request.TheVariants.{SetLock, Change}
+use Rattle.pg_history.specs.PgMessage.declared.message.Said.{Said}
+use Rattle.pg_history.specs.PgStep.declared.answer.Reply.{Reply as Answer}
+use Rattle.pg_history.specs.PgStep.declared.answer.Reply.TheVariants as reply
+use Rattle.pg_history.specs.PgStep.declared.command.Command.{Command}
+use Rattle.pg_history.specs.PgStep.declared.command.Command.TheVariants as command
+use Rattle.pg_history.specs.PgStep.declared.command.OpId.{OpId}
+use Rattle.pg_history.specs.PgStep.declared.command_fault.CommandFault.{CommandFault}
+use Rattle.pg_history.specs.PgStep.declared.command_fault.CommandFault.TheVariants.{Busy}
+use Rattle.pg_history.specs.PgStep.declared.refusal.Refusal.TheVariants.{NoSuchPlace, NotAMessage, NotWaiting}
+use Rattle.pg_history.specs.PgStep.Attempts.{all_granted, none_missing, none_denied, round_of, asks, own_reference}
+use Rattle.pg_history.specs.PgStep.Attempts.{new_attempt, ask, give_up, begin, finish, count_answer, count_ok, replies_in}
+use Rattle.pg_history.specs.PgStep.Attempts.{locks_in, go_on, attempt, waits, tried_again, counted, use_of, lock_status}
+use Rattle.pg_history.specs.PgStep.Commands.{OPEN_LIMIT, fault_of, look, answer, open_command, change_by, change}
+use Rattle.pg_history.specs.PgStep.Commands.{carried_out, command_by, next_op, count_command, command as command_in, refused}
+use Rattle.pg_history.specs.PgStep.Nodes.{Node, Nodes, every, greatest, is_peer, to_peers, to_one}
+use Rattle.pg_history.specs.PgStep.Peers.{is_bad_exchange, exchange, ended_in, would_grant}
+use Rattle.pg_history.specs.PgStep.State.{State, Status, Use, Stage}
+use Rattle.pg_history.specs.PgStep.State.Response.{Given}
+use Rattle.pg_history.specs.PgStep.State.Stage.{Closed, Waiting, Asking, Changing}
+use Rattle.pg_history.specs.PgStep.State.Status.{Unasked}
+use Rattle.pg_history.specs.PgStep.State.Use.{Fresh, Locking, Owning, Updating, Spent}
+use Rattle.pg_history.specs.PgStep.Step.{Action, Issue, Retry, taken, acted}
+use Rattle.pg_history.specs.PgStep.Turns.{NodeTurn, becomes, becomes_and_sends, and_then}
 use Rattle.pg_history.proofs.steps.Single.{Makes, judged, ok_is}
 use Rattle.pg_history.proofs.steps.Ways.{all_both}
 

@@ -6,25 +6,25 @@ use Rattle.std.specs.List.{IsDistinct, filter, list_all}
 use Rattle.std.proofs.lemmas.Bool.{and_from}
 use Rattle.pg_term.specs.declared.term.Term.{Term}
 use Rattle.pg_term.specs.Same.{same_atom}
-use Rattle.pg_refs.specs.Numbered.{numbered}
-use Rattle.pg_group.specs.Value.{name_of}
-use Rattle.pg_message.specs.declared.message.Message.{Message}
-use Rattle.pg_machine.specs.Clocked.{packets_of}
-use Rattle.pg_machine.specs.Losing.{LosingEvent, Noticed, Sent, Last}
-use Rattle.pg_machine.specs.Machine.{node_of}
-use Rattle.pg_machine.specs.Places.{is_pair}
-use Rattle.pg_machine.proofs.Places.{by_place}
-use Rattle.pg_step.specs.declared.command.OpId.{OpId}
-use Rattle.pg_step.specs.Attempts.{is_asked, is_complete, waits}
-use Rattle.pg_step.specs.Config.{Config, names_of, name_at, nodes_at}
-use Rattle.pg_step.specs.FrameMachine.{FrameWorld, machine_of}
-use Rattle.pg_step.specs.Losses.{forgets, see_loss}
-use Rattle.pg_step.specs.LossLaws.{LosingFrameWorld}
-use Rattle.pg_step.specs.Nodes.{Node, Nodes, every}
-use Rattle.pg_step.specs.State.{State, Use, Stage, live_nodes}
-use Rattle.pg_step.specs.State.Use.{Fresh, Locking, Owning, Updating, Spent}
-use Rattle.pg_step.specs.State.Stage.{Closed, Waiting, Asking, Changing}
-use Rattle.pg_step.specs.Step.{Action}
+use Rattle.pg_history.specs.PgRefs.Numbered.{numbered}
+use Rattle.pg_history.specs.PgGroup.Value.{name_of}
+use Rattle.pg_history.specs.PgMessage.declared.message.Message.{Message}
+use Rattle.pg_history.specs.PgMachine.Clocked.{packets_of}
+use Rattle.pg_history.specs.PgMachine.Losing.{LosingEvent, Noticed, Sent, Last}
+use Rattle.pg_history.specs.PgMachine.Machine.{node_of}
+use Rattle.pg_history.specs.PgMachine.Places.{is_pair}
+use Rattle.pg_history.proofs.PgMachine.Places.{by_place}
+use Rattle.pg_history.specs.PgStep.declared.command.OpId.{OpId}
+use Rattle.pg_history.specs.PgStep.Attempts.{is_asked, is_complete, waits}
+use Rattle.pg_history.specs.PgStep.Config.{Config, names_of, name_at, nodes_at}
+use Rattle.pg_history.specs.PgStep.FrameMachine.{FrameWorld, machine_of}
+use Rattle.pg_history.specs.PgStep.Losses.{forgets, see_loss}
+use Rattle.pg_history.specs.PgStep.LossLaws.{LosingFrameWorld}
+use Rattle.pg_history.specs.PgStep.Nodes.{Node, Nodes, every}
+use Rattle.pg_history.specs.PgStep.State.{State, Use, Stage, live_nodes}
+use Rattle.pg_history.specs.PgStep.State.Use.{Fresh, Locking, Owning, Updating, Spent}
+use Rattle.pg_history.specs.PgStep.State.Stage.{Closed, Waiting, Asking, Changing}
+use Rattle.pg_history.specs.PgStep.Step.{Action}
 use Rattle.pg_history.specs.Counted.{is_open}
 use Rattle.pg_history.proofs.locks.Kept.{live_own, talk}
 use Rattle.pg_history.proofs.locks.Lines.{Fits, backs, outs}

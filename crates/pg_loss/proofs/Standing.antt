@@ -1,17 +1,17 @@
 -- How often each command stands among the entries, and how often it was answered, where nodes are lost.
 use Rattle.std.proofs.Common.{◌≡◌, ℕ, ◌+◌, ◌<◌, ◌≤◌, true, List, [], ◌∷◌, ◌++◌, refl, ap, sym, ◌∙◌, subst, arith}
-use Rattle.pg_machine.specs.Losing.{LosingEvent}
-use Rattle.pg_machine.proofs.Places.{by_place}
-use Rattle.pg_step.specs.declared.command.OpId.{OpId}
-use Rattle.pg_step.specs.Config.{Config, name_at}
-use Rattle.pg_step.specs.FrameMachine.{FrameWorld}
-use Rattle.pg_step.specs.Losses.{forgets, see_loss}
-use Rattle.pg_step.specs.LossLaws.{LosingFrameWorld}
-use Rattle.pg_step.specs.Nodes.{Node}
-use Rattle.pg_step.specs.State.{State, Use, Stage}
-use Rattle.pg_step.specs.State.Use.{Fresh, Locking, Owning, Updating, Spent}
-use Rattle.pg_step.specs.Step.{Action}
-use Rattle.pg_step.specs.Turns.{nothing}
+use Rattle.pg_history.specs.PgMachine.Losing.{LosingEvent}
+use Rattle.pg_history.proofs.PgMachine.Places.{by_place}
+use Rattle.pg_history.specs.PgStep.declared.command.OpId.{OpId}
+use Rattle.pg_history.specs.PgStep.Config.{Config, name_at}
+use Rattle.pg_history.specs.PgStep.FrameMachine.{FrameWorld}
+use Rattle.pg_history.specs.PgStep.Losses.{forgets, see_loss}
+use Rattle.pg_history.specs.PgStep.LossLaws.{LosingFrameWorld}
+use Rattle.pg_history.specs.PgStep.Nodes.{Node}
+use Rattle.pg_history.specs.PgStep.State.{State, Use, Stage}
+use Rattle.pg_history.specs.PgStep.State.Use.{Fresh, Locking, Owning, Updating, Spent}
+use Rattle.pg_history.specs.PgStep.Step.{Action}
+use Rattle.pg_history.specs.PgStep.Turns.{nothing}
 use Rattle.pg_history.specs.History.{answers_by, entries, times, answered_count, has_answer, answers_to}
 use Rattle.pg_history.specs.ReferencesFit.{Fits, ReferencesFit}
 use Rattle.pg_history.proofs.commands.Stand.{Stands, Kept, chance, under_way, one_at_most}

@@ -3,17 +3,17 @@ use Rattle.std.proofs.Common.{◌≡◌, ◌≢◌, ℕ, Bool, true, false, not,
 use Rattle.std.specs.List.{AllByRecursion, IsDistinct}
 use Rattle.pg_term.specs.declared.term.Term.{Term}
 use Rattle.pg_term.specs.Same.{same_atom}
-use Rattle.pg_group.specs.Value.{less}
-use Rattle.pg_message.specs.declared.message.Message.{Message}
-use Rattle.pg_machine.specs.Clocked.{plain}
-use Rattle.pg_machine.specs.Losing.{LosingEvent, Noticed}
-use Rattle.pg_machine.specs.Machine.{Taken}
-use Rattle.pg_machine.specs.Places.{is_pair, is_place}
-use Rattle.pg_step.specs.Config.{Config, names_of, name_at}
-use Rattle.pg_step.specs.FrameMachine.{losing_machine_of}
-use Rattle.pg_step.specs.LossLaws.{LosingFrameWorld}
-use Rattle.pg_step.specs.Step.{Action}
-use Rattle.pg_step.specs.Turns.{Report}
+use Rattle.pg_history.specs.PgGroup.Value.{less}
+use Rattle.pg_history.specs.PgMessage.declared.message.Message.{Message}
+use Rattle.pg_history.specs.PgMachine.Clocked.{plain}
+use Rattle.pg_history.specs.PgMachine.Losing.{LosingEvent, Noticed}
+use Rattle.pg_history.specs.PgMachine.Machine.{Taken}
+use Rattle.pg_history.specs.PgMachine.Places.{is_pair, is_place}
+use Rattle.pg_history.specs.PgStep.Config.{Config, names_of, name_at}
+use Rattle.pg_history.specs.PgStep.FrameMachine.{losing_machine_of}
+use Rattle.pg_history.specs.PgStep.LossLaws.{LosingFrameWorld}
+use Rattle.pg_history.specs.PgStep.Step.{Action}
+use Rattle.pg_history.specs.PgStep.Turns.{Report}
 use Rattle.pg_history.specs.History.{base, replay}
 use Rattle.pg_history.specs.Exclusive.{ExclusiveLocks}
 use Rattle.pg_history.specs.WithLosses.{FormedAtLosses, HasThinned, SurvivesLosses}

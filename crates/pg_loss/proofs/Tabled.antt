@@ -9,26 +9,26 @@ use Rattle.std.proofs.lemmas.List.{append-nil}
 use Rattle.pg_term.specs.declared.pid.Pid.{Pid}
 use Rattle.pg_term.specs.declared.term.Term.{Term}
 use Rattle.pg_term.specs.Same.{same_atom}
-use Rattle.pg_group.specs.declared.update.Update.{Update}
-use Rattle.pg_group.specs.Functions.{upd}
-use Rattle.pg_group.specs.Scope.{at_node}
-use Rattle.pg_group.specs.Value.{Value, less}
-use Rattle.pg_message.specs.declared.message.Message.{Message}
-use Rattle.pg_message.specs.declared.message.Message.TheVariants.{Exchange}
-use Rattle.pg_machine.specs.Clocked.{plain}
-use Rattle.pg_machine.specs.Happened.{Happened}
-use Rattle.pg_machine.specs.Losing.{Noticed, Sent, LosingEvent, Step, Lose, LosingLeads, all_steps, nobody_gone}
-use Rattle.pg_machine.specs.Machine.{Input, Turn, Event, node_of, start_of}
-use Rattle.pg_machine.proofs.Plain.{plain_start}
-use Rattle.pg_machine.proofs.Steps.{changes, pair_apart}
-use Rattle.pg_step.specs.Config.{Config, names_of, name_at, nodes_at}
-use Rattle.pg_step.specs.FrameMachine.{last_notice, losing_frame_machine, losing_machine_of}
-use Rattle.pg_step.specs.LossLaws.{LosingFrameWorld}
-use Rattle.pg_step.specs.Nodes.{Node}
-use Rattle.pg_step.specs.State.{State, formed}
-use Rattle.pg_step.specs.Step.{CLOCK_LIMIT, Action}
-use Rattle.pg_step.specs.Turns.{NodeTurn, Report}
-use Rattle.pg_step.proofs.Unnoticed.{without_losses}
+use Rattle.pg_history.specs.PgGroup.declared.update.Update.{Update}
+use Rattle.pg_history.specs.PgGroup.Functions.{upd}
+use Rattle.pg_history.specs.PgGroup.Scope.{at_node}
+use Rattle.pg_history.specs.PgGroup.Value.{Value, less}
+use Rattle.pg_history.specs.PgMessage.declared.message.Message.{Message}
+use Rattle.pg_history.specs.PgMessage.declared.message.Message.TheVariants.{Exchange}
+use Rattle.pg_history.specs.PgMachine.Clocked.{plain}
+use Rattle.pg_history.specs.PgMachine.Happened.{Happened}
+use Rattle.pg_history.specs.PgMachine.Losing.{Noticed, Sent, LosingEvent, Step, Lose, LosingLeads, all_steps, nobody_gone}
+use Rattle.pg_history.specs.PgMachine.Machine.{Input, Turn, Event, node_of, start_of}
+use Rattle.pg_history.proofs.PgMachine.Plain.{plain_start}
+use Rattle.pg_history.proofs.PgMachine.Steps.{changes, pair_apart}
+use Rattle.pg_history.specs.PgStep.Config.{Config, names_of, name_at, nodes_at}
+use Rattle.pg_history.specs.PgStep.FrameMachine.{last_notice, losing_frame_machine, losing_machine_of}
+use Rattle.pg_history.specs.PgStep.LossLaws.{LosingFrameWorld}
+use Rattle.pg_history.specs.PgStep.Nodes.{Node}
+use Rattle.pg_history.specs.PgStep.State.{State, formed}
+use Rattle.pg_history.specs.PgStep.Step.{CLOCK_LIMIT, Action}
+use Rattle.pg_history.specs.PgStep.Turns.{NodeTurn, Report}
+use Rattle.pg_history.proofs.PgStep.Unnoticed.{without_losses}
 use Rattle.pg_history.specs.History.{applied_by, base, replay, update_by, update_of}
 use Rattle.pg_history.specs.WithLosses.{FormedAtLosses, is_of_lost}
 use Rattle.pg_history.proofs.ends.Apart.{pair_second}

@@ -6,24 +6,24 @@ use Rattle.std.proofs.lemmas.Bool.{cases_eq}
 use Rattle.std.proofs.lemmas.Bool.Decides.{Decides-ltb}
 use Rattle.std.proofs.lemmas.List.{length-map}
 use Rattle.pg_term.specs.Same.{same_atom}
-use Rattle.pg_group.specs.Functions.{upd}
-use Rattle.pg_message.specs.declared.message.Message.{Message}
-use Rattle.pg_machine.specs.Happened.{Happened, Changes}
-use Rattle.pg_machine.specs.Losing.{LosingEvent, LosingLeads, Noticed, Sent, Last, Step, all_steps, mapped_turn}
-use Rattle.pg_machine.specs.Machine.{Event, Input, Take, Do, Taken, Turn, first_from}
-use Rattle.pg_machine.specs.Places.{is_place}
-use Rattle.pg_machine.proofs.Options.{some_is}
-use Rattle.pg_machine.proofs.Steps.{changes, pair_apart}
-use Rattle.pg_step.specs.Config.{Config, names_of, name_at, nodes_at}
-use Rattle.pg_step.specs.FrameMachine.{last_notice, losing_frame_machine, losing_machine_of, node_step, place_turn}
-use Rattle.pg_step.specs.Losses.{forgets, see_loss}
-use Rattle.pg_step.specs.LossLaws.{LosingFrameWorld}
-use Rattle.pg_step.specs.Nodes.{Node, Nodes, is_peer}
-use Rattle.pg_step.specs.State.{State, Use, live_nodes}
-use Rattle.pg_step.specs.State.Status.{Unasked}
-use Rattle.pg_step.specs.State.Use.{Fresh, Locking, Owning, Updating, Spent}
-use Rattle.pg_step.specs.Step.{Action}
-use Rattle.pg_step.specs.Turns.{Report}
+use Rattle.pg_history.specs.PgGroup.Functions.{upd}
+use Rattle.pg_history.specs.PgMessage.declared.message.Message.{Message}
+use Rattle.pg_history.specs.PgMachine.Happened.{Happened, Changes}
+use Rattle.pg_history.specs.PgMachine.Losing.{LosingEvent, LosingLeads, Noticed, Sent, Last, Step, all_steps, mapped_turn}
+use Rattle.pg_history.specs.PgMachine.Machine.{Event, Input, Take, Do, Taken, Turn, first_from}
+use Rattle.pg_history.specs.PgMachine.Places.{is_place}
+use Rattle.pg_history.proofs.PgMachine.Options.{some_is}
+use Rattle.pg_history.proofs.PgMachine.Steps.{changes, pair_apart}
+use Rattle.pg_history.specs.PgStep.Config.{Config, names_of, name_at, nodes_at}
+use Rattle.pg_history.specs.PgStep.FrameMachine.{last_notice, losing_frame_machine, losing_machine_of, node_step, place_turn}
+use Rattle.pg_history.specs.PgStep.Losses.{forgets, see_loss}
+use Rattle.pg_history.specs.PgStep.LossLaws.{LosingFrameWorld}
+use Rattle.pg_history.specs.PgStep.Nodes.{Node, Nodes, is_peer}
+use Rattle.pg_history.specs.PgStep.State.{State, Use, live_nodes}
+use Rattle.pg_history.specs.PgStep.State.Status.{Unasked}
+use Rattle.pg_history.specs.PgStep.State.Use.{Fresh, Locking, Owning, Updating, Spent}
+use Rattle.pg_history.specs.PgStep.Step.{Action}
+use Rattle.pg_history.specs.PgStep.Turns.{Report}
 use Rattle.pg_history.specs.Quiet.{OnlyTakes, peer_count}
 use Rattle.pg_history.proofs.ends.Apart.{pair_first, pair_second}
 use Rattle.pg_history.proofs.places.Shown.{IsHere}

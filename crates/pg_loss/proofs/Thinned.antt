@@ -5,12 +5,12 @@ use Rattle.std.specs.List.{IsDistinct}
 use Rattle.std.proofs.lemmas.Bool.{eqb-true}
 use Rattle.pg_term.specs.declared.term.Term.{Term}
 use Rattle.pg_term.specs.Same.{same_atom}
-use Rattle.pg_refs.specs.Numbered.{numbered}
-use Rattle.pg_lock.specs.Locks.{is_holder}
-use Rattle.pg_step.specs.Config.{Config, names_of, name_at}
-use Rattle.pg_step.specs.LossLaws.{LosingFrameWorld}
-use Rattle.pg_step.specs.State.{State}
-use Rattle.pg_step.specs.Nodes.{Node}
+use Rattle.pg_history.specs.PgRefs.Numbered.{numbered}
+use Rattle.pg_history.specs.PgLock.Locks.{is_holder}
+use Rattle.pg_history.specs.PgStep.Config.{Config, names_of, name_at}
+use Rattle.pg_history.specs.PgStep.LossLaws.{LosingFrameWorld}
+use Rattle.pg_history.specs.PgStep.State.{State}
+use Rattle.pg_history.specs.PgStep.Nodes.{Node}
 use Rattle.pg_history.specs.History.{Entry, answered_count, history, updates_of}
 use Rattle.pg_history.specs.WithLosses.{Marked, all_entries, has_seen, left_of, left_out}
 use Rattle.pg_history.proofs.locks.Kept.{Excused, Tale, answers_of}

@@ -6,28 +6,28 @@ use Rattle.std.specs.Prelude.{option_map}
 use Rattle.std.specs.List.{IsDistinct}
 use Rattle.std.proofs.lemmas.List.{take-append-drop}
 use Rattle.pg_term.specs.Same.{same_atom}
-use Rattle.pg_exchange.specs.GroupList.{GroupList}
-use Rattle.pg_message.specs.declared.message.Message.{Message}
-use Rattle.pg_message.specs.declared.message.Message.TheVariants.{Call, Reply, DelLock, Exchange, Down}
-use Rattle.pg_message.specs.declared.message.Request.TheVariants.{SetLock, Change}
-use Rattle.pg_machine.specs.Happened.{Happened}
-use Rattle.pg_machine.specs.Losing.{Noticed, Sent, Last, LosingEvent, mapped_turn, nobody_gone}
-use Rattle.pg_machine.specs.Machine.{Input, Turn, Event, Taken, Own, node_of, start_of}
-use Rattle.pg_machine.specs.Places.{is_pair, is_place}
-use Rattle.pg_machine.proofs.Places.{by_place}
-use Rattle.pg_machine.proofs.Plain.{plain_start}
-use Rattle.pg_machine.proofs.Steps.{pair_apart}
-use Rattle.pg_step.specs.Config.{Config, names_of, name_at, nodes_at, groups_at}
-use Rattle.pg_step.specs.FrameMachine.{losing_frame_machine, losing_machine_of, node_step, place_turn, placed}
-use Rattle.pg_step.specs.Losses.{see_loss}
-use Rattle.pg_step.specs.LossLaws.{LosingFrameWorld}
-use Rattle.pg_step.specs.Nodes.{Node, Nodes}
-use Rattle.pg_step.specs.Peers.{exchange, is_bad_exchange}
-use Rattle.pg_step.specs.State.{State, live_nodes}
-use Rattle.pg_step.specs.Step.{CLOCK_LIMIT, Action, taken}
-use Rattle.pg_step.specs.Turns.{NodeTurn, Report}
-use Rattle.pg_step.specs.declared.refusal.Refusal.{Refusal}
-use Rattle.pg_step.specs.declared.refusal.Refusal.TheVariants.{NodeLost, NotAMessage}
+use Rattle.pg_history.specs.PgExchange.GroupList.{GroupList}
+use Rattle.pg_history.specs.PgMessage.declared.message.Message.{Message}
+use Rattle.pg_history.specs.PgMessage.declared.message.Message.TheVariants.{Call, Reply, DelLock, Exchange, Down}
+use Rattle.pg_history.specs.PgMessage.declared.message.Request.TheVariants.{SetLock, Change}
+use Rattle.pg_history.specs.PgMachine.Happened.{Happened}
+use Rattle.pg_history.specs.PgMachine.Losing.{Noticed, Sent, Last, LosingEvent, mapped_turn, nobody_gone}
+use Rattle.pg_history.specs.PgMachine.Machine.{Input, Turn, Event, Taken, Own, node_of, start_of}
+use Rattle.pg_history.specs.PgMachine.Places.{is_pair, is_place}
+use Rattle.pg_history.proofs.PgMachine.Places.{by_place}
+use Rattle.pg_history.proofs.PgMachine.Plain.{plain_start}
+use Rattle.pg_history.proofs.PgMachine.Steps.{pair_apart}
+use Rattle.pg_history.specs.PgStep.Config.{Config, names_of, name_at, nodes_at, groups_at}
+use Rattle.pg_history.specs.PgStep.FrameMachine.{losing_frame_machine, losing_machine_of, node_step, place_turn, placed}
+use Rattle.pg_history.specs.PgStep.Losses.{see_loss}
+use Rattle.pg_history.specs.PgStep.LossLaws.{LosingFrameWorld}
+use Rattle.pg_history.specs.PgStep.Nodes.{Node, Nodes}
+use Rattle.pg_history.specs.PgStep.Peers.{exchange, is_bad_exchange}
+use Rattle.pg_history.specs.PgStep.State.{State, live_nodes}
+use Rattle.pg_history.specs.PgStep.Step.{CLOCK_LIMIT, Action, taken}
+use Rattle.pg_history.specs.PgStep.Turns.{NodeTurn, Report}
+use Rattle.pg_history.specs.PgStep.declared.refusal.Refusal.{Refusal}
+use Rattle.pg_history.specs.PgStep.declared.refusal.Refusal.TheVariants.{NodeLost, NotAMessage}
 use Rattle.pg_history.specs.History.{all_reported}
 use Rattle.pg_history.specs.Sent.{exchange_of, exchanges_in}
 use Rattle.pg_history.proofs.ends.Apart.{pair_first, pair_second, same_place}

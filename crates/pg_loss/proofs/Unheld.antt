@@ -7,26 +7,26 @@ use Rattle.std.specs.List.{AllByRecursion, IsDistinct}
 use Rattle.pg_term.specs.declared.term.Term.{Term}
 use Rattle.pg_term.specs.RefParts.{RefParts}
 use Rattle.pg_term.specs.Same.{same_atom}
-use Rattle.pg_group.proofs.Changes.{upd_other}
-use Rattle.pg_lock.specs.Locks.{freed_of}
-use Rattle.pg_machine.proofs.Options.{some_is}
-use Rattle.pg_message.specs.declared.message.Message.{Message}
-use Rattle.pg_message.specs.declared.message.Message.TheVariants.{Exchange}
-use Rattle.pg_machine.specs.Machine.{Input, Turn, Event, Taken, Own, node_of, start_of}
-use Rattle.pg_machine.specs.Happened.{Happened}
-use Rattle.pg_machine.specs.Losing.{Noticed, Sent, Last, LosingEvent, nobody_gone, mapped_turn}
-use Rattle.pg_machine.specs.Places.{is_place, is_pair}
-use Rattle.pg_machine.proofs.Places.{by_place}
-use Rattle.pg_machine.proofs.Plain.{plain_start}
-use Rattle.pg_machine.proofs.Steps.{pair_apart}
-use Rattle.pg_step.specs.Config.{Config, names_of, name_at, nodes_at, groups_at, ports_at}
-use Rattle.pg_step.specs.FrameMachine.{losing_machine_of, losing_frame_machine, node_step, place_turn}
-use Rattle.pg_step.specs.Losses.{see_loss}
-use Rattle.pg_step.specs.LossLaws.{LosingFrameWorld}
-use Rattle.pg_step.specs.Nodes.{Node}
-use Rattle.pg_step.specs.State.{State, live_nodes}
-use Rattle.pg_step.specs.Step.{CLOCK_LIMIT, Action}
-use Rattle.pg_step.specs.Turns.{NodeTurn, Report}
+use Rattle.pg_history.proofs.PgGroup.Changes.{upd_other}
+use Rattle.pg_history.specs.PgLock.Locks.{freed_of}
+use Rattle.pg_history.proofs.PgMachine.Options.{some_is}
+use Rattle.pg_history.specs.PgMessage.declared.message.Message.{Message}
+use Rattle.pg_history.specs.PgMessage.declared.message.Message.TheVariants.{Exchange}
+use Rattle.pg_history.specs.PgMachine.Machine.{Input, Turn, Event, Taken, Own, node_of, start_of}
+use Rattle.pg_history.specs.PgMachine.Happened.{Happened}
+use Rattle.pg_history.specs.PgMachine.Losing.{Noticed, Sent, Last, LosingEvent, nobody_gone, mapped_turn}
+use Rattle.pg_history.specs.PgMachine.Places.{is_place, is_pair}
+use Rattle.pg_history.proofs.PgMachine.Places.{by_place}
+use Rattle.pg_history.proofs.PgMachine.Plain.{plain_start}
+use Rattle.pg_history.proofs.PgMachine.Steps.{pair_apart}
+use Rattle.pg_history.specs.PgStep.Config.{Config, names_of, name_at, nodes_at, groups_at, ports_at}
+use Rattle.pg_history.specs.PgStep.FrameMachine.{losing_machine_of, losing_frame_machine, node_step, place_turn}
+use Rattle.pg_history.specs.PgStep.Losses.{see_loss}
+use Rattle.pg_history.specs.PgStep.LossLaws.{LosingFrameWorld}
+use Rattle.pg_history.specs.PgStep.Nodes.{Node}
+use Rattle.pg_history.specs.PgStep.State.{State, live_nodes}
+use Rattle.pg_history.specs.PgStep.Step.{CLOCK_LIMIT, Action}
+use Rattle.pg_history.specs.PgStep.Turns.{NodeTurn, Report}
 use Rattle.pg_history.specs.WithLosses.{NoLockOfLost}
 use Rattle.pg_history.proofs.places.Located.{same_names}
 use Rattle.pg_history.proofs.steps.Lossless.{step_sees_none}

@@ -1,9 +1,9 @@
 -- Words for what nodes have in common, where nodes are lost.
 use Rattle.std.specs.Prelude.{◌≡◌, ◌⊎◌, ℕ, true, length}
 use Rattle.pg_term.specs.declared.pid.Pid.{Pid}
-use Rattle.pg_machine.specs.Places.{is_place}
-use Rattle.pg_step.specs.Config.{Config, name_at}
-use Rattle.pg_step.specs.LossLaws.{LosingFrameWorld}
+use Rattle.pg_history.specs.PgMachine.Places.{is_place}
+use Rattle.pg_history.specs.PgStep.Config.{Config, name_at}
+use Rattle.pg_history.specs.PgStep.LossLaws.{LosingFrameWorld}
 use Rattle.pg_history.specs.WithLosses.{has_seen}
 
 -- the process is of a node where it has ended, or whose loss node i has seen

@@ -1,11 +1,11 @@
 -- Worlds in which nothing is on the way to a node that is not lost, and what its commands wait for there.
 use Rattle.std.specs.Prelude.{◌≡◌, ℕ, ◌+◌, ◌*◌, true, false, length, []}
-use Rattle.pg_machine.specs.Places.{is_pair}
-use Rattle.pg_step.specs.Attempts.{waits}
-use Rattle.pg_step.specs.Config.{Config, nodes_at}
-use Rattle.pg_step.specs.LossLaws.{LosingFrameWorld}
-use Rattle.pg_step.specs.State.{live_nodes}
-use Rattle.pg_step.specs.declared.command.OpId.{OpId}
+use Rattle.pg_history.specs.PgMachine.Places.{is_pair}
+use Rattle.pg_history.specs.PgStep.Attempts.{waits}
+use Rattle.pg_history.specs.PgStep.Config.{Config, nodes_at}
+use Rattle.pg_history.specs.PgStep.LossLaws.{LosingFrameWorld}
+use Rattle.pg_history.specs.PgStep.State.{live_nodes}
+use Rattle.pg_history.specs.PgStep.declared.command.OpId.{OpId}
 use Rattle.pg_history.specs.Counted.{is_open}
 use Rattle.pg_history.specs.Quiet.{peer_count, total}
 

@@ -1,12 +1,12 @@
 -- The worlds that nodes come to which can be lost.
 use Rattle.std.specs.Prelude.{ℕ, Bool, not, ◌&&◌, length, List, [], ◌∷◌}
-use Rattle.pg_machine.specs.Losing.{LosingEvent, LosingLeads, Lose, Step, nobody_gone}
-use Rattle.pg_machine.specs.Machine.{Event, start_of}
-use Rattle.pg_machine.specs.Places.{is_place}
-use Rattle.pg_step.specs.Config.{Config}
-use Rattle.pg_step.specs.FrameMachine.{FrameWorld, last_notice, losing_frame_machine}
-use Rattle.pg_step.specs.LossLaws.{LosingFrameWorld}
-use Rattle.pg_step.specs.Step.{Action}
+use Rattle.pg_history.specs.PgMachine.Losing.{LosingEvent, LosingLeads, Lose, Step, nobody_gone}
+use Rattle.pg_history.specs.PgMachine.Machine.{Event, start_of}
+use Rattle.pg_history.specs.PgMachine.Places.{is_place}
+use Rattle.pg_history.specs.PgStep.Config.{Config}
+use Rattle.pg_history.specs.PgStep.FrameMachine.{FrameWorld, last_notice, losing_frame_machine}
+use Rattle.pg_history.specs.PgStep.LossLaws.{LosingFrameWorld}
+use Rattle.pg_history.specs.PgStep.Step.{Action}
 
 -- these events lead the nodes of the configuration from their start to the world
 abbrev pub LosingReaches : Config → List (LosingEvent Action) → LosingFrameWorld → Type 0

@@ -3,24 +3,24 @@ use Rattle.std.specs.Prelude.{◌≡◌, ◌≢◌, ℕ, ◌<◌, ◌≤◌, tru
 use Rattle.std.specs.List.{AllByRecursion}
 use Rattle.pg_term.specs.declared.pid.Pid.{Pid}
 use Rattle.pg_term.specs.declared.term.Term.{Term}
-use Rattle.pg_group.specs.Value.{NoneEnded}
-use Rattle.pg_ends.specs.Numbers.{is_among}
-use Rattle.pg_refs.specs.Numbered.{numbered}
-use Rattle.pg_lock.specs.Locks.{is_holder}
-use Rattle.pg_message.specs.declared.message.Message.{Message}
-use Rattle.pg_machine.specs.Clocked.{plain}
-use Rattle.pg_machine.specs.Losing.{LosingEvent, Noticed}
-use Rattle.pg_machine.specs.Machine.{Taken}
-use Rattle.pg_machine.specs.Places.{is_pair, is_place}
-use Rattle.pg_step.specs.declared.command.Command.{Command}
-use Rattle.pg_step.specs.declared.command.OpId.{OpId}
-use Rattle.pg_step.specs.Commands.{change_of}
-use Rattle.pg_step.specs.Config.{Config, name_at, nodes_at}
-use Rattle.pg_step.specs.FrameMachine.{losing_machine_of}
-use Rattle.pg_step.specs.LossLaws.{LosingFrameWorld}
-use Rattle.pg_step.specs.State.{formed}
-use Rattle.pg_step.specs.Step.{Action}
-use Rattle.pg_step.specs.Turns.{Report}
+use Rattle.pg_history.specs.PgGroup.Value.{NoneEnded}
+use Rattle.pg_history.specs.PgEnds.Numbers.{is_among}
+use Rattle.pg_history.specs.PgRefs.Numbered.{numbered}
+use Rattle.pg_history.specs.PgLock.Locks.{is_holder}
+use Rattle.pg_history.specs.PgMessage.declared.message.Message.{Message}
+use Rattle.pg_history.specs.PgMachine.Clocked.{plain}
+use Rattle.pg_history.specs.PgMachine.Losing.{LosingEvent, Noticed}
+use Rattle.pg_history.specs.PgMachine.Machine.{Taken}
+use Rattle.pg_history.specs.PgMachine.Places.{is_pair, is_place}
+use Rattle.pg_history.specs.PgStep.declared.command.Command.{Command}
+use Rattle.pg_history.specs.PgStep.declared.command.OpId.{OpId}
+use Rattle.pg_history.specs.PgStep.Commands.{change_of}
+use Rattle.pg_history.specs.PgStep.Config.{Config, name_at, nodes_at}
+use Rattle.pg_history.specs.PgStep.FrameMachine.{losing_machine_of}
+use Rattle.pg_history.specs.PgStep.LossLaws.{LosingFrameWorld}
+use Rattle.pg_history.specs.PgStep.State.{formed}
+use Rattle.pg_history.specs.PgStep.Step.{Action}
+use Rattle.pg_history.specs.PgStep.Turns.{Report}
 use Rattle.pg_history.specs.Counted.{CountsCommands}
 use Rattle.pg_history.specs.History.{Entry, IsAnsweredOk, answered_count, answers_by, answers_to, applied_by}
 use Rattle.pg_history.specs.History.{command_at, entries, has_answer, history, ok_means_lock, times}

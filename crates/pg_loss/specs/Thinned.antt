@@ -1,8 +1,8 @@
 -- What a node has applied of a group, where nodes are lost.
 use Rattle.std.specs.Prelude.{◌≡◌, ◌⊎◌, ℕ, ◌<◌, List, [], ◌∷◌, ◌++◌, None}
 use Rattle.pg_term.specs.declared.term.Term.{Term}
-use Rattle.pg_step.specs.Config.{Config}
-use Rattle.pg_step.specs.LossLaws.{LosingFrameWorld}
+use Rattle.pg_history.specs.PgStep.Config.{Config}
+use Rattle.pg_history.specs.PgStep.LossLaws.{LosingFrameWorld}
 use Rattle.pg_history.specs.History.{Entry, answered_count, applied_by, history, updates_of}
 use Rattle.pg_history.specs.WithLosses.{Thinned, has_seen}
 

@@ -1,19 +1,19 @@
 ghost use Rattle.std.specs.Prelude.{◌≡◌, ◌++◌, ◌<◌, ◌≤◌, ℕ, true, List, ◌∷◌, Some};
 ghost use Rattle.pg_term.specs.declared.pid.Pid.{Pid};
 ghost use Rattle.pg_term.specs.declared.term.Term.{Term};
-ghost use Rattle.pg_group.specs.Value.{NoneEnded};
-ghost use Rattle.pg_machine.specs.Losing.{LosingEvent, LosingLeads, Step};
-ghost use Rattle.pg_machine.specs.Machine.{Take};
-ghost use Rattle.pg_machine.specs.Runs.{reported_by};
-ghost use Rattle.pg_step.specs.Config.{Config, name_at, nodes_at};
-ghost use Rattle.pg_step.specs.FrameMachine.{last_notice, losing_frame_machine};
-ghost use Rattle.pg_step.specs.LossLaws.{LosingFrameWorld};
-ghost use Rattle.pg_step.specs.Nodes.{Node};
-ghost use Rattle.pg_step.specs.State.{Response, formed};
-ghost use Rattle.pg_step.specs.Step.{Action};
-ghost use Rattle.pg_step.specs.Commands.{change_of};
-ghost use Rattle.pg_step.specs.declared.command.Command.{Command};
-ghost use Rattle.pg_step.specs.declared.command.OpId.{OpId};
+ghost use Rattle.pg_history.specs.PgGroup.Value.{NoneEnded};
+ghost use Rattle.pg_history.specs.PgMachine.Losing.{LosingEvent, LosingLeads, Step};
+ghost use Rattle.pg_history.specs.PgMachine.Machine.{Take};
+ghost use Rattle.pg_history.specs.PgMachine.Runs.{reported_by};
+ghost use Rattle.pg_history.specs.PgStep.Config.{Config, name_at, nodes_at};
+ghost use Rattle.pg_history.specs.PgStep.FrameMachine.{last_notice, losing_frame_machine};
+ghost use Rattle.pg_history.specs.PgStep.LossLaws.{LosingFrameWorld};
+ghost use Rattle.pg_history.specs.PgStep.Nodes.{Node};
+ghost use Rattle.pg_history.specs.PgStep.State.{Response, formed};
+ghost use Rattle.pg_history.specs.PgStep.Step.{Action};
+ghost use Rattle.pg_history.specs.PgStep.Commands.{change_of};
+ghost use Rattle.pg_history.specs.PgStep.declared.command.Command.{Command};
+ghost use Rattle.pg_history.specs.PgStep.declared.command.OpId.{OpId};
 ghost use Rattle.pg_history.specs.Counted.{CountsCommands};
 ghost use Rattle.pg_history.specs.History.{
   Entry,

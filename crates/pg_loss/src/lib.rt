@@ -14,6 +14,10 @@ pub use lasting::{
     histories_go_by_real_time_past_losses, histories_grow_past_losses, lost_nodes_are_not_heard,
     lost_nodes_do_nothing, seen_losses_stay_seen,
 };
+pub use pg_history::{
+    ended_processes_were_finished, first_packets_were_welcome, no_loss_is_seen, nobody_is_harmed,
+    one_history,
+};
 pub use survival::{
     a_quiet_node_is_formed_past_losses, ended_processes_were_made_past_losses,
     ends_at_home_past_losses, histories_are_thinned, live_nodes_agree,

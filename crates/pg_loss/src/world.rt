@@ -1,10 +1,10 @@
 ghost use Rattle.std.specs.Prelude.{List};
 ghost use Rattle.std.specs.List.{IsDistinct};
 ghost use Rattle.pg_term.specs.Same.{same_atom};
-ghost use Rattle.pg_machine.specs.Losing.{LosingEvent};
-ghost use Rattle.pg_step.specs.Config.{Config, names_of};
-ghost use Rattle.pg_step.specs.LossLaws.{LosingFrameWorld};
-ghost use Rattle.pg_step.specs.Step.{Action};
+ghost use Rattle.pg_history.specs.PgMachine.Losing.{LosingEvent};
+ghost use Rattle.pg_history.specs.PgStep.Config.{Config, names_of};
+ghost use Rattle.pg_history.specs.PgStep.LossLaws.{LosingFrameWorld};
+ghost use Rattle.pg_history.specs.PgStep.Step.{Action};
 ghost use Rattle.pg_loss.specs.Reached.{LosingReaches};
 ghost use Rattle.pg_loss.specs.Survived.{KeptPastLosses};
 

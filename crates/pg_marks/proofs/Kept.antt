@@ -5,11 +5,11 @@ use Rattle.std.specs.Prelude.{slice_set}
 use Rattle.std.proofs.lemmas.Bool.{eqb-true, eq-eqb}
 use Rattle.std.proofs.lemmas.Bool.Decides.{nat_tests}
 use Rattle.std.proofs.lemmas.List.FromFn.{length-map-range_with_len, get_or-map-range_with_len, fill_by_all}
-use Rattle.pg_multicall.specs.declared.gather.Gather.{Gather}
-use Rattle.pg_multicall.specs.declared.places.Places.{Places}
-use Rattle.pg_multicall.specs.Gathered.{what_of}
-use Rattle.pg_multicall.specs.Places.{has_of}
-use Rattle.pg_multicall.specs.Replies.{replies_of, asked_of}
+use Rattle.pg_step.specs.PgMulticall.declared.gather.Gather.{Gather}
+use Rattle.pg_step.specs.PgMulticall.declared.places.Places.{Places}
+use Rattle.pg_step.specs.PgMulticall.Gathered.{what_of}
+use Rattle.pg_step.specs.PgMulticall.Places.{has_of}
+use Rattle.pg_step.specs.PgMulticall.Replies.{replies_of, asked_of}
 use Rattle.pg_marks.specs.declared.mark.Mark.{Mark}
 use Rattle.pg_marks.specs.declared.mark.Mark.TheVariants as mark
 use Rattle.pg_marks.specs.declared.marks.Marks.TheInside.{Inside}

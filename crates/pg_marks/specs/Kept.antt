@@ -1,7 +1,7 @@
 -- The marks of the nodes of a set, as what is gathered of them says.
 use Rattle.std.specs.Prelude.{ℕ, List, map}
 use Rattle.std.specs.List.{range_with_len}
-use Rattle.pg_multicall.specs.Replies.{replies_of}
+use Rattle.pg_step.specs.PgMulticall.Replies.{replies_of}
 use Rattle.pg_marks.specs.declared.mark.Mark.{Mark}
 use Rattle.pg_marks.specs.declared.marks.Marks.TheInside.{Inside}
 use Rattle.pg_marks.specs.Marks.{mark_of}

@@ -1,9 +1,9 @@
 -- What has come of the nodes that a command asks, by their places.
 use Rattle.std.specs.Prelude.{ℕ, zero, suc, Bool, true, false, not, ◌&&◌, ◌||◌, ◌==◌, cond, nat_eq}
 use Rattle.std.specs.Prelude.{get_or, length, List, Option, Some, None}
-use Rattle.pg_multicall.specs.Gathered.{what_of}
-use Rattle.pg_multicall.specs.declared.gather.Taken.{Taken}
-use Rattle.pg_multicall.specs.declared.gather.Taken.TheVariants.{Counted, Stranger, Double}
+use Rattle.pg_step.specs.PgMulticall.Gathered.{what_of}
+use Rattle.pg_step.specs.PgMulticall.declared.gather.Taken.{Taken}
+use Rattle.pg_step.specs.PgMulticall.declared.gather.Taken.TheVariants.{Counted, Stranger, Double}
 use Rattle.pg_step.specs.State.{Status}
 use Rattle.pg_step.specs.State.Status.{Unasked, Asked, Yes, No}
 use Rattle.pg_step.specs.Attempts.{is_yes, is_unasked, is_asked, is_no, lock_entry}

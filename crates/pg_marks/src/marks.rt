@@ -1,11 +1,11 @@
 ghost use Rattle.std.specs.Prelude.{◌≡◌, ℕ, ◌<◌, ◌≤◌, false, Some, cond, nat_eq, length, get_or, slice_set};
-ghost use Rattle.pg_multicall.specs.Replies.{replies_of};
+ghost use Rattle.pg_step.specs.PgMulticall.Replies.{replies_of};
 ghost use Rattle.pg_marks.specs.declared.mark.Mark.TheVariants.{Unasked, Asked as AskedYet, Yes};
 ghost use Rattle.pg_marks.specs.Marks.{has_yes, verdict_mark, mark_at, asked_in, first_mark, heard_by, lock_heard};
 ghost use Rattle.pg_marks.specs.Marks.{all_below, all_marks, same_mark, same_test, same_marks, same_replies};
 
 use crate::mark::{Asked, Mark, Wanted};
-use pg_multicall::{Gather, Places, Taken};
+use pg_step::{Gather, Places, Taken};
 use std::marker::Model;
 
 /// What is gathered of the nodes that a command asks, of at most 16: four words, without memory. Contracts see the list of

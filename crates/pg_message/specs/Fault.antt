@@ -1,6 +1,6 @@
 -- The faults of messages: their place in the one list of faults, and what a call that can refuse answers.
 use Rattle.std.specs.Prelude.{◌≡◌, ℕ, Result, Ok, Err}
-use Rattle.pg_faults.specs.declared.TheConstants.{NAME_TOO_LARGE, NOT_A_MESSAGE, STAMP_TOO_LARGE}
+use Rattle.pg_term.specs.PgFaults.declared.TheConstants.{NAME_TOO_LARGE, NOT_A_MESSAGE, STAMP_TOO_LARGE}
 use Rattle.pg_term.specs.declared.fault.TermFault.TheVariants.{OutOfMemory}
 use Rattle.pg_term.specs.Fault as term
 use Rattle.pg_message.specs.declared.fault.MessageFault.{MessageFault}

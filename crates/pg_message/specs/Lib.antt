@@ -5,3 +5,5 @@ pub mod Name
 pub mod Parts
 pub mod Reading
 pub mod Writing
+pub use Rattle.pg_group.specs as PgGroup
+pub use Rattle.pg_term_io.specs as PgTermIo

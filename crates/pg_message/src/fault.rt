@@ -1,5 +1,5 @@
-use pg_faults::{NAME_TOO_LARGE, NOT_A_MESSAGE, STAMP_TOO_LARGE};
 use pg_term::TermFault;
+use pg_term::pg_faults::{NAME_TOO_LARGE, NOT_A_MESSAGE, STAMP_TOO_LARGE};
 use std::alloc::{AllocError, AllocFailed};
 use thiserror::Error;
 

@@ -17,3 +17,12 @@ pub use laws::read_back;
 pub use message::{Message, Request, Said};
 pub use name::{MAX_NAME_DEPTH, MAX_NAME_LEN, check_name, is_name, name_len};
 pub use packet::{MAX_STAMP, Packet};
+pub use pg_group::{Ended, GroupTable, RowTable, Scope, Update};
+pub use pg_term_io::{
+    Kind, MAX_LEN, NextElement, check_term, decode, decode_item, kind_at, next_element, skip_item,
+    tuple_at,
+};
+pub use pg_term_writer::{
+    atom_len, encode, encode_into, encode_len, int_len, list_head_len, pid_len, put_atom, put_int,
+    put_item, put_list_head, put_pid, put_reference, reference_len,
+};

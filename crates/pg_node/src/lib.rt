@@ -8,6 +8,9 @@
 mod node;
 
 pub use node::Node;
-pub use pg_node_state::{Done, Framed, Goes, Held, NodeConfig, NodeFault, NodeState, Outgoing};
-pub use pg_replica::{AnyReader, AnyWriter, ServeFault, Sink, Source, serve};
-pub use pg_step::{Answer, Command, Odd, OpId, Reply};
+pub use pg_replica::{
+    Answer, AnyReader, AnyWriter, Command, Done, Framed, Goes, GroupTable, Held, IndexTable,
+    Message, NodeConfig, NodeFault, NodeState, Odd, OpId, Outgoing, Packet, Refusal, Reply,
+    Request, Said, ServeFault, Sink, Source, encode, read_packet, serve,
+};
+pub use pg_ring::{Inlet, Link, SlotIn, SlotOut, slot_pair, slots_together};

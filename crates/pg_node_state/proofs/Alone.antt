@@ -5,23 +5,23 @@ use Rattle.std.specs.List.{list_any, list_all}
 use Rattle.std.proofs.Math.Path.{fun_ext}
 use Rattle.std.proofs.lemmas.Bool.{eq-eqb}
 use Rattle.pg_term.specs.Same.{same_atom}
-use Rattle.pg_group.specs.declared.update.Update.{Update}
-use Rattle.pg_group.specs.Functions.{upd}
-use Rattle.pg_group.specs.Value.{name_of}
-use Rattle.pg_message.specs.declared.message.Message.{Message}
-use Rattle.pg_step.specs.declared.command.OpId.{OpId}
-use Rattle.pg_step.specs.Nodes.{Node, Nodes, is_peer, every, to_peers}
-use Rattle.pg_step.specs.State.{State, Status, Use}
-use Rattle.pg_step.specs.State.Use.{Owning, Updating}
-use Rattle.pg_machine.specs.Clocked.{Timed}
-use Rattle.pg_step.specs.Turns.{NodeTurn, becomes, and_then}
-use Rattle.pg_message.specs.declared.message.Message.TheVariants.{Call, DelLock}
-use Rattle.pg_message.specs.declared.message.Request.TheVariants.{SetLock, Change}
-use Rattle.pg_opens.specs.Outlooks.{turn_by}
-use Rattle.pg_opens.specs.declared.outlook.Outlook.TheVariants.{Begin}
-use Rattle.pg_step.specs.Attempts.{ask, asks, begin, finish, replies_in, own_reference}
-use Rattle.pg_opens.proofs.Named.{atom_self, clash}
-use Rattle.pg_group.proofs.Changes.{upd_at}
+use Rattle.pg_ports.specs.PgGroup.declared.update.Update.{Update}
+use Rattle.pg_ports.specs.PgGroup.Functions.{upd}
+use Rattle.pg_ports.specs.PgGroup.Value.{name_of}
+use Rattle.pg_ports.specs.PgMessage.declared.message.Message.{Message}
+use Rattle.pg_ports.specs.PgStep.declared.command.OpId.{OpId}
+use Rattle.pg_ports.specs.PgStep.Nodes.{Node, Nodes, is_peer, every, to_peers}
+use Rattle.pg_ports.specs.PgStep.State.{State, Status, Use}
+use Rattle.pg_ports.specs.PgStep.State.Use.{Owning, Updating}
+use Rattle.pg_ports.specs.PgMachine.Clocked.{Timed}
+use Rattle.pg_ports.specs.PgStep.Turns.{NodeTurn, becomes, and_then}
+use Rattle.pg_ports.specs.PgMessage.declared.message.Message.TheVariants.{Call, DelLock}
+use Rattle.pg_ports.specs.PgMessage.declared.message.Request.TheVariants.{SetLock, Change}
+use Rattle.pg_ports.specs.PgOpens.Outlooks.{turn_by}
+use Rattle.pg_ports.specs.PgOpens.declared.outlook.Outlook.TheVariants.{Begin}
+use Rattle.pg_ports.specs.PgStep.Attempts.{ask, asks, begin, finish, replies_in, own_reference}
+use Rattle.pg_ports.proofs.PgOpens.Named.{atom_self, clash}
+use Rattle.pg_ports.proofs.PgGroup.Changes.{upd_at}
 
 pub no_peers : (m : Nodes) → ((q : Node) → is_peer m q ≡ false) → m.peers ≡ []
 no_peers m none = go m.peers none

@@ -2,14 +2,14 @@
 use Rattle.std.proofs.Common.{◌≡◌, ◌<◌, ◌≤◌, ◌+◌, ℕ, Bool, true, false, cond, nat_eq}
 use Rattle.std.proofs.Common.{List, length, Option, Some, refl, sym, arith, subst}
 use Rattle.std.proofs.lemmas.Bool.{eqb-true, eq-eqb}
-use Rattle.pg_group.specs.Functions.{upd}
-use Rattle.pg_group.specs.declared.update.Update.{Update}
-use Rattle.pg_group.specs.Value.{name_of}
-use Rattle.pg_message.specs.Name.{is_name}
-use Rattle.pg_step.specs.declared.command.OpId.{OpId}
-use Rattle.pg_step.specs.State.{Use, Stage}
-use Rattle.pg_step.specs.State.Stage.{Closed, Waiting, Asking, Changing}
-use Rattle.pg_opens.specs.Readings.{stage_seen, is_closed}
+use Rattle.pg_ports.specs.PgGroup.Functions.{upd}
+use Rattle.pg_ports.specs.PgGroup.declared.update.Update.{Update}
+use Rattle.pg_ports.specs.PgGroup.Value.{name_of}
+use Rattle.pg_ports.specs.PgMessage.Name.{is_name}
+use Rattle.pg_ports.specs.PgStep.declared.command.OpId.{OpId}
+use Rattle.pg_ports.specs.PgStep.State.{Use, Stage}
+use Rattle.pg_ports.specs.PgStep.State.Stage.{Closed, Waiting, Asking, Changing}
+use Rattle.pg_ports.specs.PgOpens.Readings.{stage_seen, is_closed}
 use Rattle.pg_ports.specs.declared.port.Port.{Port}
 use Rattle.pg_ports.specs.Ports.{counted_at}
 use Rattle.pg_node_state.specs.Ports.{CameIn, AreGiven}

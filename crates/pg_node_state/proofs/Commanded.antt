@@ -3,37 +3,37 @@ use Rattle.std.proofs.Common.{◌≡◌, ◌<◌, ◌≤◌, ◌+◌, ◌∙◌,
 use Rattle.std.proofs.Common.{List, Option, Some, None, Result, Ok, Err, refl, sym, ap, subst}
 use Rattle.std.specs.Option.{is_some}
 use Rattle.std.proofs.lemmas.Bool.{le-leb, lt-ltb}
-use Rattle.pg_ends.specs.declared.fault.EndFault.{EndFault}
-use Rattle.pg_ends.specs.declared.fault.EndFault.TheVariants as end
-use Rattle.pg_ends.specs.Numbers.{is_among}
-use Rattle.pg_ends.specs.Processes.{made_of, finish_of}
-use Rattle.pg_group.specs.declared.table.GroupTable.{Ghosts}
-use Rattle.pg_group.specs.declared.update.Update.{Update}
-use Rattle.pg_group.specs.declared.update.Update.TheVariants as update
-use Rattle.pg_group.specs.Ended.{ended_of}
-use Rattle.pg_group.specs.Value.{name_of}
-use Rattle.pg_message.specs.Name.{is_name}
-use Rattle.pg_opens.specs.Opens.{lost_of}
-use Rattle.pg_opens.specs.Places.{name_at}
+use Rattle.pg_ports.specs.PgEnds.declared.fault.EndFault.{EndFault}
+use Rattle.pg_ports.specs.PgEnds.declared.fault.EndFault.TheVariants as end
+use Rattle.pg_ports.specs.PgEnds.Numbers.{is_among}
+use Rattle.pg_ports.specs.PgEnds.Processes.{made_of, finish_of}
+use Rattle.pg_ports.specs.PgGroup.declared.table.GroupTable.{Ghosts}
+use Rattle.pg_ports.specs.PgGroup.declared.update.Update.{Update}
+use Rattle.pg_ports.specs.PgGroup.declared.update.Update.TheVariants as update
+use Rattle.pg_ports.specs.PgGroup.Ended.{ended_of}
+use Rattle.pg_ports.specs.PgGroup.Value.{name_of}
+use Rattle.pg_ports.specs.PgMessage.Name.{is_name}
+use Rattle.pg_ports.specs.PgOpens.Opens.{lost_of}
+use Rattle.pg_ports.specs.PgOpens.Places.{name_at}
 use Rattle.pg_term.specs.declared.pid.Pid.{Pid}
 use Rattle.pg_term.specs.Same.{same_atom}
-use Rattle.pg_machine.specs.Clocked.{Timed}
-use Rattle.pg_step.specs.declared.answer.Answer.{Answer}
-use Rattle.pg_step.specs.declared.command.Command.{Command}
-use Rattle.pg_step.specs.declared.command.Command.TheVariants.{Create, Delete, Join, Leave, Make, Finish}
-use Rattle.pg_step.specs.declared.command.Command.TheVariants.{Members, LocalMembers, WhichGroups, Closest}
-use Rattle.pg_step.specs.declared.command.OpId.{OpId}
-use Rattle.pg_step.specs.declared.command_fault.CommandFault.{CommandFault}
-use Rattle.pg_step.specs.declared.command_fault.CommandFault.TheVariants.{NameTooLarge, ForeignPid}
-use Rattle.pg_step.specs.declared.command_fault.CommandFault.TheVariants.{NotFormed, NotMade, AlreadyEnded}
-use Rattle.pg_step.specs.declared.refusal.Refusal.TheVariants as refusal
-use Rattle.pg_step.specs.Nodes.{Node, Nodes}
-use Rattle.pg_step.specs.State.{State, live_nodes, formed}
-use Rattle.pg_step.specs.State.Response.{Read}
-use Rattle.pg_step.specs.StepLaws.{is_query}
-use Rattle.pg_step.specs.Turns.{NodeTurn}
-use Rattle.pg_step.specs.Commands.{command, fault_of, change_of, change, carried_out, answer}
-use Rattle.pg_step.specs.Step.{Issue, CLOCK_LIMIT, at_clock, timed, step_act}
+use Rattle.pg_ports.specs.PgMachine.Clocked.{Timed}
+use Rattle.pg_ports.specs.PgStep.declared.answer.Answer.{Answer}
+use Rattle.pg_ports.specs.PgStep.declared.command.Command.{Command}
+use Rattle.pg_ports.specs.PgStep.declared.command.Command.TheVariants.{Create, Delete, Join, Leave, Make, Finish}
+use Rattle.pg_ports.specs.PgStep.declared.command.Command.TheVariants.{Members, LocalMembers, WhichGroups, Closest}
+use Rattle.pg_ports.specs.PgStep.declared.command.OpId.{OpId}
+use Rattle.pg_ports.specs.PgStep.declared.command_fault.CommandFault.{CommandFault}
+use Rattle.pg_ports.specs.PgStep.declared.command_fault.CommandFault.TheVariants.{NameTooLarge, ForeignPid}
+use Rattle.pg_ports.specs.PgStep.declared.command_fault.CommandFault.TheVariants.{NotFormed, NotMade, AlreadyEnded}
+use Rattle.pg_ports.specs.PgStep.declared.refusal.Refusal.TheVariants as refusal
+use Rattle.pg_ports.specs.PgStep.Nodes.{Node, Nodes}
+use Rattle.pg_ports.specs.PgStep.State.{State, live_nodes, formed}
+use Rattle.pg_ports.specs.PgStep.State.Response.{Read}
+use Rattle.pg_ports.specs.PgStep.StepLaws.{is_query}
+use Rattle.pg_ports.specs.PgStep.Turns.{NodeTurn}
+use Rattle.pg_ports.specs.PgStep.Commands.{command, fault_of, change_of, change, carried_out, answer}
+use Rattle.pg_ports.specs.PgStep.Step.{Issue, CLOCK_LIMIT, at_clock, timed, step_act}
 use Rattle.pg_sends.specs.declared.done.Done.{Done}
 use Rattle.pg_sends.specs.declared.outgoing.Outgoing.{Ghosts as Listing}
 use Rattle.pg_node_state.specs.declared.state.NodeState.{NodeState}

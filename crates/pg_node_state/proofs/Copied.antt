@@ -2,18 +2,18 @@
 use Rattle.std.proofs.Common.{◌≡◌, ◌≤◌, ◌+◌, ◌*◌, ◌^◌, ◌∙◌, ℕ, true, Bool, List, length, sym, ap, subst}
 use Rattle.pg_term.specs.declared.pid.Pid.{Pid}
 use Rattle.pg_term.specs.declared.term.Term.{Term}
-use Rattle.pg_group.specs.declared.table.GroupTable.{Ghosts}
-use Rattle.pg_group.specs.Table.{Table}
-use Rattle.pg_group.specs.Value.{count_in}
-use Rattle.pg_ends.specs.declared.processes.Processes.{Processes}
-use Rattle.pg_ends.specs.Processes.{node_of}
-use Rattle.pg_message.specs.declared.packet.TheConstants.{MAX_STAMP}
-use Rattle.pg_opens.specs.declared.opens.Opens.{Opens}
-use Rattle.pg_opens.specs.Opens.{AreSame, names_of, lost_of, references_of, uses_of, stages_of}
-use Rattle.pg_opens.specs.Places.{name_at}
-use Rattle.pg_step.specs.declared.command.OpId.{OpId}
-use Rattle.pg_step.specs.Nodes.{Node}
-use Rattle.pg_step.specs.State.{Use, Stage}
+use Rattle.pg_ports.specs.PgGroup.declared.table.GroupTable.{Ghosts}
+use Rattle.pg_ports.specs.PgGroup.Table.{Table}
+use Rattle.pg_ports.specs.PgGroup.Value.{count_in}
+use Rattle.pg_ports.specs.PgEnds.declared.processes.Processes.{Processes}
+use Rattle.pg_ports.specs.PgEnds.Processes.{node_of}
+use Rattle.pg_ports.specs.PgMessage.declared.packet.TheConstants.{MAX_STAMP}
+use Rattle.pg_ports.specs.PgOpens.declared.opens.Opens.{Opens}
+use Rattle.pg_ports.specs.PgOpens.Opens.{AreSame, names_of, lost_of, references_of, uses_of, stages_of}
+use Rattle.pg_ports.specs.PgOpens.Places.{name_at}
+use Rattle.pg_ports.specs.PgStep.declared.command.OpId.{OpId}
+use Rattle.pg_ports.specs.PgStep.Nodes.{Node}
+use Rattle.pg_ports.specs.PgStep.State.{Use, Stage}
 use Rattle.pg_node_state.specs.declared.state.NodeState.{NodeState}
 use Rattle.pg_ports.specs.declared.port.Port.{Port}
 use Rattle.pg_node_state.specs.Ports.{AreGiven, CameIn, merged_in}

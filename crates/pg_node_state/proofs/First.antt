@@ -6,23 +6,23 @@ use Rattle.std.proofs.lemmas.Bool.{eq-eqb}
 use Rattle.pg_term.specs.declared.term.Term.{Term}
 use Rattle.pg_term.specs.RefParts.{RefParts}
 use Rattle.pg_term.specs.Same.{same_atom}
-use Rattle.pg_group.specs.declared.update.Update.{Update}
-use Rattle.pg_group.specs.Functions.{upd}
-use Rattle.pg_group.specs.Value.{name_of}
-use Rattle.pg_group.proofs.Changes.{upd_at}
-use Rattle.pg_lock.specs.Locks.{Locks, is_free, held}
-use Rattle.pg_step.specs.declared.command.OpId.{OpId}
-use Rattle.pg_step.specs.Nodes.{Node, Nodes, is_peer, is_node, greatest}
-use Rattle.pg_step.specs.State.{State, Status, Use, Stage, formed}
-use Rattle.pg_step.specs.State.Status.{Unasked}
-use Rattle.pg_step.specs.State.Use.{Locking, Owning, Updating, Spent}
-use Rattle.pg_step.specs.State.Stage.{Closed, Waiting, Asking, Changing}
-use Rattle.pg_step.specs.Peers.{would_grant}
-use Rattle.pg_step.specs.Attempts.{new_attempt, ask, begin, finish, with_asked, own_reference}
-use Rattle.pg_opens.specs.declared.opens.Opens.{Opens}
-use Rattle.pg_opens.specs.declared.command.Stage.TheVariants as seen
-use Rattle.pg_opens.specs.Opens.{Shows, Follows, names_of, live_of, uses_of}
-use Rattle.pg_opens.specs.Readings.{stage_seen}
+use Rattle.pg_ports.specs.PgGroup.declared.update.Update.{Update}
+use Rattle.pg_ports.specs.PgGroup.Functions.{upd}
+use Rattle.pg_ports.specs.PgGroup.Value.{name_of}
+use Rattle.pg_ports.proofs.PgGroup.Changes.{upd_at}
+use Rattle.pg_ports.specs.PgLock.Locks.{Locks, is_free, held}
+use Rattle.pg_ports.specs.PgStep.declared.command.OpId.{OpId}
+use Rattle.pg_ports.specs.PgStep.Nodes.{Node, Nodes, is_peer, is_node, greatest}
+use Rattle.pg_ports.specs.PgStep.State.{State, Status, Use, Stage, formed}
+use Rattle.pg_ports.specs.PgStep.State.Status.{Unasked}
+use Rattle.pg_ports.specs.PgStep.State.Use.{Locking, Owning, Updating, Spent}
+use Rattle.pg_ports.specs.PgStep.State.Stage.{Closed, Waiting, Asking, Changing}
+use Rattle.pg_ports.specs.PgStep.Peers.{would_grant}
+use Rattle.pg_ports.specs.PgStep.Attempts.{new_attempt, ask, begin, finish, with_asked, own_reference}
+use Rattle.pg_ports.specs.PgOpens.declared.opens.Opens.{Opens}
+use Rattle.pg_ports.specs.PgOpens.declared.command.Stage.TheVariants as seen
+use Rattle.pg_ports.specs.PgOpens.Opens.{Shows, Follows, names_of, live_of, uses_of}
+use Rattle.pg_ports.specs.PgOpens.Readings.{stage_seen}
 use Rattle.pg_node_state.specs.Issued.{asked_first}
 use Rattle.pg_node_state.specs.Ports.{CameIn, AreGiven}
 use Rattle.pg_node_state.proofs.Attempted.{statuses, granted_locks, held_there, lone_turn}

@@ -1,18 +1,18 @@
 -- The open commands of a node show its state.
 use Rattle.std.proofs.Common.{◌≡◌, ℕ, Bool, List, None, refl, sym, ap, subst}
 use Rattle.pg_term.specs.declared.pid.Pid.{Pid}
-use Rattle.pg_group.specs.declared.table.GroupTable.{Ghosts}
-use Rattle.pg_group.specs.Table.{Table}
-use Rattle.pg_lock.specs.Locks.{Locks}
-use Rattle.pg_machine.specs.Clocked.{Timed}
-use Rattle.pg_opens.specs.declared.opens.Opens.{Opens}
-use Rattle.pg_opens.specs.Opens.{Shows, lost_of, references_of, uses_of, opened_of, stages_of}
-use Rattle.pg_step.specs.Nodes.{Node}
-use Rattle.pg_step.specs.State.{State, new_state}
+use Rattle.pg_ports.specs.PgGroup.declared.table.GroupTable.{Ghosts}
+use Rattle.pg_ports.specs.PgGroup.Table.{Table}
+use Rattle.pg_ports.specs.PgLock.Locks.{Locks}
+use Rattle.pg_ports.specs.PgMachine.Clocked.{Timed}
+use Rattle.pg_ports.specs.PgOpens.declared.opens.Opens.{Opens}
+use Rattle.pg_ports.specs.PgOpens.Opens.{Shows, lost_of, references_of, uses_of, opened_of, stages_of}
+use Rattle.pg_ports.specs.PgStep.Nodes.{Node}
+use Rattle.pg_ports.specs.PgStep.State.{State, new_state}
 use Rattle.pg_node_state.specs.declared.state.NodeState.{NodeState}
-use Rattle.pg_step.specs.declared.answer.Answer.{Answer}
-use Rattle.pg_step.specs.Turns.{NodeTurn}
-use Rattle.pg_step.specs.Step.{at_clock}
+use Rattle.pg_ports.specs.PgStep.declared.answer.Answer.{Answer}
+use Rattle.pg_ports.specs.PgStep.Turns.{NodeTurn}
+use Rattle.pg_ports.specs.PgStep.Step.{at_clock}
 use Rattle.pg_sends.specs.declared.done.Done.{Done}
 use Rattle.pg_sends.specs.declared.outgoing.Outgoing.{Ghosts as Listing}
 use Rattle.pg_node_state.specs.States.{kept_by, Happens}

@@ -1,16 +1,16 @@
 -- A command is opened behind its count, and taken back.
 use Rattle.std.proofs.Common.{◌≡◌, ℕ, ◌+◌, ◌-◌, sym, ◌∙◌, arith}
-use Rattle.pg_group.specs.declared.update.Update.{Update}
-use Rattle.pg_group.proofs.Changes.{upd_same, upd_twice}
-use Rattle.pg_opens.specs.declared.opens.Opens.{Opens}
-use Rattle.pg_opens.specs.Opens.{Shows}
-use Rattle.pg_opens.specs.TakenBack.{command_taken_back}
-use Rattle.pg_opens.proofs.Followed.{op_is}
-use Rattle.pg_step.specs.declared.command.OpId.{OpId}
-use Rattle.pg_step.specs.State.{State}
-use Rattle.pg_step.specs.State.Stage.{Closed, Waiting}
-use Rattle.pg_step.specs.Attempts.{same_op}
-use Rattle.pg_step.specs.Commands.{count_command, open_command}
+use Rattle.pg_ports.specs.PgGroup.declared.update.Update.{Update}
+use Rattle.pg_ports.proofs.PgGroup.Changes.{upd_same, upd_twice}
+use Rattle.pg_ports.specs.PgOpens.declared.opens.Opens.{Opens}
+use Rattle.pg_ports.specs.PgOpens.Opens.{Shows}
+use Rattle.pg_ports.specs.PgOpens.TakenBack.{command_taken_back}
+use Rattle.pg_ports.proofs.PgOpens.Followed.{op_is}
+use Rattle.pg_ports.specs.PgStep.declared.command.OpId.{OpId}
+use Rattle.pg_ports.specs.PgStep.State.{State}
+use Rattle.pg_ports.specs.PgStep.State.Stage.{Closed, Waiting}
+use Rattle.pg_ports.specs.PgStep.Attempts.{same_op}
+use Rattle.pg_ports.specs.PgStep.Commands.{count_command, open_command}
 
 abbrev pub counted_state : ℕ → State → State
 counted_state port s = (count_command port s).state

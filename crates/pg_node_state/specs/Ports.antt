@@ -1,13 +1,13 @@
 -- What a node keeps of its peers and of its ports, by their places.
 use Rattle.std.specs.Prelude.{◌≡◌, ◌<◌, ◌≤◌, ℕ, Bool, true, false, List, Option, Some, None}
-use Rattle.pg_group.specs.declared.update.Update.{Update}
-use Rattle.pg_group.specs.Value.{name_of}
-use Rattle.pg_message.specs.Name.{is_name}
-use Rattle.pg_step.specs.declared.command.OpId.{OpId}
-use Rattle.pg_step.specs.Nodes.{Node}
-use Rattle.pg_step.specs.State.{Use, Stage}
-use Rattle.pg_step.specs.State.Use.{Locking, Updating}
-use Rattle.pg_opens.specs.Readings.{stage_seen, is_closed, waiting_of}
+use Rattle.pg_ports.specs.PgGroup.declared.update.Update.{Update}
+use Rattle.pg_ports.specs.PgGroup.Value.{name_of}
+use Rattle.pg_ports.specs.PgMessage.Name.{is_name}
+use Rattle.pg_ports.specs.PgStep.declared.command.OpId.{OpId}
+use Rattle.pg_ports.specs.PgStep.Nodes.{Node}
+use Rattle.pg_ports.specs.PgStep.State.{Use, Stage}
+use Rattle.pg_ports.specs.PgStep.State.Use.{Locking, Updating}
+use Rattle.pg_ports.specs.PgOpens.Readings.{stage_seen, is_closed, waiting_of}
 use Rattle.pg_sends.specs.Marked.{is_marked}
 
 -- the peers whose exchange was taken, by the marks of the peers

@@ -1,10 +1,10 @@
 -- When two nodes are the same in all that is seen of them.
 use Rattle.std.specs.Prelude.{◌≡◌}
-use Rattle.pg_group.specs.declared.table.GroupTable.{Ghosts}
-use Rattle.pg_group.specs.Ended.{ended_of}
-use Rattle.pg_lock.specs.Locks.{locks_of}
-use Rattle.pg_ends.specs.Processes.{made_of}
-use Rattle.pg_opens.specs.Opens.{AreSame}
+use Rattle.pg_ports.specs.PgGroup.declared.table.GroupTable.{Ghosts}
+use Rattle.pg_ports.specs.PgGroup.Ended.{ended_of}
+use Rattle.pg_ports.specs.PgLock.Locks.{locks_of}
+use Rattle.pg_ports.specs.PgEnds.Processes.{made_of}
+use Rattle.pg_ports.specs.PgOpens.Opens.{AreSame}
 use Rattle.pg_node_state.specs.declared.state.NodeState.{NodeState}
 use Rattle.pg_ports.specs.Same.{AreSamePorts}
 use Rattle.pg_node_state.specs.Issued.{ports_of}

@@ -1,32 +1,32 @@
 -- What a node's state is seen as, and what an event makes of it.
 use Rattle.std.specs.Prelude.{◌≡◌, ℕ, ◌+◌, ◌++◌, Bool, true, false, not, cond, max}
 use Rattle.std.specs.Prelude.{nat_eq, List, [], ◌∷◌, Option, Some, None, Result, Ok, Err, OnErr}
-use Rattle.pg_group.specs.declared.table.GroupTable.{Ghosts}
-use Rattle.pg_group.specs.Ended.{ended_of}
-use Rattle.pg_group.specs.Functions.{upd}
-use Rattle.pg_lock.specs.Locks.{locks_of}
-use Rattle.pg_ends.specs.Processes.{made_of}
-use Rattle.pg_message.specs.declared.message.Message.{Message}
-use Rattle.pg_message.specs.declared.message.Message.TheVariants.{DelLock, Exchange, Reply as Replied}
-use Rattle.pg_exchange.specs.GroupList.{GroupList}
-use Rattle.pg_machine.specs.Clocked.{Timed, Stamped}
-use Rattle.pg_multicall.specs.Gathered.{what_of}
-use Rattle.pg_multicall.specs.declared.gather.Taken.{Taken}
-use Rattle.pg_multicall.specs.declared.gather.Taken.TheVariants.{Counted}
-use Rattle.pg_opens.specs.Opens as opens
-use Rattle.pg_opens.specs.Places.{name_at}
-use Rattle.pg_step.specs.declared.answer.Answer.{Answer}
-use Rattle.pg_step.specs.declared.answer.Reply.{Reply}
-use Rattle.pg_step.specs.declared.command.OpId.{OpId}
-use Rattle.pg_step.specs.Nodes.{Node, Nodes}
-use Rattle.pg_step.specs.State.{State, Response}
-use Rattle.pg_step.specs.Attempts.{gathered, use_of}
-use Rattle.pg_step.specs.Commands.{Answers}
-use Rattle.pg_step.specs.Losses.{see_loss}
-use Rattle.pg_step.specs.Turns.{NodeTurn}
-use Rattle.pg_step.specs.Step.{TimedTurn, at_clock, timed}
-use Rattle.pg_step.specs.declared.refusal.Refusal.{Refusal}
-use Rattle.pg_step.specs.declared.refusal.Refusal.TheVariants.{NodeLost}
+use Rattle.pg_ports.specs.PgGroup.declared.table.GroupTable.{Ghosts}
+use Rattle.pg_ports.specs.PgGroup.Ended.{ended_of}
+use Rattle.pg_ports.specs.PgGroup.Functions.{upd}
+use Rattle.pg_ports.specs.PgLock.Locks.{locks_of}
+use Rattle.pg_ports.specs.PgEnds.Processes.{made_of}
+use Rattle.pg_ports.specs.PgMessage.declared.message.Message.{Message}
+use Rattle.pg_ports.specs.PgMessage.declared.message.Message.TheVariants.{DelLock, Exchange, Reply as Replied}
+use Rattle.pg_ports.specs.PgExchange.GroupList.{GroupList}
+use Rattle.pg_ports.specs.PgMachine.Clocked.{Timed, Stamped}
+use Rattle.pg_ports.specs.PgMulticall.Gathered.{what_of}
+use Rattle.pg_ports.specs.PgMulticall.declared.gather.Taken.{Taken}
+use Rattle.pg_ports.specs.PgMulticall.declared.gather.Taken.TheVariants.{Counted}
+use Rattle.pg_ports.specs.PgOpens.Opens as opens
+use Rattle.pg_ports.specs.PgOpens.Places.{name_at}
+use Rattle.pg_ports.specs.PgStep.declared.answer.Answer.{Answer}
+use Rattle.pg_ports.specs.PgStep.declared.answer.Reply.{Reply}
+use Rattle.pg_ports.specs.PgStep.declared.command.OpId.{OpId}
+use Rattle.pg_ports.specs.PgStep.Nodes.{Node, Nodes}
+use Rattle.pg_ports.specs.PgStep.State.{State, Response}
+use Rattle.pg_ports.specs.PgStep.Attempts.{gathered, use_of}
+use Rattle.pg_ports.specs.PgStep.Commands.{Answers}
+use Rattle.pg_ports.specs.PgStep.Losses.{see_loss}
+use Rattle.pg_ports.specs.PgStep.Turns.{NodeTurn}
+use Rattle.pg_ports.specs.PgStep.Step.{TimedTurn, at_clock, timed}
+use Rattle.pg_ports.specs.PgStep.declared.refusal.Refusal.{Refusal}
+use Rattle.pg_ports.specs.PgStep.declared.refusal.Refusal.TheVariants.{NodeLost}
 use Rattle.pg_node_state.specs.declared.state.NodeState.{NodeState}
 use Rattle.pg_sends.specs.declared.done.Done.{Done}
 use Rattle.pg_sends.specs.declared.outgoing.Outgoing.{Ghosts as Listing}

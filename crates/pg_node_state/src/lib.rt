@@ -6,5 +6,18 @@
 
 mod state;
 
-pub use pg_sends::{Done, Framed, Goes, Held, Outgoing, write_small};
+pub use pg_frame::{
+    Deframer, FrameFault, frame_into, front_is_first_of_cut, front_is_first_packet,
+    loss_cuts_packets, moving_keeps_packets, pieces_continue, sending_adds_packets, write_frame,
+    written_is_read,
+};
+pub use pg_ports::{
+    Answer, Command, Ended, GroupTable, Message, MessageFault, Odd, OpId, Packet, Places, RefFault,
+    RefSource, Refusal, Reply, Request, Said, Scope, Start, Update, decode, encode, encode_into,
+    losing_nodes_keep_time, nodes_keep_time, numbered_from_one, same_group, same_groups,
+    which_groups,
+};
+pub use pg_sends::{
+    Done, Framed, Goes, Held, MAX_SMALL_LEN, Outgoing, packet_len, write_packet_into, write_small,
+};
 pub use state::{NodeConfig, NodeFault, NodeState, started};

@@ -4,9 +4,9 @@ use Rattle.std.specs.List.{IsDistinct}
 use Rattle.pg_term.specs.declared.pid.Pid.{Pid}
 use Rattle.pg_term.specs.declared.term.Term.{Term}
 use Rattle.pg_term.specs.Same.{same_atom}
-use Rattle.pg_group.specs.Table.{Table}
-use Rattle.pg_group.specs.Value.{count_in}
-use Rattle.pg_step.specs.Nodes.{Node}
+use Rattle.pg_node.specs.PgGroup.Table.{Table}
+use Rattle.pg_node.specs.PgGroup.Value.{count_in}
+use Rattle.pg_node.specs.PgStep.Nodes.{Node}
 
 pub alone : (own : Node) (peers : List Node) → peers ≡ [] → IsDistinct same_atom (own ∷ peers)
 unfolding IsDistinct

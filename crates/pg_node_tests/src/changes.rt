@@ -7,7 +7,7 @@ use crate::rows::Deed::*;
 use crate::rows::Row::*;
 use crate::rows::{Turn, check};
 use crate::told::Event::*;
-use pg_step::Refusal;
+use pg_node::Refusal;
 
 // A node that has no peer carries its commands out at once.
 static LONE: &[Turn<'static>] = &[

@@ -8,9 +8,8 @@ use crate::rows::Deed::*;
 use crate::rows::Row::*;
 use crate::rows::{Turn, check};
 use crate::told::Event::*;
-use pg_message::Said;
-use pg_step::Odd::{Double, Stranger};
-use pg_step::Refusal;
+use pg_node::Odd::{Double, Stranger};
+use pg_node::{Refusal, Said};
 
 static GATHERED: &[Turn<'static>] = &[
     // The greatest node is asked alone.

@@ -5,10 +5,7 @@ ghost use Rattle.std.specs.List.{IsDistinct};
 ghost use Rattle.pg_term.specs.Same.{same_atom};
 
 use crate::told::{Event, happens};
-use pg_group::GroupTable;
-use pg_index::IndexTable;
-use pg_node::{NodeConfig, NodeState};
-use pg_step::OpId;
+use pg_node::{GroupTable, IndexTable, NodeConfig, NodeState, OpId};
 use pg_term::{Atom, Term};
 use pg_text::read_pid;
 use std::alloc::{AllocError, Global};

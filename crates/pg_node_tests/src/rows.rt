@@ -4,9 +4,7 @@
 use crate::nodes::{Kind, Sight, State, either, made, sees};
 use crate::texts::has_answered;
 use crate::told::{Did, Event, NOTHING, happens};
-use pg_message::Said;
-use pg_node::NodeFault;
-use pg_step::{Odd, Refusal};
+use pg_node::{NodeFault, Odd, Refusal, Said};
 use std::alloc::{AllocError, Global};
 use std::mem;
 use std::process::Abort;

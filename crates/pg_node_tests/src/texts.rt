@@ -2,10 +2,7 @@
 
 use crate::nodes::State;
 use pg_lines::{Line, NodeForm, print_answer, read_line};
-use pg_message::Packet;
-use pg_reader::read_packet;
-use pg_step::Command;
-use pg_term_writer::encode;
+use pg_node::{Command, Packet, encode, read_packet};
 use pg_text::read_term;
 use std::alloc::{AllocError, Global};
 

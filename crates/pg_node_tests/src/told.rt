@@ -2,9 +2,7 @@
 
 use crate::nodes::State;
 use crate::texts::{command_of, packet_of};
-use pg_message::{Message, Packet, Request, Said};
-use pg_node::{Done, NodeFault};
-use pg_step::{Command, Odd, OpId, Refusal};
+use pg_node::{Command, Done, Message, NodeFault, Odd, OpId, Packet, Refusal, Request, Said};
 use std::alloc::Global;
 
 /// What happens at a node.

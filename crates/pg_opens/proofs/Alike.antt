@@ -11,13 +11,13 @@ use Rattle.pg_term.specs.contracts.term.TermEq.TheImpl.Laws.{laws-law as terms}
 use Rattle.pg_term.specs.contracts.pid.PidEq.TheImpl.Laws.{laws-law as pids}
 use Rattle.pg_term.specs.Same.{same_atom, same_term, same_pid}
 use Rattle.pg_term.proofs.Same.{same_term as term_is, pid_is}
-use Rattle.pg_group.specs.declared.update.Update.{Update}
-use Rattle.pg_group.specs.declared.update.Update.TheVariants as update
-use Rattle.pg_group.specs.Value.{name_of}
-use Rattle.pg_step.specs.declared.command.OpId.{OpId}
-use Rattle.pg_step.specs.Nodes.{Node}
-use Rattle.pg_step.specs.Attempts.{same_op}
-use Rattle.pg_step.specs.State.Use.{Owning, Updating}
+use Rattle.pg_marks.specs.PgGroup.declared.update.Update.{Update}
+use Rattle.pg_marks.specs.PgGroup.declared.update.Update.TheVariants as update
+use Rattle.pg_marks.specs.PgGroup.Value.{name_of}
+use Rattle.pg_marks.specs.PgStep.declared.command.OpId.{OpId}
+use Rattle.pg_marks.specs.PgStep.Nodes.{Node}
+use Rattle.pg_marks.specs.PgStep.Attempts.{same_op}
+use Rattle.pg_marks.specs.PgStep.State.Use.{Owning, Updating}
 use Rattle.pg_marks.specs.declared.mark.Mark.{Mark}
 use Rattle.pg_marks.specs.declared.mark.Mark.TheVariants as mark
 use Rattle.pg_marks.specs.Marks.{status_of, has_yes, all_below, same_mark, same_test, same_marks, same_replies}

@@ -6,9 +6,9 @@ use Rattle.std.proofs.Math.Path.{fun_ext}
 use Rattle.std.proofs.lemmas.Bool.{eq-eqb, ne_eqb, cases_eq}
 use Rattle.std.proofs.lemmas.Bool.Decides.{nat_tests}
 use Rattle.pg_term.specs.Same.{same_atom}
-use Rattle.pg_step.specs.Nodes.{Node, every, is_node, is_peer}
-use Rattle.pg_step.specs.State.Status.{Unasked, Asked}
-use Rattle.pg_step.specs.Attempts.{is_unasked, asks, own_verdict, with_asked}
+use Rattle.pg_marks.specs.PgStep.Nodes.{Node, every, is_node, is_peer}
+use Rattle.pg_marks.specs.PgStep.State.Status.{Unasked, Asked}
+use Rattle.pg_marks.specs.PgStep.Attempts.{is_unasked, asks, own_verdict, with_asked}
 use Rattle.pg_marks.specs.declared.mark.Mark.{Mark}
 use Rattle.pg_marks.specs.declared.mark.Mark.TheVariants as mark
 use Rattle.pg_marks.specs.declared.mark.Asked.{Asked as Whom}

@@ -2,7 +2,7 @@
 use Rattle.std.proofs.Common.{◌≡◌, ℕ, Bool, length, List, [], ◌∷◌, ap, refl, sym, subst}
 use Rattle.std.specs.List.{AllZip, IsDistinct}
 use Rattle.pg_term.specs.Same.{same_atom}
-use Rattle.pg_step.specs.Nodes.{Node}
+use Rattle.pg_marks.specs.PgStep.Nodes.{Node}
 use Rattle.pg_opens.specs.declared.command.OpenCommand.{OpenCommand}
 use Rattle.pg_opens.specs.declared.opens.Opens.{Opens}
 use Rattle.pg_opens.specs.Commands.{uses_in, stages_in, AreKnown}

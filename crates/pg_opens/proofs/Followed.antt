@@ -8,19 +8,19 @@ use Rattle.std.proofs.Math.Path.{fun_ext}
 use Rattle.std.proofs.lemmas.Bool.{eqb-true, eq-eqb}
 use Rattle.std.proofs.lemmas.Bool.Decides.{nat_tests}
 use Rattle.pg_term.specs.Same.{same_atom}
-use Rattle.pg_group.specs.declared.update.Update.{Update}
-use Rattle.pg_group.specs.Value.{name_of}
-use Rattle.pg_group.specs.Functions.{upd}
-use Rattle.pg_group.specs.Table.{Table}
-use Rattle.pg_step.specs.declared.command.OpId.{OpId}
-use Rattle.pg_step.specs.Nodes.{Node, Nodes}
-use Rattle.pg_step.specs.State.{State, Status, new_state}
-use Rattle.pg_step.specs.State.Status.{Unasked}
-use Rattle.pg_step.specs.State.Use.{Fresh, Locking, Owning, Updating, Spent}
-use Rattle.pg_step.specs.State.Stage.{Closed, Waiting, Changing}
-use Rattle.pg_step.specs.Peers.{would_grant}
-use Rattle.pg_step.specs.Attempts.{same_op, new_attempt, ask, with_asked}
-use Rattle.pg_step.specs.Attempts.{count_answer, give_up, begin, finish, own_verdict}
+use Rattle.pg_marks.specs.PgGroup.declared.update.Update.{Update}
+use Rattle.pg_marks.specs.PgGroup.Value.{name_of}
+use Rattle.pg_marks.specs.PgGroup.Functions.{upd}
+use Rattle.pg_marks.specs.PgGroup.Table.{Table}
+use Rattle.pg_marks.specs.PgStep.declared.command.OpId.{OpId}
+use Rattle.pg_marks.specs.PgStep.Nodes.{Node, Nodes}
+use Rattle.pg_marks.specs.PgStep.State.{State, Status, new_state}
+use Rattle.pg_marks.specs.PgStep.State.Status.{Unasked}
+use Rattle.pg_marks.specs.PgStep.State.Use.{Fresh, Locking, Owning, Updating, Spent}
+use Rattle.pg_marks.specs.PgStep.State.Stage.{Closed, Waiting, Changing}
+use Rattle.pg_marks.specs.PgStep.Peers.{would_grant}
+use Rattle.pg_marks.specs.PgStep.Attempts.{same_op, new_attempt, ask, with_asked}
+use Rattle.pg_marks.specs.PgStep.Attempts.{count_answer, give_up, begin, finish, own_verdict}
 use Rattle.pg_marks.specs.declared.mark.Mark.{Mark}
 use Rattle.pg_marks.specs.declared.mark.Mark.TheVariants as mark
 use Rattle.pg_marks.specs.declared.mark.Asked.{Asked as Whom}

@@ -7,16 +7,16 @@ use Rattle.std.proofs.lemmas.Bool.{eqb-true, eq-eqb}
 use Rattle.std.proofs.lemmas.Option.{slice_get_read}
 use Rattle.std.proofs.Math.Path.{fun_ext}
 use Rattle.pg_term.specs.Same.{same_atom}
-use Rattle.pg_group.specs.Functions.{upd}
-use Rattle.pg_group.specs.Value.{name_of}
-use Rattle.pg_step.specs.declared.command.OpId.{OpId}
-use Rattle.pg_step.specs.Nodes.{Node}
-use Rattle.pg_step.specs.State.{State, Use}
-use Rattle.pg_step.specs.State.Status.{Unasked}
-use Rattle.pg_step.specs.State.Use.{Fresh, Spent, Locking, Owning, Updating}
-use Rattle.pg_step.specs.State.Stage.{Closed}
-use Rattle.pg_step.specs.Attempts.{same_op}
-use Rattle.pg_step.specs.Losses.{forgets, see_loss}
+use Rattle.pg_marks.specs.PgGroup.Functions.{upd}
+use Rattle.pg_marks.specs.PgGroup.Value.{name_of}
+use Rattle.pg_marks.specs.PgStep.declared.command.OpId.{OpId}
+use Rattle.pg_marks.specs.PgStep.Nodes.{Node}
+use Rattle.pg_marks.specs.PgStep.State.{State, Use}
+use Rattle.pg_marks.specs.PgStep.State.Status.{Unasked}
+use Rattle.pg_marks.specs.PgStep.State.Use.{Fresh, Spent, Locking, Owning, Updating}
+use Rattle.pg_marks.specs.PgStep.State.Stage.{Closed}
+use Rattle.pg_marks.specs.PgStep.Attempts.{same_op}
+use Rattle.pg_marks.specs.PgStep.Losses.{forgets, see_loss}
 use Rattle.pg_marks.specs.declared.mark.Mark.{Mark}
 use Rattle.pg_marks.specs.declared.mark.Mark.TheVariants as mark
 use Rattle.pg_marks.specs.Marks.{status_of, has_yes}

@@ -6,19 +6,19 @@ use Rattle.std.specs.List.{IsDistinct, list_any}
 use Rattle.std.proofs.lemmas.Option.{slice_get_read}
 use Rattle.std.proofs.lemmas.Bool.{eqb-true}
 use Rattle.pg_term.specs.Same.{same_atom}
-use Rattle.pg_group.specs.declared.update.Update.{Update}
-use Rattle.pg_group.specs.Value.{name_of}
-use Rattle.pg_lock.specs.Attempts.{after_round, does_wait}
-use Rattle.pg_multicall.specs.Gathered.{what_of}
-use Rattle.pg_multicall.specs.declared.gather.Taken.TheVariants.{Counted, Stranger, Double}
-use Rattle.pg_message.specs.declared.message.Said.TheVariants.{Applied}
-use Rattle.pg_step.specs.declared.command.OpId.{OpId}
-use Rattle.pg_step.specs.Nodes.{Node, Nodes}
-use Rattle.pg_step.specs.State.{State, Use, Stage}
-use Rattle.pg_step.specs.State.Use.{Fresh, Locking, Owning, Updating, Spent}
-use Rattle.pg_step.specs.State.Stage.{Closed, Waiting, Asking, Changing}
-use Rattle.pg_step.specs.Attempts.{same_op, gathered, is_complete, waits, lock_entry, is_yes}
-use Rattle.pg_step.specs.Attempts.{round_of, none_denied, none_missing, all_granted, with_asked}
+use Rattle.pg_marks.specs.PgGroup.declared.update.Update.{Update}
+use Rattle.pg_marks.specs.PgGroup.Value.{name_of}
+use Rattle.pg_marks.specs.PgLock.Attempts.{after_round, does_wait}
+use Rattle.pg_marks.specs.PgMulticall.Gathered.{what_of}
+use Rattle.pg_marks.specs.PgMulticall.declared.gather.Taken.TheVariants.{Counted, Stranger, Double}
+use Rattle.pg_marks.specs.PgMessage.declared.message.Said.TheVariants.{Applied}
+use Rattle.pg_marks.specs.PgStep.declared.command.OpId.{OpId}
+use Rattle.pg_marks.specs.PgStep.Nodes.{Node, Nodes}
+use Rattle.pg_marks.specs.PgStep.State.{State, Use, Stage}
+use Rattle.pg_marks.specs.PgStep.State.Use.{Fresh, Locking, Owning, Updating, Spent}
+use Rattle.pg_marks.specs.PgStep.State.Stage.{Closed, Waiting, Asking, Changing}
+use Rattle.pg_marks.specs.PgStep.Attempts.{same_op, gathered, is_complete, waits, lock_entry, is_yes}
+use Rattle.pg_marks.specs.PgStep.Attempts.{round_of, none_denied, none_missing, all_granted, with_asked}
 use Rattle.pg_marks.specs.declared.mark.Mark.{Mark}
 use Rattle.pg_marks.specs.declared.mark.Mark.TheVariants as mark
 use Rattle.pg_marks.specs.declared.mark.Asked.TheVariants.{Nobody, All}

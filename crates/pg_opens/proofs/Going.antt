@@ -3,18 +3,18 @@ use Rattle.std.proofs.Common.{◌≡◌, ℕ, Bool, true, false, not, cond, nat_
 use Rattle.std.proofs.Math.Path.{fun_ext}
 use Rattle.std.proofs.lemmas.Bool.{eq-eqb}
 use Rattle.pg_term.specs.Same.{same_atom}
-use Rattle.pg_group.specs.declared.update.Update.{Update}
-use Rattle.pg_group.specs.Functions.{upd}
-use Rattle.pg_group.specs.Value.{name_of}
-use Rattle.pg_lock.specs.Attempts.{after_round, does_wait}
-use Rattle.pg_step.specs.declared.command.OpId.{OpId}
-use Rattle.pg_step.specs.Nodes.{Node, Nodes, is_peer}
-use Rattle.pg_step.specs.State.{State, Status, Use}
-use Rattle.pg_step.specs.State.Use.{Locking}
-use Rattle.pg_step.specs.Turns.{NodeTurn, nothing, becomes, and_then}
-use Rattle.pg_step.specs.Peers.{would_grant}
-use Rattle.pg_step.specs.Attempts.{none_missing, none_denied, all_granted, is_yes, round_of, with_asked}
-use Rattle.pg_step.specs.Attempts.{ask, give_up, begin, replies_in, locks_in, go_on}
+use Rattle.pg_marks.specs.PgGroup.declared.update.Update.{Update}
+use Rattle.pg_marks.specs.PgGroup.Functions.{upd}
+use Rattle.pg_marks.specs.PgGroup.Value.{name_of}
+use Rattle.pg_marks.specs.PgLock.Attempts.{after_round, does_wait}
+use Rattle.pg_marks.specs.PgStep.declared.command.OpId.{OpId}
+use Rattle.pg_marks.specs.PgStep.Nodes.{Node, Nodes, is_peer}
+use Rattle.pg_marks.specs.PgStep.State.{State, Status, Use}
+use Rattle.pg_marks.specs.PgStep.State.Use.{Locking}
+use Rattle.pg_marks.specs.PgStep.Turns.{NodeTurn, nothing, becomes, and_then}
+use Rattle.pg_marks.specs.PgStep.Peers.{would_grant}
+use Rattle.pg_marks.specs.PgStep.Attempts.{none_missing, none_denied, all_granted, is_yes, round_of, with_asked}
+use Rattle.pg_marks.specs.PgStep.Attempts.{ask, give_up, begin, replies_in, locks_in, go_on}
 use Rattle.pg_opens.specs.Outlooks.{outlook_of, outlook_by, turn_by}
 use Rattle.pg_opens.proofs.Rest.{waits_not, gives_up}
 

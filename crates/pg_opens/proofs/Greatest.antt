@@ -6,7 +6,7 @@ use Rattle.std.specs.Ordering.{is_gt}
 use Rattle.std.proofs.lemmas.List.{drop_more}
 use Rattle.std.proofs.Math.ListN.{drop_of_length-le}
 use Rattle.pg_term.specs.Same.{atom_cmp}
-use Rattle.pg_step.specs.Nodes.{Node, greatest_of}
+use Rattle.pg_marks.specs.PgStep.Nodes.{Node, greatest_of}
 use Rattle.pg_opens.specs.Places.{name_at, lost_in}
 
 module _ (names : List Node) (lost : List Bool) where

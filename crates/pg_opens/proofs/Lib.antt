@@ -16,3 +16,10 @@ pub mod Rest
 pub mod Sameness
 pub mod Twins
 pub mod Uses
+pub use Rattle.pg_marks.proofs.PgExchange
+pub use Rattle.pg_marks.proofs.PgGroup
+pub use Rattle.pg_marks.proofs.PgMachine
+pub use Rattle.pg_marks.proofs.PgMessage
+pub use Rattle.pg_marks.proofs.PgQuery
+pub use Rattle.pg_marks.proofs.PgStep
+pub use Rattle.pg_marks.proofs.PgTermIo

@@ -6,7 +6,7 @@ use Rattle.std.specs.List.{AllByRecursion, IsDistinct, list_any, list_all, filte
 use Rattle.std.specs.Cmp.Lexicographic.{bytes_decides}
 use Rattle.std.proofs.Math.Path.{fun_ext}
 use Rattle.pg_term.specs.Same.{same_atom}
-use Rattle.pg_step.specs.Nodes.{Node}
+use Rattle.pg_marks.specs.PgStep.Nodes.{Node}
 use Rattle.pg_marks.specs.Marks.{all_below}
 use Rattle.pg_opens.specs.Places.{name_at, reads}
 

@@ -6,7 +6,7 @@ use Rattle.std.specs.List.{list_any}
 use Rattle.std.specs.Option.{is_some}
 use Rattle.std.proofs.lemmas.Option.{slice_get_read, get_or_from_slice_get}
 use Rattle.pg_term.specs.Same.{same_atom}
-use Rattle.pg_step.specs.Nodes.{Node, is_node}
+use Rattle.pg_marks.specs.PgStep.Nodes.{Node, is_node}
 use Rattle.pg_opens.specs.Places.{name_at, whole_in}
 use Rattle.pg_opens.proofs.Named.{atom_is}
 

@@ -2,12 +2,12 @@
 use Rattle.std.proofs.Common.{◌≡◌, ℕ, ◌<◌, Bool, true, false, not, ◌&&◌, get_or, length, List, ap, sym, ◌∙◌}
 use Rattle.std.specs.List.{IsDistinct}
 use Rattle.pg_term.specs.Same.{same_atom}
-use Rattle.pg_group.specs.declared.update.Update.{Update}
-use Rattle.pg_step.specs.declared.command.OpId.{OpId}
-use Rattle.pg_step.specs.Nodes.{Node, is_peer}
-use Rattle.pg_step.specs.State.{Status}
-use Rattle.pg_step.specs.State.Use.{Locking}
-use Rattle.pg_step.specs.Attempts.{asks}
+use Rattle.pg_marks.specs.PgGroup.declared.update.Update.{Update}
+use Rattle.pg_marks.specs.PgStep.declared.command.OpId.{OpId}
+use Rattle.pg_marks.specs.PgStep.Nodes.{Node, is_peer}
+use Rattle.pg_marks.specs.PgStep.State.{Status}
+use Rattle.pg_marks.specs.PgStep.State.Use.{Locking}
+use Rattle.pg_marks.specs.PgStep.Attempts.{asks}
 use Rattle.pg_marks.specs.declared.mark.Mark.TheVariants as mark
 use Rattle.pg_marks.specs.declared.mark.Asked.{Asked as Whom}
 use Rattle.pg_marks.specs.Marks.{asked_in}

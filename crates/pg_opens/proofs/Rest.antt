@@ -5,24 +5,24 @@ use Rattle.std.proofs.Common.{nat_eq, List, [], ◌∷◌, ◌++◌, refl, ap, s
 use Rattle.std.specs.List.{list_any, list_all}
 use Rattle.std.proofs.Math.Path.{fun_ext}
 use Rattle.pg_term.specs.Same.{same_atom}
-use Rattle.pg_group.specs.declared.update.Update.{Update}
-use Rattle.pg_group.specs.Functions.{upd}
-use Rattle.pg_group.specs.Value.{name_of}
-use Rattle.pg_lock.specs.Attempts.{after_round, does_wait}
-use Rattle.pg_lock.specs.declared.attempt.Attempt.TheVariants.{AskingFirst, AskingRest}
-use Rattle.pg_lock.specs.Locks.{after_ask, given_up, is_holder}
-use Rattle.pg_message.specs.declared.message.Message.{Message}
-use Rattle.pg_message.specs.declared.message.Message.TheVariants.{Call, DelLock}
-use Rattle.pg_message.specs.declared.message.Request.TheVariants.{SetLock}
-use Rattle.pg_step.specs.declared.command.OpId.{OpId}
-use Rattle.pg_step.specs.Nodes.{Node, Nodes, all_of, is_node, is_peer, to_peers}
-use Rattle.pg_step.specs.State.{State, Status, Use}
-use Rattle.pg_step.specs.State.Status.{Unasked, Asked, Yes, No}
-use Rattle.pg_step.specs.State.Use.{Locking, Spent}
-use Rattle.pg_step.specs.Turns.{NodeTurn, nothing, and_then}
-use Rattle.pg_step.specs.Peers.{would_grant}
-use Rattle.pg_step.specs.Attempts.{is_unasked, is_asked, is_yes, is_no, asks, none_missing, none_denied}
-use Rattle.pg_step.specs.Attempts.{all_granted, with_asked, own_verdict, own_reference, ask, give_up}
+use Rattle.pg_marks.specs.PgGroup.declared.update.Update.{Update}
+use Rattle.pg_marks.specs.PgGroup.Functions.{upd}
+use Rattle.pg_marks.specs.PgGroup.Value.{name_of}
+use Rattle.pg_marks.specs.PgLock.Attempts.{after_round, does_wait}
+use Rattle.pg_marks.specs.PgLock.declared.attempt.Attempt.TheVariants.{AskingFirst, AskingRest}
+use Rattle.pg_marks.specs.PgLock.Locks.{after_ask, given_up, is_holder}
+use Rattle.pg_marks.specs.PgMessage.declared.message.Message.{Message}
+use Rattle.pg_marks.specs.PgMessage.declared.message.Message.TheVariants.{Call, DelLock}
+use Rattle.pg_marks.specs.PgMessage.declared.message.Request.TheVariants.{SetLock}
+use Rattle.pg_marks.specs.PgStep.declared.command.OpId.{OpId}
+use Rattle.pg_marks.specs.PgStep.Nodes.{Node, Nodes, all_of, is_node, is_peer, to_peers}
+use Rattle.pg_marks.specs.PgStep.State.{State, Status, Use}
+use Rattle.pg_marks.specs.PgStep.State.Status.{Unasked, Asked, Yes, No}
+use Rattle.pg_marks.specs.PgStep.State.Use.{Locking, Spent}
+use Rattle.pg_marks.specs.PgStep.Turns.{NodeTurn, nothing, and_then}
+use Rattle.pg_marks.specs.PgStep.Peers.{would_grant}
+use Rattle.pg_marks.specs.PgStep.Attempts.{is_unasked, is_asked, is_yes, is_no, asks, none_missing, none_denied}
+use Rattle.pg_marks.specs.PgStep.Attempts.{all_granted, with_asked, own_verdict, own_reference, ask, give_up}
 use Rattle.pg_opens.proofs.Named.{atom_is, atom_self, clash}
 
 -- in both rounds a command waits exactly where one has denied

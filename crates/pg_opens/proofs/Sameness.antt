@@ -8,14 +8,14 @@ use Rattle.std.specs.List.{IsDistinct, list_any}
 use Rattle.std.proofs.lemmas.Bool.{eqb-true, eq-eqb}
 use Rattle.std.proofs.lemmas.List.{same_lists, get_or_default}
 use Rattle.pg_term.specs.Same.{same_atom}
-use Rattle.pg_group.specs.declared.update.Update.{Update}
-use Rattle.pg_group.specs.Value.{name_of}
-use Rattle.pg_step.specs.declared.command.OpId.{OpId}
-use Rattle.pg_step.specs.Nodes.{Node}
-use Rattle.pg_step.specs.State.{Status, Use}
-use Rattle.pg_step.specs.State.Use.{Locking, Owning, Updating}
-use Rattle.pg_step.specs.State.Stage.{Closed}
-use Rattle.pg_step.specs.Attempts.{same_op}
+use Rattle.pg_marks.specs.PgGroup.declared.update.Update.{Update}
+use Rattle.pg_marks.specs.PgGroup.Value.{name_of}
+use Rattle.pg_marks.specs.PgStep.declared.command.OpId.{OpId}
+use Rattle.pg_marks.specs.PgStep.Nodes.{Node}
+use Rattle.pg_marks.specs.PgStep.State.{Status, Use}
+use Rattle.pg_marks.specs.PgStep.State.Use.{Locking, Owning, Updating}
+use Rattle.pg_marks.specs.PgStep.State.Stage.{Closed}
+use Rattle.pg_marks.specs.PgStep.Attempts.{same_op}
 use Rattle.pg_marks.specs.declared.mark.Mark.TheVariants as mark
 use Rattle.pg_marks.specs.Marks.{has_yes, same_mark, same_test, same_marks, same_replies}
 use Rattle.pg_opens.specs.declared.command.Phase.{Phase}

@@ -6,8 +6,8 @@ use Rattle.std.specs.Cmp.{first_so, second_so}
 use Rattle.std.specs.List.{IsDistinct, list_all, list_any}
 use Rattle.std.proofs.Math.Path.{fun_ext}
 use Rattle.pg_term.specs.Same.{same_atom}
-use Rattle.pg_step.specs.Nodes.{Node}
-use Rattle.pg_step.specs.State.Stage.{Closed}
+use Rattle.pg_marks.specs.PgStep.Nodes.{Node}
+use Rattle.pg_marks.specs.PgStep.State.Stage.{Closed}
 use Rattle.pg_opens.specs.declared.command.OpenCommand.{OpenCommand}
 use Rattle.pg_opens.specs.Layers.{over, or_as, seek, answers, others}
 use Rattle.pg_opens.specs.Commands.{use_at, stage_at, unused, uses_in, stages_in, AreKnown}

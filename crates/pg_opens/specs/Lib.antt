@@ -7,3 +7,15 @@ pub mod Places
 pub mod Readings
 pub mod TakenBack
 pub mod Twins
+pub use Rattle.pg_marks.specs.PgEnds
+pub use Rattle.pg_marks.specs.PgExchange
+pub use Rattle.pg_marks.specs.PgGroup
+pub use Rattle.pg_marks.specs.PgLock
+pub use Rattle.pg_marks.specs.PgMachine
+pub use Rattle.pg_marks.specs as PgMarks
+pub use Rattle.pg_marks.specs.PgMessage
+pub use Rattle.pg_marks.specs.PgMulticall
+pub use Rattle.pg_marks.specs.PgQuery
+pub use Rattle.pg_marks.specs.PgRefs
+pub use Rattle.pg_marks.specs.PgStep
+pub use Rattle.pg_marks.specs.PgTermIo

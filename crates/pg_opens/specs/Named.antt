@@ -1,9 +1,9 @@
 -- What the marks say of nodes by their names, and who is asked.
 use Rattle.std.specs.Prelude.{ℕ, Bool, true, false, nat_lt, List}
 use Rattle.pg_term.specs.Same.{same_atom}
-use Rattle.pg_step.specs.Nodes.{Node}
-use Rattle.pg_step.specs.State.{Status}
-use Rattle.pg_step.specs.State.Status.{Unasked}
+use Rattle.pg_marks.specs.PgStep.Nodes.{Node}
+use Rattle.pg_marks.specs.PgStep.State.{Status}
+use Rattle.pg_marks.specs.PgStep.State.Status.{Unasked}
 use Rattle.pg_marks.specs.declared.mark.Mark.{Mark}
 use Rattle.pg_marks.specs.declared.mark.Asked.{Asked as Whom}
 use Rattle.pg_marks.specs.declared.mark.Asked.TheVariants.{Nobody, One, All}

@@ -1,11 +1,11 @@
 -- What the open commands of a node are seen as.
 use Rattle.std.specs.Prelude.{◌≡◌, ℕ, ◌<◌, Bool, not, length, map, List, vec_len, vec_capacity}
 use Rattle.std.specs.List.{IsDistinct, list_any}
-use Rattle.pg_step.specs.declared.command.OpId.{OpId}
-use Rattle.pg_step.specs.Nodes.{Node, Nodes}
-use Rattle.pg_step.specs.State.{State, Use, Stage}
-use Rattle.pg_step.specs.Turns.{NodeTurn}
-use Rattle.pg_step.specs.Attempts.{same_op}
+use Rattle.pg_marks.specs.PgStep.declared.command.OpId.{OpId}
+use Rattle.pg_marks.specs.PgStep.Nodes.{Node, Nodes}
+use Rattle.pg_marks.specs.PgStep.State.{State, Use, Stage}
+use Rattle.pg_marks.specs.PgStep.Turns.{NodeTurn}
+use Rattle.pg_marks.specs.PgStep.Attempts.{same_op}
 use Rattle.pg_opens.specs.declared.command.OpenCommand.{OpenCommand}
 use Rattle.pg_opens.specs.declared.opens.Opens.{Opens}
 use Rattle.pg_opens.specs.Places.{lost_in, live_in, whole_in}

@@ -1,16 +1,16 @@
 -- What follows once answers to a request for the lock are in (`go_on` and `locks_in` of the step).
 use Rattle.std.specs.Prelude.{ℕ, Bool, true, false, not, cond, get_or, List}
-use Rattle.pg_group.specs.declared.update.Update.{Update}
-use Rattle.pg_lock.specs.Attempts.{after_round, does_wait}
-use Rattle.pg_lock.specs.declared.attempt.Attempt.{Attempt}
-use Rattle.pg_lock.specs.declared.attempt.Attempt.TheVariants.{AskingFirst, AskingRest}
-use Rattle.pg_step.specs.declared.command.OpId.{OpId}
-use Rattle.pg_step.specs.Nodes.{Node, Nodes}
-use Rattle.pg_step.specs.State.{State, Status, Use}
-use Rattle.pg_step.specs.State.Use.{Locking}
-use Rattle.pg_step.specs.Turns.{NodeTurn, becomes, and_then}
-use Rattle.pg_step.specs.Attempts.{none_missing, none_denied, all_granted, round_of}
-use Rattle.pg_step.specs.Attempts.{with_asked, ask, give_up, begin, replies_in}
+use Rattle.pg_marks.specs.PgGroup.declared.update.Update.{Update}
+use Rattle.pg_marks.specs.PgLock.Attempts.{after_round, does_wait}
+use Rattle.pg_marks.specs.PgLock.declared.attempt.Attempt.{Attempt}
+use Rattle.pg_marks.specs.PgLock.declared.attempt.Attempt.TheVariants.{AskingFirst, AskingRest}
+use Rattle.pg_marks.specs.PgStep.declared.command.OpId.{OpId}
+use Rattle.pg_marks.specs.PgStep.Nodes.{Node, Nodes}
+use Rattle.pg_marks.specs.PgStep.State.{State, Status, Use}
+use Rattle.pg_marks.specs.PgStep.State.Use.{Locking}
+use Rattle.pg_marks.specs.PgStep.Turns.{NodeTurn, becomes, and_then}
+use Rattle.pg_marks.specs.PgStep.Attempts.{none_missing, none_denied, all_granted, round_of}
+use Rattle.pg_marks.specs.PgStep.Attempts.{with_asked, ask, give_up, begin, replies_in}
 use Rattle.pg_marks.specs.declared.mark.Mark.{Mark}
 use Rattle.pg_marks.specs.declared.mark.Mark.TheVariants as mark
 use Rattle.pg_marks.specs.declared.mark.Asked.TheVariants.{Nobody, All}

@@ -2,7 +2,7 @@
 use Rattle.std.specs.Prelude.{◌≡◌, ℕ, ◌<◌, ◌≤◌, Bool, false, not, cond, length, get_or, drop, List, [], ◌∷◌}
 use Rattle.std.specs.List.{filter}
 use Rattle.pg_term.specs.Same.{same_atom}
-use Rattle.pg_step.specs.Nodes.{Node, Nodes}
+use Rattle.pg_marks.specs.PgStep.Nodes.{Node, Nodes}
 
 abbrev pub name_at : List Node → ℕ → Node
 name_at names place = get_or names place []

@@ -1,12 +1,12 @@
 -- What is read of the open commands.
 use Rattle.std.specs.Prelude.{ℕ, Bool, true, false, ◌&&◌, ◌==◌, cond, nat_eq, List, Option, Some, None}
-use Rattle.pg_group.specs.declared.update.Update.{Update}
-use Rattle.pg_multicall.specs.declared.gather.Taken.{Taken}
-use Rattle.pg_multicall.specs.declared.gather.Taken.TheVariants.{Counted, Stranger, Double}
-use Rattle.pg_step.specs.declared.command.OpId.{OpId}
-use Rattle.pg_step.specs.State.{Use, Stage}
-use Rattle.pg_step.specs.State.Use.{Locking, Updating}
-use Rattle.pg_step.specs.State.Stage.{Closed, Waiting, Asking, Changing}
+use Rattle.pg_marks.specs.PgGroup.declared.update.Update.{Update}
+use Rattle.pg_marks.specs.PgMulticall.declared.gather.Taken.{Taken}
+use Rattle.pg_marks.specs.PgMulticall.declared.gather.Taken.TheVariants.{Counted, Stranger, Double}
+use Rattle.pg_marks.specs.PgStep.declared.command.OpId.{OpId}
+use Rattle.pg_marks.specs.PgStep.State.{Use, Stage}
+use Rattle.pg_marks.specs.PgStep.State.Use.{Locking, Updating}
+use Rattle.pg_marks.specs.PgStep.State.Stage.{Closed, Waiting, Asking, Changing}
 use Rattle.pg_marks.specs.declared.mark.Mark.{Mark}
 use Rattle.pg_marks.specs.declared.mark.Asked.TheVariants.{Nobody}
 use Rattle.pg_marks.specs.declared.mark.Wanted.TheVariants.{Answered, Granted}

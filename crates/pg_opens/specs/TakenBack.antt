@@ -1,15 +1,15 @@
 -- What takes a counted reply back, or a command that was opened.
 use Rattle.std.specs.Prelude.{ℕ, ◌-◌, Bool, false, nat_eq}
 use Rattle.pg_term.specs.Same.{same_atom}
-use Rattle.pg_group.specs.declared.update.Update.{Update}
-use Rattle.pg_group.specs.Functions.{upd}
-use Rattle.pg_step.specs.declared.command.OpId.{OpId}
-use Rattle.pg_step.specs.Nodes.{Node}
-use Rattle.pg_step.specs.State.{State}
-use Rattle.pg_step.specs.State.Use.{Updating}
-use Rattle.pg_step.specs.State.Stage.{Closed}
-use Rattle.pg_step.specs.Attempts.{same_op}
-use Rattle.pg_step.specs.Turns.{NodeTurn, becomes}
+use Rattle.pg_marks.specs.PgGroup.declared.update.Update.{Update}
+use Rattle.pg_marks.specs.PgGroup.Functions.{upd}
+use Rattle.pg_marks.specs.PgStep.declared.command.OpId.{OpId}
+use Rattle.pg_marks.specs.PgStep.Nodes.{Node}
+use Rattle.pg_marks.specs.PgStep.State.{State}
+use Rattle.pg_marks.specs.PgStep.State.Use.{Updating}
+use Rattle.pg_marks.specs.PgStep.State.Stage.{Closed}
+use Rattle.pg_marks.specs.PgStep.Attempts.{same_op}
+use Rattle.pg_marks.specs.PgStep.Turns.{NodeTurn, becomes}
 
 -- the ok of a node, as if it had not come
 abbrev pub ok_taken_back : ℕ → OpId → Update → ℕ → (Node → Bool) → Node → State → NodeTurn

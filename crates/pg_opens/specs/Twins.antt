@@ -2,9 +2,9 @@
 use Rattle.std.specs.Prelude.{ℕ, Bool, true, false, ◌&&◌, nat_eq, length, List}
 use Rattle.std.specs.List.{list_all, list_any}
 use Rattle.pg_term.specs.Same.{same_term, same_pid}
-use Rattle.pg_group.specs.declared.update.Update.{Update}
-use Rattle.pg_group.specs.declared.update.Update.TheVariants as update
-use Rattle.pg_step.specs.Attempts.{same_op}
+use Rattle.pg_marks.specs.PgGroup.declared.update.Update.{Update}
+use Rattle.pg_marks.specs.PgGroup.declared.update.Update.TheVariants as update
+use Rattle.pg_marks.specs.PgStep.Attempts.{same_op}
 use Rattle.pg_marks.specs.declared.mark.Mark.{Mark}
 use Rattle.pg_marks.specs.Marks.{same_marks, same_replies}
 use Rattle.pg_opens.specs.declared.command.Phase.{Phase}

@@ -1,15 +1,11 @@
 ghost use Rattle.std.specs.Prelude.{◌≡◌, ◌<◌, false, true, length, get_or, IfOk, IfSome, IfNone, slice_get};
 ghost use Rattle.std.specs.List.{list_any};
-ghost use Rattle.pg_step.specs.Attempts.{same_op};
+ghost use Rattle.pg_marks.specs.PgStep.Attempts.{same_op};
 ghost use Rattle.pg_marks.specs.declared.mark.Mark.TheVariants.{Unasked};
 ghost use Rattle.pg_opens.specs.Commands.{has_in};
 
 use crate::outlook::Outlook;
-use pg_group::Update;
-use pg_lock::Attempt;
-use pg_marks::{Asked, Marks, Wanted};
-use pg_multicall::Taken;
-use pg_step::OpId;
+use pg_marks::{Asked, Attempt, Marks, OpId, Taken, Update, Wanted};
 use std::alloc::{AllocError, Global};
 
 /// The stage of an open command with what is kept beside: who was asked first, and the lock of an update.

@@ -1,13 +1,13 @@
 ghost use Rattle.std.specs.Prelude.{◌≡◌, ℕ, Bool, true, false};
 ghost use Rattle.pg_term.specs.Same.{same_atom};
-ghost use Rattle.pg_group.specs.declared.update.Update.{Update};
-ghost use Rattle.pg_group.specs.Value.{name_of};
-ghost use Rattle.pg_step.specs.declared.command.OpId.{OpId};
-ghost use Rattle.pg_step.specs.Nodes.{Node, Nodes, is_peer};
-ghost use Rattle.pg_step.specs.State.{State, Status};
-ghost use Rattle.pg_step.specs.State.Use.{Locking};
-ghost use Rattle.pg_step.specs.Peers.{would_grant};
-ghost use Rattle.pg_step.specs.Attempts.{go_on};
+ghost use Rattle.pg_marks.specs.PgGroup.declared.update.Update.{Update};
+ghost use Rattle.pg_marks.specs.PgGroup.Value.{name_of};
+ghost use Rattle.pg_marks.specs.PgStep.declared.command.OpId.{OpId};
+ghost use Rattle.pg_marks.specs.PgStep.Nodes.{Node, Nodes, is_peer};
+ghost use Rattle.pg_marks.specs.PgStep.State.{State, Status};
+ghost use Rattle.pg_marks.specs.PgStep.State.Use.{Locking};
+ghost use Rattle.pg_marks.specs.PgStep.Peers.{would_grant};
+ghost use Rattle.pg_marks.specs.PgStep.Attempts.{go_on};
 ghost use Rattle.pg_opens.specs.Outlooks.{outlook_of, turn_by};
 
 /// What a node makes of a request for the lock once answers are in goes by the outlook: it waits, gives up, asks the rest, or

@@ -14,3 +14,11 @@ pub use command::{Gathering, Stage};
 pub use laws::steps_go_by_outlook;
 pub use opens::Opens;
 pub use outlook::Outlook;
+pub use pg_marks::{
+    Answer, Asked, Attempt, Command, CommandFault, EndFault, Ended, ExchangeFault, Formation,
+    Gather, GroupTable, LockTable, MAX_PLACES, MAX_STAMP, Message, MessageFault, Odd, OpId, Packet,
+    Places, Processes, QueryFault, RefFault, RefSource, Refusal, Reply, Request, Said, Scope,
+    Start, Taken, Update, check_name, closest, decode, encode, encode_into, equal_answers,
+    local_members, losing_nodes_keep_time, members, nodes_keep_time, number_of, numbered_from_one,
+    reference_of, same_group, same_groups, snapshot, take_end, which_groups, words_of,
+};

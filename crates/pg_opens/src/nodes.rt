@@ -2,7 +2,7 @@ ghost use Rattle.std.specs.Prelude.{◌≡◌, ◌<◌, ◌&&◌, true, false, n
 ghost use Rattle.std.specs.List.{IsDistinct, list_any};
 ghost use Rattle.std.specs.Ordering.{is_gt};
 ghost use Rattle.pg_term.specs.Same.{same_atom, atom_cmp};
-ghost use Rattle.pg_step.specs.Nodes.{greatest};
+ghost use Rattle.pg_marks.specs.PgStep.Nodes.{greatest};
 ghost use Rattle.pg_opens.specs.Places.{ArePlaces, name_at, live_in};
 
 use pg_term::Atom;

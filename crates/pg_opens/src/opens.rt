@@ -11,10 +11,7 @@ use crate::command::{Gathering, OpenCommand, Phase, Stage, place_of, place_of_op
 use crate::nodes::{greatest_place, place_of_atom};
 use crate::outlook::Outlook;
 use crate::twin::have_twins;
-use pg_group::Update;
-use pg_marks::{Asked, Marks};
-use pg_multicall::Taken;
-use pg_step::OpId;
+use pg_marks::{Asked, Marks, OpId, Taken, Update};
 use pg_term::Atom;
 use std::alloc::{AllocError, Global};
 
@@ -36,21 +33,21 @@ pub struct Opens {
 }
 
 impl Opens {
-    ghost use Rattle.pg_multicall.specs.Gathered.{what_of};
-    ghost use Rattle.pg_group.specs.Table.{Table};
+    ghost use Rattle.pg_marks.specs.PgMulticall.Gathered.{what_of};
+    ghost use Rattle.pg_marks.specs.PgGroup.Table.{Table};
     ghost use Rattle.std.specs.Prelude.{Bool, Some, slice_get};
-    ghost use Rattle.pg_group.specs.Value.{name_of};
-    ghost use Rattle.pg_step.specs.Nodes.{Node, greatest, is_node, is_peer};
+    ghost use Rattle.pg_marks.specs.PgGroup.Value.{name_of};
+    ghost use Rattle.pg_marks.specs.PgStep.Nodes.{Node, greatest, is_node, is_peer};
     ghost use Rattle.std.specs.Option.{is_some};
-    ghost use Rattle.pg_step.specs.State.{State, Status, new_state};
-    ghost use Rattle.pg_step.specs.State.Use.{Locking, Updating};
-    ghost use Rattle.pg_step.specs.State.Stage.{Closed, Waiting};
-    ghost use Rattle.pg_step.specs.Peers.{would_grant};
-    ghost use Rattle.pg_step.specs.Attempts.{gathered, is_complete, is_yes, waits, asks, new_attempt, ask};
-    ghost use Rattle.pg_step.specs.Attempts.{own_verdict, count_answer, count_ok, give_up, begin, finish};
-    ghost use Rattle.pg_step.specs.Turns.{becomes};
-    ghost use Rattle.pg_step.specs.Commands.{open_command};
-    ghost use Rattle.pg_step.specs.Losses.{see_loss};
+    ghost use Rattle.pg_marks.specs.PgStep.State.{State, Status, new_state};
+    ghost use Rattle.pg_marks.specs.PgStep.State.Use.{Locking, Updating};
+    ghost use Rattle.pg_marks.specs.PgStep.State.Stage.{Closed, Waiting};
+    ghost use Rattle.pg_marks.specs.PgStep.Peers.{would_grant};
+    ghost use Rattle.pg_marks.specs.PgStep.Attempts.{gathered, is_complete, is_yes, waits, asks, new_attempt, ask};
+    ghost use Rattle.pg_marks.specs.PgStep.Attempts.{own_verdict, count_answer, count_ok, give_up, begin, finish};
+    ghost use Rattle.pg_marks.specs.PgStep.Turns.{becomes};
+    ghost use Rattle.pg_marks.specs.PgStep.Commands.{open_command};
+    ghost use Rattle.pg_marks.specs.PgStep.Losses.{see_loss};
     ghost use Rattle.pg_opens.specs.Opens.{names_of, whole_of, live_of, ops_of, AreListed};
     ghost use Rattle.pg_opens.specs.Opens.{AreSame, lost_of, references_of, uses_of, opened_of};
     ghost use Rattle.pg_opens.specs.Opens.{stages_of, Shows, Follows, has_room};
@@ -58,7 +55,7 @@ impl Opens {
     ghost use Rattle.pg_opens.specs.Readings.{gathering_of, stage_seen, is_locking};
     ghost use Rattle.pg_opens.specs.Readings.{is_updating, update_of, waiting_of, waits_by};
     ghost use Rattle.pg_opens.specs.Outlooks.{outlook_of};
-    ghost use Rattle.pg_step.specs.State.Status.{Asked as AskedYet};
+    ghost use Rattle.pg_marks.specs.PgStep.State.Status.{Asked as AskedYet};
     ghost use Rattle.pg_opens.specs.TakenBack.{command_taken_back, ok_taken_back};
     ghost use Rattle.pg_opens.specs.Twins.{same_commands};
 

@@ -3,7 +3,7 @@ ghost use Rattle.std.specs.List.{list_any};
 ghost use Rattle.pg_opens.specs.Twins.{same_update, is_alike, is_twin, have_twins};
 
 use crate::command::{OpenCommand, Phase};
-use pg_group::Update;
+use pg_marks::Update;
 
 /// Whether each command of the one list has its twin in the other: a command that is seen as the same.
 pub fn have_twins(commands: &[OpenCommand], others: &[OpenCommand]) -> bool

@@ -5,10 +5,10 @@ use Rattle.std.specs.Prelude.{slice_get, slice_set, vec_len, vec_capacity}
 use Rattle.std.proofs.Math.Path.{fun_ext}
 use Rattle.std.proofs.Math.Dec.{eqb-zero-suc, eqb-suc-zero, eqb-suc-suc}
 use Rattle.std.proofs.lemmas.Bool.{eqb-true, eq-eqb}
-use Rattle.pg_group.specs.Functions.{upd}
-use Rattle.pg_group.proofs.Changes.{upd_same, upd_at, upd_twice}
-use Rattle.pg_step.specs.declared.answer.Answer.{Answer}
-use Rattle.pg_step.specs.declared.answer.Reply.{Reply}
+use Rattle.pg_opens.specs.PgGroup.Functions.{upd}
+use Rattle.pg_opens.proofs.PgGroup.Changes.{upd_same, upd_at, upd_twice}
+use Rattle.pg_opens.specs.PgStep.declared.answer.Answer.{Answer}
+use Rattle.pg_opens.specs.PgStep.declared.answer.Reply.{Reply}
 use Rattle.pg_ports.specs.declared.port.Port.{Port}
 use Rattle.pg_ports.specs.Ports.{counted_at, HasRoomAt}
 use Rattle.pg_ports.specs.Ports.{port_commands, answers_in}

@@ -2,11 +2,11 @@
 use Rattle.std.proofs.Common.{ℕ, List, [], Some, None, refl}
 use Rattle.std.specs.Prelude.{IsSome}
 use Rattle.pg_term.specs.declared.term.Term.{Term}
-use Rattle.pg_group.specs.Value.{Value}
-use Rattle.pg_group.specs.Members.{IsMemberList}
-use Rattle.pg_group.specs.Scope.{anywhere}
-use Rattle.pg_step.specs.declared.answer.Reply.TheVariants as reply
-use Rattle.pg_step.specs.Commands.{PicksMember}
+use Rattle.pg_opens.specs.PgGroup.Value.{Value}
+use Rattle.pg_opens.specs.PgGroup.Members.{IsMemberList}
+use Rattle.pg_opens.specs.PgGroup.Scope.{anywhere}
+use Rattle.pg_opens.specs.PgStep.declared.answer.Reply.TheVariants as reply
+use Rattle.pg_opens.specs.PgStep.Commands.{PicksMember}
 
 pub picks_none : (v : Value) (own : List ℕ) (word : ℕ) (name : Term) → IsSome v → IsMemberList v anywhere [] → PicksMember v own word name (reply.NoProcess name)
 picks_none None own word name there nobody = absurd cc

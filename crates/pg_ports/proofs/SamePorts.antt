@@ -3,7 +3,7 @@ use Rattle.std.proofs.Common.{◌≡◌, ◌<◌, ◌≤◌, ◌+◌, ◌∙◌,
 use Rattle.std.proofs.Common.{◌∷◌, get_or, length, refl, sym, ap, subst, arith}
 use Rattle.std.proofs.Math.Path.{fun_ext}
 use Rattle.std.specs.List.{AllZip}
-use Rattle.pg_step.specs.declared.answer.Answer.{Answer}
+use Rattle.pg_opens.specs.PgStep.declared.answer.Answer.{Answer}
 use Rattle.pg_ports.specs.declared.port.Port.{Port}
 use Rattle.pg_ports.specs.Ports.{port_commands, answers_in}
 use Rattle.pg_ports.specs.Same.{AreSamePorts, IsSamePort}

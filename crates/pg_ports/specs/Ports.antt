@@ -1,7 +1,7 @@
 -- What is kept of ports, by their places.
 use Rattle.std.specs.Prelude.{◌≡◌, ℕ, zero, suc, ◌+◌, ◌<◌, nat_eq, List, [], ◌∷◌, Some, slice_get, vec_len, vec_capacity}
-use Rattle.pg_group.specs.Functions.{upd}
-use Rattle.pg_step.specs.declared.answer.Answer.{Answer}
+use Rattle.pg_opens.specs.PgGroup.Functions.{upd}
+use Rattle.pg_opens.specs.PgStep.declared.answer.Answer.{Answer}
 use Rattle.pg_ports.specs.declared.port.Port.{Port}
 
 -- for each port how many commands came in there

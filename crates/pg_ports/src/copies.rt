@@ -3,7 +3,7 @@
 ghost use Rattle.std.specs.Prelude.{◌≡◌, IfOk};
 
 use crate::port::Port;
-use pg_step::Answer;
+use pg_opens::Answer;
 use std::alloc::{AllocError, Global};
 
 impl Clone for Port {

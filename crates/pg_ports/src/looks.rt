@@ -2,14 +2,13 @@
 
 ghost use Rattle.std.specs.Prelude.{◌≡◌, Some, None, Ok, IfOk, OnErr};
 ghost use Rattle.pg_term.specs.declared.pid.Pid.{Pid};
-ghost use Rattle.pg_group.specs.declared.update.Update.{Update};
-ghost use Rattle.pg_group.specs.declared.update.Update.TheVariants as updates;
-ghost use Rattle.pg_group.specs.Value.{name_of};
-ghost use Rattle.pg_step.specs.declared.answer.Reply.TheVariants as replies;
-ghost use Rattle.pg_step.specs.Commands.{change_of, look};
+ghost use Rattle.pg_opens.specs.PgGroup.declared.update.Update.{Update};
+ghost use Rattle.pg_opens.specs.PgGroup.declared.update.Update.TheVariants as updates;
+ghost use Rattle.pg_opens.specs.PgGroup.Value.{name_of};
+ghost use Rattle.pg_opens.specs.PgStep.declared.answer.Reply.TheVariants as replies;
+ghost use Rattle.pg_opens.specs.PgStep.Commands.{change_of, look};
 
-use pg_group::GroupTable;
-use pg_step::{Command, Reply};
+use pg_opens::{Command, GroupTable, Reply};
 use pg_term::Term;
 use std::alloc::{AllocError, Global};
 

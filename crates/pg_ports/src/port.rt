@@ -1,6 +1,6 @@
 //! The ports of a node, by their places: how many commands came in at each, and what was answered.
 
-use pg_step::{Answer, OpId, Reply};
+use pg_opens::{Answer, OpId, Reply};
 use std::alloc::{AllocError, Global};
 
 /// A port, at which commands come in.
@@ -14,7 +14,7 @@ pub struct Port {
 
 ghost use Rattle.std.specs.Prelude.{◌≡◌, ◌≢◌, ◌<◌, ◌+◌, ◌^◌, ◌++◌, ℕ, [], ◌∷◌, nat_eq};
 ghost use Rattle.std.specs.Prelude.{length, vec_len, vec_capacity, IfOk, IsOk, OnOk};
-ghost use Rattle.pg_group.specs.Functions.{upd};
+ghost use Rattle.pg_opens.specs.PgGroup.Functions.{upd};
 ghost use Rattle.pg_ports.specs.Ports.{counted_at, HasRoomAt};
 ghost use Rattle.pg_ports.specs.Ports.{port_commands, answers_in};
 

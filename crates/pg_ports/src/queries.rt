@@ -1,13 +1,13 @@
 //! What a query is answered, from the own table as it is.
 
 ghost use Rattle.std.specs.Prelude.{◌≡◌, true, IfOk};
-ghost use Rattle.pg_group.specs.Scope.{anywhere, at_node};
-ghost use Rattle.pg_step.specs.Commands.{ListsMembers, ListsGroups, PicksMember, Reads};
-ghost use Rattle.pg_step.specs.StepLaws.{is_query};
+ghost use Rattle.pg_opens.specs.PgGroup.Scope.{anywhere, at_node};
+ghost use Rattle.pg_opens.specs.PgStep.Commands.{ListsMembers, ListsGroups, PicksMember, Reads};
+ghost use Rattle.pg_opens.specs.PgStep.StepLaws.{is_query};
 
-use pg_group::GroupTable;
-use pg_query::{QueryFault, closest, local_members, members, which_groups};
-use pg_step::{Command, Reply};
+use pg_opens::{
+    Command, GroupTable, QueryFault, Reply, closest, local_members, members, which_groups,
+};
 use pg_term::{Atom, Term};
 use std::alloc::{AllocError, Global};
 

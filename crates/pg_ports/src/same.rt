@@ -5,7 +5,7 @@ ghost use Rattle.pg_ports.specs.Ports.{port_commands, answers_in};
 ghost use Rattle.pg_ports.specs.Same.{AreSamePorts};
 
 use crate::port::Port;
-use pg_step::equal_answers;
+use pg_opens::equal_answers;
 
 /// Whether there are as many ports, where as many commands came in and the same answers were given.
 pub fn same_ports(ports: &[Port], others: &[Port]) -> bool

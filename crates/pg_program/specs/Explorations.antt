@@ -3,8 +3,8 @@ use Rattle.std.specs.Prelude.{◌≡◌, ◌≢◌, ◌⊎◌, ◌↔◌, ◌<�
 use Rattle.std.specs.Prelude.{true, false, IsTrue, Option, Some, None, Result, Ok, Err, string_bytes, if◌then◌else◌}
 use Rattle.std.specs.Io.KnownBytes.{Appends}
 use Rattle.std.specs.Str.{is_utf8}
-use Rattle.pg_config.specs.Faults.{world_number_of}
-use Rattle.pg_config.specs.declared.fault.WorldFault.TheVariants.{OutOfMemory}
+use Rattle.pg_cluster.specs.PgConfig.Faults.{world_number_of}
+use Rattle.pg_cluster.specs.PgConfig.declared.fault.WorldFault.TheVariants.{OutOfMemory}
 use Rattle.pg_explore.specs.declared.fault.ExploreFault.{ExploreFault}
 use Rattle.pg_explore.specs.declared.fault.ExploreFault.TheVariants as explore
 use Rattle.pg_explore.specs.declared.plan.Plan.{Plan}

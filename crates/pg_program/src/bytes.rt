@@ -2,12 +2,11 @@
 
 ghost use Rattle.std.specs.Prelude.{◌≡◌, IfSome, IfOk, IfErr};
 ghost use Rattle.std.specs.Str.{chars};
-ghost use Rattle.pg_replica.specs.Causes.{AllAnswered, FailedAt, Unread};
+ghost use Rattle.pg_cluster.specs.PgReplica.Causes.{AllAnswered, FailedAt, Unread};
 ghost use Rattle.pg_program.specs.Bytes.{BytesCause, NameFault, NamesFault, ServesAs, pair_of_texts};
 
-use pg_faults::BAD_CONFIG;
-use pg_message::MessageFault;
-use pg_node::{ServeFault, Sink, Source, serve};
+use pg_cluster::{MessageFault, ServeFault, Sink, Source, serve};
+use pg_term::pg_faults::BAD_CONFIG;
 use pg_term::{Atom, TermFault};
 use std::alloc::Global;
 

@@ -3,7 +3,7 @@
 ghost use Rattle.std.specs.Prelude.{◌≡◌, ◌⊎◌, ◌<◌, ◌≤◌, IfErr, IfOk, Ok, length, option_map, string_bytes};
 ghost use Rattle.pg_explore.specs.Explorations.{AreUnlike, AreFollowed, AreReached};
 ghost use Rattle.pg_explore.specs.Faults.{CantExplore};
-ghost use Rattle.pg_replica.specs.Causes.{FailedAt};
+ghost use Rattle.pg_cluster.specs.PgReplica.Causes.{FailedAt};
 ghost use Rattle.pg_script.specs.Scripts.{Contents};
 ghost use Rattle.pg_survey.specs.Findings.{met_in};
 ghost use Rattle.pg_survey.specs.Scenarios.{IsScenarioOf};
@@ -17,13 +17,11 @@ use crate::script::script_fault;
 use crate::system::System;
 use crate::threads::print;
 use crate::words::Quest;
-use pg_diagram::graph_svg;
+use pg_cluster::{Sink, Source, WorldFault};
 use pg_explore::{ExploreFault, Limits};
-use pg_faults::{NO_SUCH_PLACE, OUT_OF_MEMORY, TOO_LONG};
-use pg_node::{Sink, Source};
-use pg_script::RunFault;
+use pg_script::{RunFault, graph_svg};
 use pg_survey::{Findings, Observer, Scenario, read_scenario, survey};
-use pg_world::WorldFault;
+use pg_term::pg_faults::{NO_SUCH_PLACE, OUT_OF_MEMORY, TOO_LONG};
 use std::alloc::{AllocError, Global};
 
 /// Explores the script that the input is, and writes what was found; whether all worlds were met.

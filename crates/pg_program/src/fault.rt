@@ -4,7 +4,7 @@ ghost use Rattle.std.specs.Prelude.{decimal};
 ghost use Rattle.pg_program.specs.Told.{WritesOut, behind_refused, line_refused, number_end, number_refused, refused_line};
 
 use itoa::Buffer;
-use pg_node::Sink;
+use pg_cluster::Sink;
 use pg_script::{RunFault, put_whole};
 
 /// Why a run is not done.

@@ -1,7 +1,7 @@
 //! The texts of help.
 
-/// What the program is, and what it is proved with: the line of `rt version`.
-pub(crate) const VERSION: &str = "of Zulayefi, proved with rattle-kit-13f logic dac8208d650f15bf";
+/// What the program belongs to. By which version of the toolchain it was proved, or whether it was, it cannot know.
+pub(crate) const VERSION: &str = "of Zulayefi";
 
 /// What the program is.
 pub(crate) const ABOUT: &str =

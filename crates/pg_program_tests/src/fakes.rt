@@ -1,7 +1,6 @@
 //! What a test gives the program in the place of an input, an output, files, threads and a clock.
 
-use pg_cluster::StartFault;
-use pg_node::Sink;
+use pg_cluster::{Sink, StartFault};
 use pg_program::System;
 use pg_talk::{Conversation, Outcome, Served, Service, ServiceFault, Verdict};
 use std::alloc::Global;

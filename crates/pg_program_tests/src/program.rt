@@ -2,12 +2,10 @@
 
 use crate::fakes::With::{self, *};
 use crate::fakes::{Desk, Input, Output, WELL};
-use pg_cluster::StartFault;
-use pg_node::{AnyReader, AnyWriter};
+use pg_cluster::{AnyReader, AnyWriter, StartFault, WorldFault};
 use pg_program::{MAX_SCRIPT_LEN, refuse_given, run_words};
 use pg_talk::ServiceFault::{self, WriteFault};
 use pg_talk::{Outcome, Served, Verdict};
-use pg_world::WorldFault;
 use std::alloc::{AllocError, Global};
 use std::io;
 use std::io::ErrorKind::{self, BrokenPipe, IsADirectory};

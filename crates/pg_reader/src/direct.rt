@@ -15,8 +15,7 @@ mod groups;
 
 use crate::direct::groups::groups_at;
 use crate::parts::atom;
-use pg_group::Update;
-use pg_message::{MAX_NAME_LEN, MAX_STAMP, Message, Packet, Request, Said, is_name};
+use pg_message::{MAX_NAME_LEN, MAX_STAMP, Message, Packet, Request, Said, Update, is_name};
 use pg_shape::{is_atom, may_be_groups};
 use pg_term::{Atom, Pid, Reference, Term, TermFault};
 use pg_term_io::{decode_item, decode_pid, decode_reference, skip_item};

@@ -4,49 +4,49 @@ use Rattle.std.proofs.Common.{nat_lt, arith}
 use Rattle.std.proofs.Common.{Option, Some, None, Ok, Err, refl, ap, sym, ◌∙◌, subst}
 use Rattle.pg_term.specs.RefParts.{ref_eq}
 use Rattle.pg_term.specs.Same.{same_atom}
-use Rattle.pg_group.specs.Functions.{upd}
-use Rattle.pg_group.specs.Value.{name_of}
-use Rattle.pg_group.specs.declared.update.Update.{Update}
-use Rattle.pg_group.specs.declared.update.Update.TheVariants as update
-use Rattle.pg_refs.specs.Numbered.{number_in}
-use Rattle.pg_lock.specs.Attempts.{after_round, does_wait}
-use Rattle.pg_message.specs.declared.message.Message.{Message}
-use Rattle.pg_message.specs.declared.message.Message.TheVariants.{Call, Reply, DelLock, Exchange, Down}
-use Rattle.pg_message.specs.declared.message.Request.TheVariants.{SetLock, Change}
-use Rattle.pg_message.specs.declared.message.Said.{Said}
-use Rattle.pg_machine.specs.Machine.{Input, Own, Taken, Turn}
-use Rattle.pg_step.specs.declared.answer.Reply.{Reply as Answer}
-use Rattle.pg_step.specs.declared.command.Command.{Command}
-use Rattle.pg_step.specs.declared.command.Command.TheVariants as command
-use Rattle.pg_step.specs.declared.command.OpId.{OpId}
-use Rattle.pg_step.specs.declared.command_fault.CommandFault.{CommandFault}
-use Rattle.pg_step.specs.declared.command_fault.CommandFault.TheVariants.{Busy}
-use Rattle.pg_step.specs.declared.refusal.Refusal.TheVariants.{NotAMessage, NoSuchPlace, NotWaiting}
-use Rattle.pg_step.specs.Attempts.{all_granted, ask, attempt, begin, count_answer, count_ok, counted, finish}
-use Rattle.pg_step.specs.Attempts.{give_up, go_on}
-use Rattle.pg_step.specs.Attempts.{is_complete, lock_status, locks_in, new_attempt, none_denied, none_missing}
-use Rattle.pg_step.specs.Attempts.{own_reference}
-use Rattle.pg_step.specs.Attempts.{replies_in, reply_under, round_of, same_op, tried_again, waits, with_asked}
-use Rattle.pg_step.specs.Commands.{OPEN_LIMIT, answer, carried_out, change, change_by, command as command_in}
-use Rattle.pg_step.specs.Commands.{command_by, count_command, fault_of, look, next_op, open_command, refused}
-use Rattle.pg_step.specs.Config.{Config, name_at, nodes_at, ports_at}
-use Rattle.pg_step.specs.FrameMachine.{node_step}
-use Rattle.pg_step.specs.Nodes.{Node, Nodes, every, greatest}
-use Rattle.pg_step.specs.Peers.{exchange, is_bad_exchange, would_grant}
-use Rattle.pg_step.specs.State.{Stage, State, Status, Use, live_nodes}
-use Rattle.pg_step.specs.State.Stage.{Asking, Changing, Closed, Waiting}
-use Rattle.pg_step.specs.State.Status.{Unasked}
-use Rattle.pg_step.specs.State.Use.{Fresh, Locking, Owning, Spent, Updating}
-use Rattle.pg_step.specs.Step.{Action, Issue, Retry, acted, taken}
-use Rattle.pg_step.specs.Turns.{NodeTurn, Report, and_then, becomes}
-use Rattle.pg_history.specs.ReferencesFit.{Fits}
-use Rattle.pg_history.proofs.locks.Stages.{commands}
-use Rattle.pg_history.proofs.quiet.Linked.{HasReference, IsLockingOf, IsUpdatingOf, Linked}
-use Rattle.pg_history.proofs.references.Keys.{cases, numbers, upd_other, upd_same}
-use Rattle.pg_history.proofs.steps.Lossless.{step_sees_none}
-use Rattle.pg_history.proofs.steps.Made.{did_so, took_so}
-use Rattle.pg_history.proofs.steps.Single.{Makes, judged, ok_is}
-use Rattle.pg_loss.proofs.Bridge.{live_same}
+use Rattle.pg_left.specs.PgGroup.Functions.{upd}
+use Rattle.pg_left.specs.PgGroup.Value.{name_of}
+use Rattle.pg_left.specs.PgGroup.declared.update.Update.{Update}
+use Rattle.pg_left.specs.PgGroup.declared.update.Update.TheVariants as update
+use Rattle.pg_left.specs.PgRefs.Numbered.{number_in}
+use Rattle.pg_left.specs.PgLock.Attempts.{after_round, does_wait}
+use Rattle.pg_left.specs.PgMessage.declared.message.Message.{Message}
+use Rattle.pg_left.specs.PgMessage.declared.message.Message.TheVariants.{Call, Reply, DelLock, Exchange, Down}
+use Rattle.pg_left.specs.PgMessage.declared.message.Request.TheVariants.{SetLock, Change}
+use Rattle.pg_left.specs.PgMessage.declared.message.Said.{Said}
+use Rattle.pg_left.specs.PgMachine.Machine.{Input, Own, Taken, Turn}
+use Rattle.pg_left.specs.PgStep.declared.answer.Reply.{Reply as Answer}
+use Rattle.pg_left.specs.PgStep.declared.command.Command.{Command}
+use Rattle.pg_left.specs.PgStep.declared.command.Command.TheVariants as command
+use Rattle.pg_left.specs.PgStep.declared.command.OpId.{OpId}
+use Rattle.pg_left.specs.PgStep.declared.command_fault.CommandFault.{CommandFault}
+use Rattle.pg_left.specs.PgStep.declared.command_fault.CommandFault.TheVariants.{Busy}
+use Rattle.pg_left.specs.PgStep.declared.refusal.Refusal.TheVariants.{NotAMessage, NoSuchPlace, NotWaiting}
+use Rattle.pg_left.specs.PgStep.Attempts.{all_granted, ask, attempt, begin, count_answer, count_ok, counted, finish}
+use Rattle.pg_left.specs.PgStep.Attempts.{give_up, go_on}
+use Rattle.pg_left.specs.PgStep.Attempts.{is_complete, lock_status, locks_in, new_attempt, none_denied, none_missing}
+use Rattle.pg_left.specs.PgStep.Attempts.{own_reference}
+use Rattle.pg_left.specs.PgStep.Attempts.{replies_in, reply_under, round_of, same_op, tried_again, waits, with_asked}
+use Rattle.pg_left.specs.PgStep.Commands.{OPEN_LIMIT, answer, carried_out, change, change_by, command as command_in}
+use Rattle.pg_left.specs.PgStep.Commands.{command_by, count_command, fault_of, look, next_op, open_command, refused}
+use Rattle.pg_left.specs.PgStep.Config.{Config, name_at, nodes_at, ports_at}
+use Rattle.pg_left.specs.PgStep.FrameMachine.{node_step}
+use Rattle.pg_left.specs.PgStep.Nodes.{Node, Nodes, every, greatest}
+use Rattle.pg_left.specs.PgStep.Peers.{exchange, is_bad_exchange, would_grant}
+use Rattle.pg_left.specs.PgStep.State.{Stage, State, Status, Use, live_nodes}
+use Rattle.pg_left.specs.PgStep.State.Stage.{Asking, Changing, Closed, Waiting}
+use Rattle.pg_left.specs.PgStep.State.Status.{Unasked}
+use Rattle.pg_left.specs.PgStep.State.Use.{Fresh, Locking, Owning, Spent, Updating}
+use Rattle.pg_left.specs.PgStep.Step.{Action, Issue, Retry, acted, taken}
+use Rattle.pg_left.specs.PgStep.Turns.{NodeTurn, Report, and_then, becomes}
+use Rattle.pg_left.specs.PgHistory.ReferencesFit.{Fits}
+use Rattle.pg_left.proofs.PgHistory.locks.Stages.{commands}
+use Rattle.pg_left.proofs.PgHistory.quiet.Linked.{HasReference, IsLockingOf, IsUpdatingOf, Linked}
+use Rattle.pg_left.proofs.PgHistory.references.Keys.{cases, numbers, upd_other, upd_same}
+use Rattle.pg_left.proofs.PgHistory.steps.Lossless.{step_sees_none}
+use Rattle.pg_left.proofs.PgHistory.steps.Made.{did_so, took_so}
+use Rattle.pg_left.proofs.PgHistory.steps.Single.{Makes, judged, ok_is}
+use Rattle.pg_left.proofs.PgLoss.Bridge.{live_same}
 use Rattle.pg_ready.specs.Ready.{is_ready}
 use Rattle.pg_ready.proofs.Going.{Answered, Asks, Began, Denied, WentOn, goes, replies_go}
 

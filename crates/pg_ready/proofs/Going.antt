@@ -5,49 +5,49 @@ use Rattle.std.specs.Prelude.{option_map}
 use Rattle.std.proofs.Common.{◌≤◌, None}
 use Rattle.std.proofs.lemmas.Bool.{eq-eqb, le-leb, lt-ltb}
 use Rattle.pg_term.specs.Same.{same_atom}
-use Rattle.pg_group.specs.Functions.{upd}
-use Rattle.pg_group.specs.Value.{name_of}
-use Rattle.pg_group.specs.declared.update.Update.{Update}
-use Rattle.pg_lock.specs.Attempts.{after_round, does_wait}
-use Rattle.pg_message.specs.declared.message.Message.{Message}
-use Rattle.pg_machine.specs.Happened.{Changes, Happened}
-use Rattle.pg_machine.specs.Losing.{Lose, LosingEvent, Noticed, Sent, Step, mapped_turn, losing_happens}
-use Rattle.pg_machine.specs.Machine.{Do, Event, Input, Own, Taken, Turn, happens, perform}
-use Rattle.pg_machine.specs.Clocked.{plain}
-use Rattle.pg_machine.proofs.Options.{some_is, map_is_some}
-use Rattle.pg_machine.proofs.Plain.{plain_happens}
-use Rattle.pg_machine.proofs.Steps.{changes, happens_so}
-use Rattle.pg_step.specs.declared.answer.Reply.TheVariants as reply
-use Rattle.pg_step.specs.declared.command.OpId.{OpId}
-use Rattle.pg_step.specs.declared.refusal.Refusal.TheVariants.{NoSuchPlace, NotWaiting}
-use Rattle.pg_step.specs.Attempts.{all_granted, ask, begin, finish, give_up, go_on, is_complete, locks_in, none_denied}
-use Rattle.pg_step.specs.Attempts.{none_missing, replies_in, round_of, same_op, tried_again, waits, with_asked}
-use Rattle.pg_step.specs.Config.{Config, nodes_at, ports_at}
-use Rattle.pg_step.specs.FrameMachine.{losing_machine_of, node_step, place_turn, losing_frame_machine, placed}
-use Rattle.pg_step.specs.LossLaws.{LosingFrameWorld}
-use Rattle.pg_step.specs.Nodes.{Node, Nodes, every}
-use Rattle.pg_step.specs.Peers.{would_grant}
-use Rattle.pg_step.specs.State.{Stage, State, Status, Use, live_nodes}
-use Rattle.pg_step.specs.State.Response.{Given}
-use Rattle.pg_step.specs.State.Stage.{Asking, Changing, Closed, Waiting}
-use Rattle.pg_step.specs.State.Use.{Fresh, Locking, Owning, Spent, Updating}
-use Rattle.pg_step.specs.Step.{Action, Retry, acted, CLOCK_LIMIT}
-use Rattle.pg_step.specs.Turns.{NodeTurn, Report, and_then, becomes}
-use Rattle.pg_history.specs.Counted.{is_open}
-use Rattle.pg_history.proofs.places.Shown.{IsHere}
-use Rattle.pg_loss.proofs.Counting.{all_count}
-use Rattle.pg_history.specs.History.{answer_at, answer_by, answers_by, entries, entry_of}
-use Rattle.pg_history.proofs.locks.Stages.{commands}
-use Rattle.pg_history.proofs.quiet.Linked.{HasReference, IsLockingOf, IsUpdatingOf, Linked}
-use Rattle.pg_history.proofs.references.Keys.{numbers, upd_same}
-use Rattle.pg_history.proofs.steps.Grows.{entries_append}
-use Rattle.pg_history.proofs.steps.Lossless.{step_sees_none}
-use Rattle.pg_history.proofs.steps.Made.{did_so}
-use Rattle.pg_history.proofs.steps.Single.{Makes, ok_is}
-use Rattle.pg_history.proofs.steps.Ways.{told_append}
-use Rattle.pg_loss.specs.Reached.{LosingReaches}
-use Rattle.pg_loss.proofs.Bridge.{live_same}
-use Rattle.pg_loss.proofs.Lossy.{Died, Makes as LossyMakes, Passed, Sees, Steps, Went, bare, makes, noted, passed}
+use Rattle.pg_left.specs.PgGroup.Functions.{upd}
+use Rattle.pg_left.specs.PgGroup.Value.{name_of}
+use Rattle.pg_left.specs.PgGroup.declared.update.Update.{Update}
+use Rattle.pg_left.specs.PgLock.Attempts.{after_round, does_wait}
+use Rattle.pg_left.specs.PgMessage.declared.message.Message.{Message}
+use Rattle.pg_left.specs.PgMachine.Happened.{Changes, Happened}
+use Rattle.pg_left.specs.PgMachine.Losing.{Lose, LosingEvent, Noticed, Sent, Step, mapped_turn, losing_happens}
+use Rattle.pg_left.specs.PgMachine.Machine.{Do, Event, Input, Own, Taken, Turn, happens, perform}
+use Rattle.pg_left.specs.PgMachine.Clocked.{plain}
+use Rattle.pg_left.proofs.PgMachine.Options.{some_is, map_is_some}
+use Rattle.pg_left.proofs.PgMachine.Plain.{plain_happens}
+use Rattle.pg_left.proofs.PgMachine.Steps.{changes, happens_so}
+use Rattle.pg_left.specs.PgStep.declared.answer.Reply.TheVariants as reply
+use Rattle.pg_left.specs.PgStep.declared.command.OpId.{OpId}
+use Rattle.pg_left.specs.PgStep.declared.refusal.Refusal.TheVariants.{NoSuchPlace, NotWaiting}
+use Rattle.pg_left.specs.PgStep.Attempts.{all_granted, ask, begin, finish, give_up, go_on, is_complete, locks_in, none_denied}
+use Rattle.pg_left.specs.PgStep.Attempts.{none_missing, replies_in, round_of, same_op, tried_again, waits, with_asked}
+use Rattle.pg_left.specs.PgStep.Config.{Config, nodes_at, ports_at}
+use Rattle.pg_left.specs.PgStep.FrameMachine.{losing_machine_of, node_step, place_turn, losing_frame_machine, placed}
+use Rattle.pg_left.specs.PgStep.LossLaws.{LosingFrameWorld}
+use Rattle.pg_left.specs.PgStep.Nodes.{Node, Nodes, every}
+use Rattle.pg_left.specs.PgStep.Peers.{would_grant}
+use Rattle.pg_left.specs.PgStep.State.{Stage, State, Status, Use, live_nodes}
+use Rattle.pg_left.specs.PgStep.State.Response.{Given}
+use Rattle.pg_left.specs.PgStep.State.Stage.{Asking, Changing, Closed, Waiting}
+use Rattle.pg_left.specs.PgStep.State.Use.{Fresh, Locking, Owning, Spent, Updating}
+use Rattle.pg_left.specs.PgStep.Step.{Action, Retry, acted, CLOCK_LIMIT}
+use Rattle.pg_left.specs.PgStep.Turns.{NodeTurn, Report, and_then, becomes}
+use Rattle.pg_left.specs.PgHistory.Counted.{is_open}
+use Rattle.pg_left.proofs.PgHistory.places.Shown.{IsHere}
+use Rattle.pg_left.proofs.PgLoss.Counting.{all_count}
+use Rattle.pg_left.specs.PgHistory.History.{answer_at, answer_by, answers_by, entries, entry_of}
+use Rattle.pg_left.proofs.PgHistory.locks.Stages.{commands}
+use Rattle.pg_left.proofs.PgHistory.quiet.Linked.{HasReference, IsLockingOf, IsUpdatingOf, Linked}
+use Rattle.pg_left.proofs.PgHistory.references.Keys.{numbers, upd_same}
+use Rattle.pg_left.proofs.PgHistory.steps.Grows.{entries_append}
+use Rattle.pg_left.proofs.PgHistory.steps.Lossless.{step_sees_none}
+use Rattle.pg_left.proofs.PgHistory.steps.Made.{did_so}
+use Rattle.pg_left.proofs.PgHistory.steps.Single.{Makes, ok_is}
+use Rattle.pg_left.proofs.PgHistory.steps.Ways.{told_append}
+use Rattle.pg_left.specs.PgLoss.Reached.{LosingReaches}
+use Rattle.pg_left.proofs.PgLoss.Bridge.{live_same}
+use Rattle.pg_left.proofs.PgLoss.Lossy.{Died, Makes as LossyMakes, Passed, Sees, Steps, Went, bare, makes, noted, passed}
 use Rattle.pg_ready.specs.Ready.{AsksOn, GaveUp, RetryGoesOn, HasBegun, IsAnswered, is_ready, is_ready_at}
 use Rattle.pg_ready.proofs.Holders.{all_linked}
 use Rattle.pg_left.proofs.Passing.{Leaves}

@@ -5,65 +5,65 @@ use Rattle.std.specs.List.{AllByRecursion, IsDistinct}
 use Rattle.pg_term.specs.declared.term.Term.{Term}
 use Rattle.pg_term.specs.RefParts.{RefParts}
 use Rattle.pg_term.specs.Same.{same_atom, same_term}
-use Rattle.pg_group.specs.declared.update.Update.{Update}
-use Rattle.pg_group.specs.declared.update.Update.TheVariants as update
-use Rattle.pg_group.specs.Value.{name_of}
-use Rattle.pg_refs.specs.Numbered.{number_in}
-use Rattle.pg_lock.specs.Attempts.{after_round, does_wait}
-use Rattle.pg_lock.specs.Locks.{Locks, after_ask, given_up, held, is_holder}
-use Rattle.pg_message.specs.declared.message.Message.{Message}
-use Rattle.pg_message.specs.declared.message.Message.TheVariants.{Call, Reply, DelLock, Exchange, Down}
-use Rattle.pg_message.specs.declared.message.Request.TheVariants.{SetLock, Change}
-use Rattle.pg_message.specs.declared.message.Said.{Said}
-use Rattle.pg_machine.specs.Happened.{Happened}
-use Rattle.pg_machine.specs.Losing.{Noticed, Sent, LosingEvent}
-use Rattle.pg_machine.specs.Machine.{Event, Input, Own, Taken, Turn, World, node_of}
-use Rattle.pg_machine.proofs.Places.{by_place}
-use Rattle.pg_machine.proofs.Steps.{pair_apart}
-use Rattle.pg_step.specs.declared.answer.Reply.{Reply as Answer}
-use Rattle.pg_step.specs.declared.command.Command.{Command}
-use Rattle.pg_step.specs.declared.command.Command.TheVariants as command
-use Rattle.pg_step.specs.declared.command_fault.CommandFault.{CommandFault}
-use Rattle.pg_step.specs.declared.command_fault.CommandFault.TheVariants.{Busy}
-use Rattle.pg_step.specs.declared.command.OpId.{OpId}
-use Rattle.pg_step.specs.declared.refusal.Refusal.TheVariants.{NotAMessage, NoSuchPlace, NotWaiting}
-use Rattle.pg_step.specs.Attempts.{all_granted, ask, asks, attempt, begin}
-use Rattle.pg_step.specs.Attempts.{count_answer, count_ok, counted, finish, give_up}
-use Rattle.pg_step.specs.Attempts.{go_on, is_yes, lock_status, locks_in, new_attempt, none_denied, none_missing}
-use Rattle.pg_step.specs.Attempts.{own_reference, replies_in, reply_under, round_of, tried_again, use_of, waits}
-use Rattle.pg_step.specs.Commands.{OPEN_LIMIT, answer, carried_out, change, change_by, command as command_in}
-use Rattle.pg_step.specs.Commands.{command_by, count_command, fault_of, look, next_op, open_command, refused}
-use Rattle.pg_step.specs.Config.{Config, name_at, names_of, nodes_at, ports_at}
-use Rattle.pg_step.specs.FrameMachine.{FrameWorld, losing_machine_of, machine_of, node_step}
-use Rattle.pg_step.specs.Losses.{forgets, see_loss}
-use Rattle.pg_step.specs.LossLaws.{LosingFrameWorld}
-use Rattle.pg_step.specs.Nodes.{Node, Nodes, every, greatest}
-use Rattle.pg_step.specs.Peers.{exchange, is_bad_exchange, would_grant}
-use Rattle.pg_step.specs.State.{Stage, State, Status, Use, live_nodes}
-use Rattle.pg_step.specs.State.Stage.{Asking, Changing, Closed, Waiting}
-use Rattle.pg_step.specs.State.Status.{Unasked}
-use Rattle.pg_step.specs.State.Use.{Fresh, Locking, Owning, Spent, Updating}
-use Rattle.pg_step.specs.Step.{Action, Issue, Retry, acted, taken}
-use Rattle.pg_step.specs.Turns.{NodeTurn, Report, and_then, becomes}
-use Rattle.pg_history.proofs.ends.Apart.{pair_second}
-use Rattle.pg_history.proofs.locks.Kept.{IsOurs}
-use Rattle.pg_history.proofs.places.Shown.{IsHere}
-use Rattle.pg_history.proofs.quiet.Gathering.{AsksWell, Held}
-use Rattle.pg_history.proofs.quiet.Linked.{HasReference, HasUpdate, IsLockingOf, IsUnder, IsUpdatingOf, Linked}
-use Rattle.pg_history.proofs.quiet.Linked.{first_linked, step_linked}
-use Rattle.pg_history.proofs.quiet.Runs.{IsOfNode}
-use Rattle.pg_history.proofs.steps.Made.{did_so, took_so}
-use Rattle.pg_history.proofs.steps.Single.{Makes, judged, ok_is}
-use Rattle.pg_history.proofs.steps.Ways.{own_place, packet_there, pair_there, state_after}
-use Rattle.pg_loss.specs.Reached.{LosingReaches}
-use Rattle.pg_loss.proofs.Bridge.{Left, next_left, not_true}
-use Rattle.pg_loss.proofs.Bridges.{Bridged, bridged}
-use Rattle.pg_loss.proofs.Carried.{IsKept, carried_past}
-use Rattle.pg_loss.proofs.Lasts.{unheard_input}
-use Rattle.pg_loss.proofs.Lossy.{Died, Lossy, Makes as LossyMakes, Passed, Sees}
-use Rattle.pg_loss.proofs.Lossy.{Steps, Went, bare, makes, noted, passed}
-use Rattle.pg_loss.proofs.Standing.{loss_fits}
-use Rattle.pg_loss.proofs.Unheld.{freed_is}
+use Rattle.pg_left.specs.PgGroup.declared.update.Update.{Update}
+use Rattle.pg_left.specs.PgGroup.declared.update.Update.TheVariants as update
+use Rattle.pg_left.specs.PgGroup.Value.{name_of}
+use Rattle.pg_left.specs.PgRefs.Numbered.{number_in}
+use Rattle.pg_left.specs.PgLock.Attempts.{after_round, does_wait}
+use Rattle.pg_left.specs.PgLock.Locks.{Locks, after_ask, given_up, held, is_holder}
+use Rattle.pg_left.specs.PgMessage.declared.message.Message.{Message}
+use Rattle.pg_left.specs.PgMessage.declared.message.Message.TheVariants.{Call, Reply, DelLock, Exchange, Down}
+use Rattle.pg_left.specs.PgMessage.declared.message.Request.TheVariants.{SetLock, Change}
+use Rattle.pg_left.specs.PgMessage.declared.message.Said.{Said}
+use Rattle.pg_left.specs.PgMachine.Happened.{Happened}
+use Rattle.pg_left.specs.PgMachine.Losing.{Noticed, Sent, LosingEvent}
+use Rattle.pg_left.specs.PgMachine.Machine.{Event, Input, Own, Taken, Turn, World, node_of}
+use Rattle.pg_left.proofs.PgMachine.Places.{by_place}
+use Rattle.pg_left.proofs.PgMachine.Steps.{pair_apart}
+use Rattle.pg_left.specs.PgStep.declared.answer.Reply.{Reply as Answer}
+use Rattle.pg_left.specs.PgStep.declared.command.Command.{Command}
+use Rattle.pg_left.specs.PgStep.declared.command.Command.TheVariants as command
+use Rattle.pg_left.specs.PgStep.declared.command_fault.CommandFault.{CommandFault}
+use Rattle.pg_left.specs.PgStep.declared.command_fault.CommandFault.TheVariants.{Busy}
+use Rattle.pg_left.specs.PgStep.declared.command.OpId.{OpId}
+use Rattle.pg_left.specs.PgStep.declared.refusal.Refusal.TheVariants.{NotAMessage, NoSuchPlace, NotWaiting}
+use Rattle.pg_left.specs.PgStep.Attempts.{all_granted, ask, asks, attempt, begin}
+use Rattle.pg_left.specs.PgStep.Attempts.{count_answer, count_ok, counted, finish, give_up}
+use Rattle.pg_left.specs.PgStep.Attempts.{go_on, is_yes, lock_status, locks_in, new_attempt, none_denied, none_missing}
+use Rattle.pg_left.specs.PgStep.Attempts.{own_reference, replies_in, reply_under, round_of, tried_again, use_of, waits}
+use Rattle.pg_left.specs.PgStep.Commands.{OPEN_LIMIT, answer, carried_out, change, change_by, command as command_in}
+use Rattle.pg_left.specs.PgStep.Commands.{command_by, count_command, fault_of, look, next_op, open_command, refused}
+use Rattle.pg_left.specs.PgStep.Config.{Config, name_at, names_of, nodes_at, ports_at}
+use Rattle.pg_left.specs.PgStep.FrameMachine.{FrameWorld, losing_machine_of, machine_of, node_step}
+use Rattle.pg_left.specs.PgStep.Losses.{forgets, see_loss}
+use Rattle.pg_left.specs.PgStep.LossLaws.{LosingFrameWorld}
+use Rattle.pg_left.specs.PgStep.Nodes.{Node, Nodes, every, greatest}
+use Rattle.pg_left.specs.PgStep.Peers.{exchange, is_bad_exchange, would_grant}
+use Rattle.pg_left.specs.PgStep.State.{Stage, State, Status, Use, live_nodes}
+use Rattle.pg_left.specs.PgStep.State.Stage.{Asking, Changing, Closed, Waiting}
+use Rattle.pg_left.specs.PgStep.State.Status.{Unasked}
+use Rattle.pg_left.specs.PgStep.State.Use.{Fresh, Locking, Owning, Spent, Updating}
+use Rattle.pg_left.specs.PgStep.Step.{Action, Issue, Retry, acted, taken}
+use Rattle.pg_left.specs.PgStep.Turns.{NodeTurn, Report, and_then, becomes}
+use Rattle.pg_left.proofs.PgHistory.ends.Apart.{pair_second}
+use Rattle.pg_left.proofs.PgHistory.locks.Kept.{IsOurs}
+use Rattle.pg_left.proofs.PgHistory.places.Shown.{IsHere}
+use Rattle.pg_left.proofs.PgHistory.quiet.Gathering.{AsksWell, Held}
+use Rattle.pg_left.proofs.PgHistory.quiet.Linked.{HasReference, HasUpdate, IsLockingOf, IsUnder, IsUpdatingOf, Linked}
+use Rattle.pg_left.proofs.PgHistory.quiet.Linked.{first_linked, step_linked}
+use Rattle.pg_left.proofs.PgHistory.quiet.Runs.{IsOfNode}
+use Rattle.pg_left.proofs.PgHistory.steps.Made.{did_so, took_so}
+use Rattle.pg_left.proofs.PgHistory.steps.Single.{Makes, judged, ok_is}
+use Rattle.pg_left.proofs.PgHistory.steps.Ways.{own_place, packet_there, pair_there, state_after}
+use Rattle.pg_left.specs.PgLoss.Reached.{LosingReaches}
+use Rattle.pg_left.proofs.PgLoss.Bridge.{Left, next_left, not_true}
+use Rattle.pg_left.proofs.PgLoss.Bridges.{Bridged, bridged}
+use Rattle.pg_left.proofs.PgLoss.Carried.{IsKept, carried_past}
+use Rattle.pg_left.proofs.PgLoss.Lasts.{unheard_input}
+use Rattle.pg_left.proofs.PgLoss.Lossy.{Died, Lossy, Makes as LossyMakes, Passed, Sees}
+use Rattle.pg_left.proofs.PgLoss.Lossy.{Steps, Went, bare, makes, noted, passed}
+use Rattle.pg_left.proofs.PgLoss.Standing.{loss_fits}
+use Rattle.pg_left.proofs.PgLoss.Unheld.{freed_is}
 use Rattle.pg_left.proofs.Passing.{kept_all}
 
 -- ---- locks

@@ -6,41 +6,41 @@ use Rattle.std.proofs.lemmas.Bool.{cases_eq}
 use Rattle.pg_term.specs.declared.term.Term.{Term}
 use Rattle.pg_term.specs.RefParts.{RefParts}
 use Rattle.pg_term.specs.Same.{same_atom}
-use Rattle.pg_refs.specs.Numbered.{numbered}
-use Rattle.pg_group.specs.declared.update.Update.{Update}
-use Rattle.pg_group.specs.Value.{name_of}
-use Rattle.pg_lock.specs.Locks.{is_holder}
-use Rattle.pg_message.specs.declared.message.Message.{Message}
-use Rattle.pg_machine.specs.Clocked.{packets_of}
-use Rattle.pg_machine.specs.Losing.{LosingEvent, Sent}
-use Rattle.pg_step.specs.declared.command.OpId.{OpId}
-use Rattle.pg_step.specs.Attempts.{waits}
-use Rattle.pg_step.specs.Config.{Config, name_at, names_of, nodes_at}
-use Rattle.pg_step.specs.LossLaws.{LosingFrameWorld}
-use Rattle.pg_step.specs.Nodes.{Node, Nodes}
-use Rattle.pg_step.specs.State.{State, Status, Use, live_nodes}
-use Rattle.pg_step.specs.State.Stage.{Asking, Changing}
-use Rattle.pg_step.specs.State.Status.{Asked, No, Unasked, Yes}
-use Rattle.pg_step.specs.State.Use.{Fresh, Locking, Owning, Spent, Updating}
-use Rattle.pg_step.specs.Step.{Action}
-use Rattle.pg_history.specs.Counted.{is_open}
-use Rattle.pg_history.specs.ReferencesFit.{Fits as FitsUse}
-use Rattle.pg_history.proofs.locks.Kept.{near, talk}
-use Rattle.pg_history.proofs.locks.Lines.{Fits, FitsReply, FitsStatus, Line, backs, holds, outs}
-use Rattle.pg_history.proofs.locks.Lines.Line.{Closing, Confirming, Giving, Having, Quiet, Refusing, Telling, Wanting}
-use Rattle.pg_history.proofs.places.Shown.{IsHere}
-use Rattle.pg_history.proofs.quiet.Linked.{HasUpdate, IsUnder, Linked}
-use Rattle.pg_history.proofs.quiet.Rest.{pair_of}
-use Rattle.pg_history.proofs.quiet.Runs.{IsOfNode}
-use Rattle.pg_history.proofs.references.Keys.{terms}
-use Rattle.pg_history.proofs.references.References.{about, numbered_same}
-use Rattle.pg_loss.specs.Quiet.{IsQuietLive}
-use Rattle.pg_loss.specs.Reached.{LosingReaches}
-use Rattle.pg_loss.proofs.Bridge.{Left, live_at, near_at}
-use Rattle.pg_loss.proofs.Bridges.{Bridged, bridged}
-use Rattle.pg_loss.proofs.Lossy.{bare}
-use Rattle.pg_loss.proofs.Retries.{lost_waits, waits_for_retries}
-use Rattle.pg_loss.proofs.Unheld.{no_lock_of_lost}
+use Rattle.pg_left.specs.PgRefs.Numbered.{numbered}
+use Rattle.pg_left.specs.PgGroup.declared.update.Update.{Update}
+use Rattle.pg_left.specs.PgGroup.Value.{name_of}
+use Rattle.pg_left.specs.PgLock.Locks.{is_holder}
+use Rattle.pg_left.specs.PgMessage.declared.message.Message.{Message}
+use Rattle.pg_left.specs.PgMachine.Clocked.{packets_of}
+use Rattle.pg_left.specs.PgMachine.Losing.{LosingEvent, Sent}
+use Rattle.pg_left.specs.PgStep.declared.command.OpId.{OpId}
+use Rattle.pg_left.specs.PgStep.Attempts.{waits}
+use Rattle.pg_left.specs.PgStep.Config.{Config, name_at, names_of, nodes_at}
+use Rattle.pg_left.specs.PgStep.LossLaws.{LosingFrameWorld}
+use Rattle.pg_left.specs.PgStep.Nodes.{Node, Nodes}
+use Rattle.pg_left.specs.PgStep.State.{State, Status, Use, live_nodes}
+use Rattle.pg_left.specs.PgStep.State.Stage.{Asking, Changing}
+use Rattle.pg_left.specs.PgStep.State.Status.{Asked, No, Unasked, Yes}
+use Rattle.pg_left.specs.PgStep.State.Use.{Fresh, Locking, Owning, Spent, Updating}
+use Rattle.pg_left.specs.PgStep.Step.{Action}
+use Rattle.pg_left.specs.PgHistory.Counted.{is_open}
+use Rattle.pg_left.specs.PgHistory.ReferencesFit.{Fits as FitsUse}
+use Rattle.pg_left.proofs.PgHistory.locks.Kept.{near, talk}
+use Rattle.pg_left.proofs.PgHistory.locks.Lines.{Fits, FitsReply, FitsStatus, Line, backs, holds, outs}
+use Rattle.pg_left.proofs.PgHistory.locks.Lines.Line.{Closing, Confirming, Giving, Having, Quiet, Refusing, Telling, Wanting}
+use Rattle.pg_left.proofs.PgHistory.places.Shown.{IsHere}
+use Rattle.pg_left.proofs.PgHistory.quiet.Linked.{HasUpdate, IsUnder, Linked}
+use Rattle.pg_left.proofs.PgHistory.quiet.Rest.{pair_of}
+use Rattle.pg_left.proofs.PgHistory.quiet.Runs.{IsOfNode}
+use Rattle.pg_left.proofs.PgHistory.references.Keys.{terms}
+use Rattle.pg_left.proofs.PgHistory.references.References.{about, numbered_same}
+use Rattle.pg_left.specs.PgLoss.Quiet.{IsQuietLive}
+use Rattle.pg_left.specs.PgLoss.Reached.{LosingReaches}
+use Rattle.pg_left.proofs.PgLoss.Bridge.{Left, live_at, near_at}
+use Rattle.pg_left.proofs.PgLoss.Bridges.{Bridged, bridged}
+use Rattle.pg_left.proofs.PgLoss.Lossy.{bare}
+use Rattle.pg_left.proofs.PgLoss.Retries.{lost_waits, waits_for_retries}
+use Rattle.pg_left.proofs.PgLoss.Unheld.{no_lock_of_lost}
 use Rattle.pg_ready.specs.Ready.{OfReady, is_ready}
 use Rattle.pg_ready.proofs.Holders.{all_linked, holders}
 

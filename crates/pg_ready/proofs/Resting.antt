@@ -9,35 +9,35 @@ use Rattle.std.proofs.lemmas.Bool.{cases_eq, le-leb}
 use Rattle.std.proofs.lemmas.Bool.Decides.{Decides-ltb}
 use Rattle.std.proofs.lemmas.List.{length-append}
 use Rattle.pg_term.specs.Same.{same_atom}
-use Rattle.pg_message.specs.declared.message.Message.{Message}
-use Rattle.pg_machine.specs.Clocked.{Stamped, TimedWorld, clock_allows, next_clock, packets_of, plain}
-use Rattle.pg_machine.specs.Happened.{Happened}
-use Rattle.pg_machine.specs.Losing.{LosingEvent, Lose, Noticed, Step, all_steps, can_keep, losing_happens}
-use Rattle.pg_machine.specs.Losing.{nobody_gone, stopped}
-use Rattle.pg_machine.specs.Machine.{Do, Event, Input, Own, Take, Taken, Turn, first_from, happens, node_of}
-use Rattle.pg_machine.specs.Machine.{perform, start_of, without_input}
-use Rattle.pg_machine.specs.Places.{is_pair, is_place, set_at}
-use Rattle.pg_machine.specs.Timely.{IsTimely}
-use Rattle.pg_machine.proofs.Options.{cond_is_some, map_is_some, some_is}
-use Rattle.pg_machine.proofs.Places.{by_place}
-use Rattle.pg_machine.proofs.Plain.{plain_happens}
-use Rattle.pg_machine.proofs.Steps.{happened, happens_so, pair_apart}
-use Rattle.pg_machine.proofs.Timing.{ticks, timely, timely_start}
-use Rattle.pg_step.specs.Config.{Config, name_at, names_of}
-use Rattle.pg_step.specs.FrameMachine.{last_notice, losing_frame_machine, losing_machine_of}
-use Rattle.pg_step.specs.LossLaws.{LosingFrameWorld}
-use Rattle.pg_step.specs.State.{State}
-use Rattle.pg_step.specs.Step.{Action, CLOCK_LIMIT}
-use Rattle.pg_step.specs.Turns.{Report}
-use Rattle.pg_history.specs.Quiet.{OnlyTakes}
-use Rattle.pg_history.proofs.ends.Apart.{pair_first, pair_second, pair_swapped}
-use Rattle.pg_history.proofs.places.Shown.{IsHere}
-use Rattle.pg_history.proofs.quiet.Sums.{find_place}
-use Rattle.pg_history.proofs.steps.Ways.{packet_there, pair_there}
-use Rattle.pg_loss.specs.Quiet.{IsQuietLive, most_takes_live}
-use Rattle.pg_loss.specs.Reached.{LosingReaches}
-use Rattle.pg_loss.proofs.Survives.{packets_heard}
-use Rattle.pg_loss.proofs.Takes.{takes_end}
+use Rattle.pg_left.specs.PgMessage.declared.message.Message.{Message}
+use Rattle.pg_left.specs.PgMachine.Clocked.{Stamped, TimedWorld, clock_allows, next_clock, packets_of, plain}
+use Rattle.pg_left.specs.PgMachine.Happened.{Happened}
+use Rattle.pg_left.specs.PgMachine.Losing.{LosingEvent, Lose, Noticed, Step, all_steps, can_keep, losing_happens}
+use Rattle.pg_left.specs.PgMachine.Losing.{nobody_gone, stopped}
+use Rattle.pg_left.specs.PgMachine.Machine.{Do, Event, Input, Own, Take, Taken, Turn, first_from, happens, node_of}
+use Rattle.pg_left.specs.PgMachine.Machine.{perform, start_of, without_input}
+use Rattle.pg_left.specs.PgMachine.Places.{is_pair, is_place, set_at}
+use Rattle.pg_left.specs.PgMachine.Timely.{IsTimely}
+use Rattle.pg_left.proofs.PgMachine.Options.{cond_is_some, map_is_some, some_is}
+use Rattle.pg_left.proofs.PgMachine.Places.{by_place}
+use Rattle.pg_left.proofs.PgMachine.Plain.{plain_happens}
+use Rattle.pg_left.proofs.PgMachine.Steps.{happened, happens_so, pair_apart}
+use Rattle.pg_left.proofs.PgMachine.Timing.{ticks, timely, timely_start}
+use Rattle.pg_left.specs.PgStep.Config.{Config, name_at, names_of}
+use Rattle.pg_left.specs.PgStep.FrameMachine.{last_notice, losing_frame_machine, losing_machine_of}
+use Rattle.pg_left.specs.PgStep.LossLaws.{LosingFrameWorld}
+use Rattle.pg_left.specs.PgStep.State.{State}
+use Rattle.pg_left.specs.PgStep.Step.{Action, CLOCK_LIMIT}
+use Rattle.pg_left.specs.PgStep.Turns.{Report}
+use Rattle.pg_left.specs.PgHistory.Quiet.{OnlyTakes}
+use Rattle.pg_left.proofs.PgHistory.ends.Apart.{pair_first, pair_second, pair_swapped}
+use Rattle.pg_left.proofs.PgHistory.places.Shown.{IsHere}
+use Rattle.pg_left.proofs.PgHistory.quiet.Sums.{find_place}
+use Rattle.pg_left.proofs.PgHistory.steps.Ways.{packet_there, pair_there}
+use Rattle.pg_left.specs.PgLoss.Quiet.{IsQuietLive, most_takes_live}
+use Rattle.pg_left.specs.PgLoss.Reached.{LosingReaches}
+use Rattle.pg_left.proofs.PgLoss.Survives.{packets_heard}
+use Rattle.pg_left.proofs.PgLoss.Takes.{takes_end}
 use Rattle.pg_left.proofs.Passing.{Leads, Leaves, leads_more}
 use Rattle.pg_ready.specs.Ready.{HasRoomLive}
 use Rattle.pg_ready.proofs.Silence.{all_silent}

@@ -5,32 +5,32 @@ use Rattle.std.specs.Cmp.{first_so, second_so}
 use Rattle.std.specs.List.{IsDistinct}
 use Rattle.pg_term.specs.RefParts.{RefParts}
 use Rattle.pg_term.specs.Same.{same_atom}
-use Rattle.pg_message.specs.declared.message.Message.{Message}
-use Rattle.pg_machine.specs.Happened.{Happened}
-use Rattle.pg_machine.specs.Losing.{Last, LosingEvent, Noticed, Step, all_steps, nobody_gone}
-use Rattle.pg_machine.specs.Machine.{Do, Event, Input, Own, Take, Turn, World, node_of, start_of}
-use Rattle.pg_machine.proofs.Options.{some_is}
-use Rattle.pg_machine.proofs.Steps.{pair_apart}
-use Rattle.pg_step.specs.Attempts.{same_op}
-use Rattle.pg_step.specs.Config.{Config, name_at, names_of, nodes_at}
-use Rattle.pg_step.specs.FrameMachine.{losing_frame_machine, losing_machine_of, node_step}
-use Rattle.pg_step.specs.LossLaws.{LosingFrameWorld}
-use Rattle.pg_step.specs.Nodes.{Node}
-use Rattle.pg_step.specs.State.{State, live_nodes}
-use Rattle.pg_step.specs.Step.{Action, Issue, Retry}
-use Rattle.pg_step.specs.Turns.{Report}
-use Rattle.pg_step.specs.declared.command.OpId.{OpId}
-use Rattle.pg_history.proofs.ends.Apart.{pair_second}
-use Rattle.pg_history.proofs.locks.Stages.{commands}
-use Rattle.pg_history.proofs.places.Shown.{IsHere}
-use Rattle.pg_history.proofs.references.Keys.{atoms, numbers, upd_same}
-use Rattle.pg_history.proofs.steps.Lossless.{step_sees_none}
-use Rattle.pg_history.proofs.steps.Ways.{own_place, packet_there, pair_there, state_after}
-use Rattle.pg_loss.specs.Quiet.{IsQuietLive}
-use Rattle.pg_loss.specs.Reached.{LosingReaches}
-use Rattle.pg_loss.proofs.Bridge.{Left, not_true}
-use Rattle.pg_loss.proofs.Bridges.{Bridged, bridged}
-use Rattle.pg_loss.proofs.Lossy.{Died, Makes, Passed, Sees, Steps, Went, bare, makes, passed}
+use Rattle.pg_left.specs.PgMessage.declared.message.Message.{Message}
+use Rattle.pg_left.specs.PgMachine.Happened.{Happened}
+use Rattle.pg_left.specs.PgMachine.Losing.{Last, LosingEvent, Noticed, Step, all_steps, nobody_gone}
+use Rattle.pg_left.specs.PgMachine.Machine.{Do, Event, Input, Own, Take, Turn, World, node_of, start_of}
+use Rattle.pg_left.proofs.PgMachine.Options.{some_is}
+use Rattle.pg_left.proofs.PgMachine.Steps.{pair_apart}
+use Rattle.pg_left.specs.PgStep.Attempts.{same_op}
+use Rattle.pg_left.specs.PgStep.Config.{Config, name_at, names_of, nodes_at}
+use Rattle.pg_left.specs.PgStep.FrameMachine.{losing_frame_machine, losing_machine_of, node_step}
+use Rattle.pg_left.specs.PgStep.LossLaws.{LosingFrameWorld}
+use Rattle.pg_left.specs.PgStep.Nodes.{Node}
+use Rattle.pg_left.specs.PgStep.State.{State, live_nodes}
+use Rattle.pg_left.specs.PgStep.Step.{Action, Issue, Retry}
+use Rattle.pg_left.specs.PgStep.Turns.{Report}
+use Rattle.pg_left.specs.PgStep.declared.command.OpId.{OpId}
+use Rattle.pg_left.proofs.PgHistory.ends.Apart.{pair_second}
+use Rattle.pg_left.proofs.PgHistory.locks.Stages.{commands}
+use Rattle.pg_left.proofs.PgHistory.places.Shown.{IsHere}
+use Rattle.pg_left.proofs.PgHistory.references.Keys.{atoms, numbers, upd_same}
+use Rattle.pg_left.proofs.PgHistory.steps.Lossless.{step_sees_none}
+use Rattle.pg_left.proofs.PgHistory.steps.Ways.{own_place, packet_there, pair_there, state_after}
+use Rattle.pg_left.specs.PgLoss.Quiet.{IsQuietLive}
+use Rattle.pg_left.specs.PgLoss.Reached.{LosingReaches}
+use Rattle.pg_left.proofs.PgLoss.Bridge.{Left, not_true}
+use Rattle.pg_left.proofs.PgLoss.Bridges.{Bridged, bridged}
+use Rattle.pg_left.proofs.PgLoss.Lossy.{Died, Makes, Passed, Sees, Steps, Went, bare, makes, passed}
 use Rattle.pg_left.proofs.Passing.{Leads, Leaves, leads_more}
 use Rattle.pg_ready.specs.Ready.{EachIsRetried, LossesSeen, NoLockLive, NoneReadyLive, OfReady, is_ready}
 use Rattle.pg_ready.specs.Ready.{is_ready_at, is_retried}

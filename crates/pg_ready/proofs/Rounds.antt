@@ -6,26 +6,26 @@ use Rattle.std.specs.Cmp.{first_so, second_so}
 use Rattle.std.proofs.lemmas.Bool.{and_from, cases_lt}
 use Rattle.std.proofs.lemmas.Bool.Decides.{Decides-ltb}
 use Rattle.pg_term.specs.Same.{same_atom}
-use Rattle.pg_machine.specs.Losing.{LosingEvent, Step, all_steps, nobody_gone}
-use Rattle.pg_machine.specs.Machine.{Do, Event, Take, start_of}
-use Rattle.pg_machine.specs.Places.{is_place}
-use Rattle.pg_machine.proofs.Steps.{happened}
-use Rattle.pg_step.specs.Attempts.{same_op}
-use Rattle.pg_step.specs.Config.{Config, names_of, nodes_at, ports_at}
-use Rattle.pg_step.specs.FrameMachine.{losing_frame_machine}
-use Rattle.pg_step.specs.LossLaws.{LosingFrameWorld}
-use Rattle.pg_step.specs.State.{State, live_nodes}
-use Rattle.pg_step.specs.Step.{Action, CLOCK_LIMIT, Issue, Retry}
-use Rattle.pg_step.specs.declared.command.OpId.{OpId}
-use Rattle.pg_history.specs.Counted.{how_many, is_open, open_at, open_in, open_number}
-use Rattle.pg_history.proofs.locks.Stages.{commands}
-use Rattle.pg_history.proofs.places.Shown.{IsHere}
-use Rattle.pg_history.proofs.quiet.Sums.{find_place, total, total_le, total_lower, total_term}
-use Rattle.pg_history.proofs.references.Keys.{numbers}
-use Rattle.pg_loss.specs.Quiet.{live_open}
-use Rattle.pg_loss.specs.Reached.{LosingReaches}
-use Rattle.pg_loss.proofs.Bridge.{not_true}
-use Rattle.pg_loss.proofs.Counting.{all_count}
+use Rattle.pg_left.specs.PgMachine.Losing.{LosingEvent, Step, all_steps, nobody_gone}
+use Rattle.pg_left.specs.PgMachine.Machine.{Do, Event, Take, start_of}
+use Rattle.pg_left.specs.PgMachine.Places.{is_place}
+use Rattle.pg_left.proofs.PgMachine.Steps.{happened}
+use Rattle.pg_left.specs.PgStep.Attempts.{same_op}
+use Rattle.pg_left.specs.PgStep.Config.{Config, names_of, nodes_at, ports_at}
+use Rattle.pg_left.specs.PgStep.FrameMachine.{losing_frame_machine}
+use Rattle.pg_left.specs.PgStep.LossLaws.{LosingFrameWorld}
+use Rattle.pg_left.specs.PgStep.State.{State, live_nodes}
+use Rattle.pg_left.specs.PgStep.Step.{Action, CLOCK_LIMIT, Issue, Retry}
+use Rattle.pg_left.specs.PgStep.declared.command.OpId.{OpId}
+use Rattle.pg_left.specs.PgHistory.Counted.{how_many, is_open, open_at, open_in, open_number}
+use Rattle.pg_left.proofs.PgHistory.locks.Stages.{commands}
+use Rattle.pg_left.proofs.PgHistory.places.Shown.{IsHere}
+use Rattle.pg_left.proofs.PgHistory.quiet.Sums.{find_place, total, total_le, total_lower, total_term}
+use Rattle.pg_left.proofs.PgHistory.references.Keys.{numbers}
+use Rattle.pg_left.specs.PgLoss.Quiet.{live_open}
+use Rattle.pg_left.specs.PgLoss.Reached.{LosingReaches}
+use Rattle.pg_left.proofs.PgLoss.Bridge.{not_true}
+use Rattle.pg_left.proofs.PgLoss.Counting.{all_count}
 use Rattle.pg_left.proofs.Passing.{Leads, Leaves, leads_more}
 use Rattle.pg_ready.specs.Ready.{EachIsRetried, HasRoomLive, LossesSeen, NoneReadyLive, OnlyReady, OnlyRetries}
 use Rattle.pg_ready.specs.Ready.{is_ready_at, is_retried}

@@ -4,32 +4,32 @@ use Rattle.std.proofs.Common.{refl, ap, sym, ◌∙◌, subst}
 use Rattle.std.specs.List.{IsDistinct}
 use Rattle.std.proofs.lemmas.Bool.{cases_eq}
 use Rattle.pg_term.specs.Same.{same_atom}
-use Rattle.pg_message.specs.declared.message.Message.{Message}
-use Rattle.pg_machine.specs.Clocked.{Stamped, packets_of}
-use Rattle.pg_machine.specs.Happened.{Happened}
-use Rattle.pg_machine.specs.Losing.{Last, LosingEvent, Noticed}
-use Rattle.pg_machine.specs.Machine.{Event, Input, Taken, Turn, World, node_of}
-use Rattle.pg_machine.proofs.Places.{set_at_other}
-use Rattle.pg_machine.proofs.Steps.{pair_apart}
-use Rattle.pg_step.specs.Config.{Config, name_at, names_of}
-use Rattle.pg_step.specs.FrameMachine.{losing_machine_of}
-use Rattle.pg_step.specs.LossLaws.{LosingFrameWorld}
-use Rattle.pg_step.specs.Nodes.{Node}
-use Rattle.pg_step.specs.State.{State}
-use Rattle.pg_step.specs.Step.{Action}
-use Rattle.pg_step.specs.Turns.{Report}
-use Rattle.pg_history.proofs.ends.Apart.{pair_first, pair_second, same_place}
-use Rattle.pg_history.proofs.places.Shown.{IsHere}
-use Rattle.pg_history.proofs.quiet.Rest.{pair_of}
-use Rattle.pg_history.proofs.references.Keys.{atoms, read_other, split}
-use Rattle.pg_history.proofs.steps.Lossless.{step_sees_none}
-use Rattle.pg_history.proofs.steps.Ways.{Grown, Shorter, Unchanged, WayAfter, pair_there, state_after, way_after}
-use Rattle.pg_loss.specs.Quiet.{IsQuietLive}
-use Rattle.pg_loss.specs.Reached.{LosingReaches}
-use Rattle.pg_loss.proofs.Bridge.{Left}
-use Rattle.pg_loss.proofs.Bridges.{Bridged, bridged}
-use Rattle.pg_loss.proofs.Lossy.{Died, Lossy, Makes, Passed, Sees, Steps, Went, bare, makes, passed}
-use Rattle.pg_loss.proofs.Retries.{lost_waits}
+use Rattle.pg_left.specs.PgMessage.declared.message.Message.{Message}
+use Rattle.pg_left.specs.PgMachine.Clocked.{Stamped, packets_of}
+use Rattle.pg_left.specs.PgMachine.Happened.{Happened}
+use Rattle.pg_left.specs.PgMachine.Losing.{Last, LosingEvent, Noticed}
+use Rattle.pg_left.specs.PgMachine.Machine.{Event, Input, Taken, Turn, World, node_of}
+use Rattle.pg_left.proofs.PgMachine.Places.{set_at_other}
+use Rattle.pg_left.proofs.PgMachine.Steps.{pair_apart}
+use Rattle.pg_left.specs.PgStep.Config.{Config, name_at, names_of}
+use Rattle.pg_left.specs.PgStep.FrameMachine.{losing_machine_of}
+use Rattle.pg_left.specs.PgStep.LossLaws.{LosingFrameWorld}
+use Rattle.pg_left.specs.PgStep.Nodes.{Node}
+use Rattle.pg_left.specs.PgStep.State.{State}
+use Rattle.pg_left.specs.PgStep.Step.{Action}
+use Rattle.pg_left.specs.PgStep.Turns.{Report}
+use Rattle.pg_left.proofs.PgHistory.ends.Apart.{pair_first, pair_second, same_place}
+use Rattle.pg_left.proofs.PgHistory.places.Shown.{IsHere}
+use Rattle.pg_left.proofs.PgHistory.quiet.Rest.{pair_of}
+use Rattle.pg_left.proofs.PgHistory.references.Keys.{atoms, read_other, split}
+use Rattle.pg_left.proofs.PgHistory.steps.Lossless.{step_sees_none}
+use Rattle.pg_left.proofs.PgHistory.steps.Ways.{Grown, Shorter, Unchanged, WayAfter, pair_there, state_after, way_after}
+use Rattle.pg_left.specs.PgLoss.Quiet.{IsQuietLive}
+use Rattle.pg_left.specs.PgLoss.Reached.{LosingReaches}
+use Rattle.pg_left.proofs.PgLoss.Bridge.{Left}
+use Rattle.pg_left.proofs.PgLoss.Bridges.{Bridged, bridged}
+use Rattle.pg_left.proofs.PgLoss.Lossy.{Died, Lossy, Makes, Passed, Sees, Steps, Went, bare, makes, passed}
+use Rattle.pg_left.proofs.PgLoss.Retries.{lost_waits}
 use Rattle.pg_ready.specs.Ready.{IsQuietAmongLive}
 use Rattle.pg_left.proofs.Passing.{kept_all, leads_more}
 

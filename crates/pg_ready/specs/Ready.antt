@@ -3,30 +3,30 @@ use Rattle.std.specs.Prelude.{◌≡◌, ◌≢◌, ◌↔◌, ◌⊎◌, ℕ, �
 use Rattle.std.specs.Prelude.{length, List, [], ◌∷◌, ◌++◌, Some, None}
 use Rattle.pg_term.specs.RefParts.{RefParts}
 use Rattle.pg_term.specs.declared.term.Term.{Term}
-use Rattle.pg_group.specs.Value.{name_of}
-use Rattle.pg_group.specs.declared.update.Update.{Update}
-use Rattle.pg_message.specs.declared.message.Message.{Message}
-use Rattle.pg_machine.specs.Clocked.{Stamped}
-use Rattle.pg_machine.specs.Losing.{LosingLeads, Noticed, Step, all_steps, losing_happens}
-use Rattle.pg_machine.specs.Machine.{Event, Take, Do}
-use Rattle.pg_machine.specs.Places.{is_pair, is_place}
-use Rattle.pg_refs.specs.Numbered.{numbered}
-use Rattle.pg_step.specs.Attempts.{is_complete, same_op}
-use Rattle.pg_step.specs.Config.{Config, name_at, nodes_at}
-use Rattle.pg_step.specs.FrameMachine.{last_notice, losing_frame_machine}
-use Rattle.pg_step.specs.LossLaws.{LosingFrameWorld}
-use Rattle.pg_step.specs.Nodes.{Node, Nodes}
-use Rattle.pg_step.specs.State.{Stage, State, Status, live_nodes}
-use Rattle.pg_step.specs.State.Response.{Given}
-use Rattle.pg_step.specs.State.Stage.{Asking, Changing, Closed, Waiting}
-use Rattle.pg_step.specs.State.Use.{Locking, Updating}
-use Rattle.pg_step.specs.Step.{Action, CLOCK_LIMIT, Issue, Retry}
-use Rattle.pg_step.specs.declared.answer.Reply.TheVariants as reply
-use Rattle.pg_step.specs.declared.command.OpId.{OpId}
-use Rattle.pg_history.specs.History.{answers_by, entries}
-use Rattle.pg_history.specs.Quiet.{OnlyTakes}
-use Rattle.pg_loss.specs.Agreeing.{SawAll}
-use Rattle.pg_loss.specs.Quiet.{IsQuietLive, live_open, most_takes_live}
+use Rattle.pg_left.specs.PgGroup.Value.{name_of}
+use Rattle.pg_left.specs.PgGroup.declared.update.Update.{Update}
+use Rattle.pg_left.specs.PgMessage.declared.message.Message.{Message}
+use Rattle.pg_left.specs.PgMachine.Clocked.{Stamped}
+use Rattle.pg_left.specs.PgMachine.Losing.{LosingLeads, Noticed, Step, all_steps, losing_happens}
+use Rattle.pg_left.specs.PgMachine.Machine.{Event, Take, Do}
+use Rattle.pg_left.specs.PgMachine.Places.{is_pair, is_place}
+use Rattle.pg_left.specs.PgRefs.Numbered.{numbered}
+use Rattle.pg_left.specs.PgStep.Attempts.{is_complete, same_op}
+use Rattle.pg_left.specs.PgStep.Config.{Config, name_at, nodes_at}
+use Rattle.pg_left.specs.PgStep.FrameMachine.{last_notice, losing_frame_machine}
+use Rattle.pg_left.specs.PgStep.LossLaws.{LosingFrameWorld}
+use Rattle.pg_left.specs.PgStep.Nodes.{Node, Nodes}
+use Rattle.pg_left.specs.PgStep.State.{Stage, State, Status, live_nodes}
+use Rattle.pg_left.specs.PgStep.State.Response.{Given}
+use Rattle.pg_left.specs.PgStep.State.Stage.{Asking, Changing, Closed, Waiting}
+use Rattle.pg_left.specs.PgStep.State.Use.{Locking, Updating}
+use Rattle.pg_left.specs.PgStep.Step.{Action, CLOCK_LIMIT, Issue, Retry}
+use Rattle.pg_left.specs.PgStep.declared.answer.Reply.TheVariants as reply
+use Rattle.pg_left.specs.PgStep.declared.command.OpId.{OpId}
+use Rattle.pg_left.specs.PgHistory.History.{answers_by, entries}
+use Rattle.pg_left.specs.PgHistory.Quiet.{OnlyTakes}
+use Rattle.pg_left.specs.PgLoss.Agreeing.{SawAll}
+use Rattle.pg_left.specs.PgLoss.Quiet.{IsQuietLive, live_open, most_takes_live}
 
 -- Each live node has seen each loss, and nothing is on the way between two of them. What is on the way to a lost
 -- node stays.

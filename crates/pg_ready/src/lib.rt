@@ -11,3 +11,10 @@ pub use laws::{
     live_locks_are_of_ready_commands, no_lock_where_none_is_ready, only_a_seen_loss_makes_ready,
     quiet_nodes_saw_the_losses, retries_free_the_locks, retries_leave_fewer_ready,
 };
+pub use pg_left::{
+    each_world_keeps_past_losses, ended_processes_were_finished,
+    ended_processes_were_finished_past_losses, ended_processes_were_made_past_losses,
+    first_packets_were_welcome, losses_take_along, no_loss_is_seen, no_packet_is_refused,
+    nobody_is_harmed, nodes_that_heard_the_lost_agree, one_history,
+    tables_are_made_of_what_was_taken,
+};

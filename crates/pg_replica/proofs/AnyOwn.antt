@@ -4,33 +4,33 @@ use Rattle.std.proofs.Common.{Option, Some, None, Result, Ok, Err, refl, sym, ap
 use Rattle.std.specs.Prelude.{⊤, IfOk, IfErr, IfSome}
 use Rattle.std.specs.Io.KnownBytes.{Appends}
 use Rattle.pg_term.specs.RefParts.{RefParts, ref_eq}
-use Rattle.pg_refs.specs.Numbered.{number_in}
-use Rattle.pg_frame.specs.Frames.{front_of, bodies_of, rest_of}
-use Rattle.pg_message.specs.declared.fault.MessageFault.{MessageFault}
-use Rattle.pg_message.specs.declared.message.Message.{Message}
-use Rattle.pg_message.specs.declared.message.Message.TheVariants.{Call, Reply, DelLock, Exchange, Down}
-use Rattle.pg_message.specs.declared.message.Request.TheVariants.{SetLock, Change}
-use Rattle.pg_message.specs.declared.message.Said.{Said}
-use Rattle.pg_message.specs.declared.packet.Packet.{Packet}
-use Rattle.pg_message.specs.Reading.{packet_spelled}
-use Rattle.pg_step.specs.declared.answer.Odd.TheVariants.{Stranger}
-use Rattle.pg_step.specs.declared.refusal.Refusal.{Refusal}
-use Rattle.pg_step.specs.declared.refusal.Refusal.TheVariants.{ClockFull, NotAMessage, NoSuchPlace}
-use Rattle.pg_step.specs.declared.refusal.Refusal.TheVariants.{NotWaiting, NodeLost, NotLost, NotDrained}
-use Rattle.pg_step.specs.Attempts.{own_reference, reply_taken, reply_under, strange}
-use Rattle.pg_step.specs.Nodes.{Node, Nodes}
-use Rattle.pg_step.specs.Peers.{is_bad_exchange, exchange}
-use Rattle.pg_step.specs.State.{Use, live_nodes}
-use Rattle.pg_step.specs.State as machine
-use Rattle.pg_step.specs.State.Use.{Fresh, Spent}
-use Rattle.pg_step.specs.Step.{TimedTurn, CLOCK_LIMIT, taken, at_clock, timed, step_take}
-use Rattle.pg_step.specs.Turns.{NodeTurn}
+use Rattle.pg_node_state.specs.PgRefs.Numbered.{number_in}
+use Rattle.pg_node_state.specs.PgFrame.Frames.{front_of, bodies_of, rest_of}
+use Rattle.pg_node_state.specs.PgMessage.declared.fault.MessageFault.{MessageFault}
+use Rattle.pg_node_state.specs.PgMessage.declared.message.Message.{Message}
+use Rattle.pg_node_state.specs.PgMessage.declared.message.Message.TheVariants.{Call, Reply, DelLock, Exchange, Down}
+use Rattle.pg_node_state.specs.PgMessage.declared.message.Request.TheVariants.{SetLock, Change}
+use Rattle.pg_node_state.specs.PgMessage.declared.message.Said.{Said}
+use Rattle.pg_node_state.specs.PgMessage.declared.packet.Packet.{Packet}
+use Rattle.pg_node_state.specs.PgMessage.Reading.{packet_spelled}
+use Rattle.pg_node_state.specs.PgStep.declared.answer.Odd.TheVariants.{Stranger}
+use Rattle.pg_node_state.specs.PgStep.declared.refusal.Refusal.{Refusal}
+use Rattle.pg_node_state.specs.PgStep.declared.refusal.Refusal.TheVariants.{ClockFull, NotAMessage, NoSuchPlace}
+use Rattle.pg_node_state.specs.PgStep.declared.refusal.Refusal.TheVariants.{NotWaiting, NodeLost, NotLost, NotDrained}
+use Rattle.pg_node_state.specs.PgStep.Attempts.{own_reference, reply_taken, reply_under, strange}
+use Rattle.pg_node_state.specs.PgStep.Nodes.{Node, Nodes}
+use Rattle.pg_node_state.specs.PgStep.Peers.{is_bad_exchange, exchange}
+use Rattle.pg_node_state.specs.PgStep.State.{Use, live_nodes}
+use Rattle.pg_node_state.specs.PgStep.State as machine
+use Rattle.pg_node_state.specs.PgStep.State.Use.{Fresh, Spent}
+use Rattle.pg_node_state.specs.PgStep.Step.{TimedTurn, CLOCK_LIMIT, taken, at_clock, timed, step_take}
+use Rattle.pg_node_state.specs.PgStep.Turns.{NodeTurn}
 use Rattle.pg_replica.specs.declared.fault.ServeFault.{ServeFault}
 use Rattle.pg_replica.specs.Causes.{AllAnswered, Cause, InTurn, Unread}
 use Rattle.pg_replica.specs.Replica.{Pair, State, Answer, Run, start, nodes_of, turned}
 use Rattle.pg_replica.specs.Replica.{taken_packet, taken_in, answered, goes_on, preceded, replica_run}
 use Rattle.pg_replica.specs.Replica.{served, rest_fault, first_fault, frames_of, WroteFor, Serves}
-use Rattle.pg_sends.specs.Sent.{stamped_of}
+use Rattle.pg_node_state.specs.PgSends.Sent.{stamped_of}
 use Rattle.pg_replica.proofs.Served.{cause_of}
 
 -- no reference was made

@@ -7,10 +7,10 @@ use Rattle.std.proofs.Math.Seq.{take-append_seam}
 use Rattle.pg_term.specs.declared.fault.TermFault.TheVariants.{Truncated, BadVersion, UnknownTag, TooDeep}
 use Rattle.pg_term.specs.declared.fault.TermFault.TheVariants.{IntegerTooLarge, BadAtom, ImproperList}
 use Rattle.pg_term.specs.declared.fault.TermFault.TheVariants.{BadReference, TrailingBytes, OutOfMemory, TooLong}
-use Rattle.pg_frame.specs.Frames.{front_of, behind, bodies_of, rest_of, too_long, Leaves}
-use Rattle.pg_frame.proofs.Readings.{loop_keeps, pieces_continue, front_is_first, front_is_frame}
+use Rattle.pg_node_state.specs.PgFrame.Frames.{front_of, behind, bodies_of, rest_of, too_long, Leaves}
+use Rattle.pg_node_state.proofs.PgFrame.Readings.{loop_keeps, pieces_continue, front_is_first, front_is_frame}
 use Rattle.pg_replica.specs.declared.fault.ServeFault.{ServeFault}
-use Rattle.pg_message.specs.declared.fault.MessageFault.TheVariants.{Term, NotAMessage, StampTooLarge, NameTooLarge}
+use Rattle.pg_node_state.specs.PgMessage.declared.fault.MessageFault.TheVariants.{Term, NotAMessage, StampTooLarge, NameTooLarge}
 use Rattle.pg_replica.specs.declared.fault.ServeFault.TheVariants.{Message, FrameTooLong, ClockFull}
 use Rattle.pg_replica.specs.declared.fault.ServeFault.TheVariants.{ReadFault, WriteFault}
 use Rattle.pg_replica.specs.Progress.{HasServed, Refused, StopsAt}

@@ -6,22 +6,22 @@ use Rattle.std.specs.Io.KnownBytes.{Appends, Keeps, Consumes, IsAtEnd}
 use Rattle.std.proofs.lemmas.List.{nil_from_length}
 use Rattle.std.proofs.lemmas.Bool.{eqb-true}
 use Rattle.std.specs.Result.{is_err}
-use Rattle.pg_frame.specs.Frames.{front_of}
-use Rattle.pg_frame.proofs.Readings.{written_is_read}
+use Rattle.pg_node_state.specs.PgFrame.Frames.{front_of}
+use Rattle.pg_node_state.proofs.PgFrame.Readings.{written_is_read}
 use Rattle.pg_term.specs.declared.fault.TermFault.TheVariants.{Truncated, OutOfMemory}
 use Rattle.pg_replica.specs.declared.fault.ServeFault.{ServeFault}
-use Rattle.pg_message.specs.declared.fault.MessageFault.TheVariants.{Term}
+use Rattle.pg_node_state.specs.PgMessage.declared.fault.MessageFault.TheVariants.{Term}
 use Rattle.pg_replica.specs.declared.fault.ServeFault.TheVariants.{Message, FrameTooLong, ClockFull}
 use Rattle.pg_replica.specs.declared.fault.ServeFault.TheVariants.{ReadFault, WriteFault}
 use Rattle.pg_replica.specs.Causes.{Cause, AllAnswered, GaveChunks, InTurn, Unread, IsFlushed, LeavesFlushed, joined}
-use Rattle.pg_message.specs.declared.fault.MessageFault.{MessageFault}
-use Rattle.pg_message.specs.declared.packet.Packet.{Packet}
-use Rattle.pg_message.specs.Reading.{packet_spelled}
-use Rattle.pg_step.specs.Step.{TimedTurn, step_take}
-use Rattle.pg_step.specs.declared.refusal.Refusal.{Refusal}
-use Rattle.pg_step.specs.declared.refusal.Refusal.TheVariants as refusals
+use Rattle.pg_node_state.specs.PgMessage.declared.fault.MessageFault.{MessageFault}
+use Rattle.pg_node_state.specs.PgMessage.declared.packet.Packet.{Packet}
+use Rattle.pg_node_state.specs.PgMessage.Reading.{packet_spelled}
+use Rattle.pg_node_state.specs.PgStep.Step.{TimedTurn, step_take}
+use Rattle.pg_node_state.specs.PgStep.declared.refusal.Refusal.{Refusal}
+use Rattle.pg_node_state.specs.PgStep.declared.refusal.Refusal.TheVariants as refusals
 use Rattle.pg_replica.specs.Fault.{out_of_memory, Refuses}
-use Rattle.pg_sends.specs.Sent.{stamped_of}
+use Rattle.pg_node_state.specs.PgSends.Sent.{stamped_of}
 use Rattle.pg_replica.specs.Progress.{CutShort, HasServed, ReadsSome, Serving, Stops, StopsAt}
 use Rattle.pg_replica.specs.Replica.{Pair, State, Run, nodes_of, answered, taken_in}
 use Rattle.pg_replica.specs.Replica.{turned, start, Serves, served, frames_of, WroteFor}

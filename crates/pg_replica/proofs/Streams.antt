@@ -2,10 +2,10 @@
 use Rattle.std.proofs.Common.{◌≡◌, ℕ, List, [], ◌∷◌, ◌++◌, Option, Some, None, Result, Ok, Err}
 use Rattle.std.proofs.Common.{inl, inr, refl, sym, ap, subst, ◌∙◌, append_assoc, append-nil}
 use Rattle.std.specs.Io.KnownBytes.{Appends, Keeps}
-use Rattle.pg_frame.specs.Frames.{frame, front_of, after_front, bodies_of}
-use Rattle.pg_frame.proofs.Readings.{loop_keeps}
+use Rattle.pg_node_state.specs.PgFrame.Frames.{frame, front_of, after_front, bodies_of}
+use Rattle.pg_node_state.proofs.PgFrame.Readings.{loop_keeps}
 use Rattle.pg_replica.specs.declared.fault.ServeFault.{ServeFault}
-use Rattle.pg_message.specs.declared.fault.MessageFault.TheVariants.{Term, NotAMessage, StampTooLarge, NameTooLarge}
+use Rattle.pg_node_state.specs.PgMessage.declared.fault.MessageFault.TheVariants.{Term, NotAMessage, StampTooLarge, NameTooLarge}
 use Rattle.pg_replica.specs.declared.fault.ServeFault.TheVariants.{Message, FrameTooLong, ClockFull}
 use Rattle.pg_replica.specs.declared.fault.ServeFault.TheVariants.{ReadFault, WriteFault}
 use Rattle.pg_replica.specs.Fault.{Refuses}

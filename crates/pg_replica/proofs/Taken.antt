@@ -5,28 +5,28 @@ use Rattle.std.specs.Prelude.{slice_get}
 use Rattle.std.specs.List.{AllByRecursion}
 use Rattle.std.proofs.lemmas.Cmp.{nat_list_eq_equiv}
 use Rattle.pg_term.specs.Same.{same_atom}
-use Rattle.pg_frame.specs.Frames.{frame}
-use Rattle.pg_message.specs.declared.packet.Packet.{Packet}
-use Rattle.pg_opens.specs.Places.{name_at, whole_in}
-use Rattle.pg_step.specs.declared.answer.Answer.{Answer as Given}
-use Rattle.pg_step.specs.declared.refusal.Refusal.{Refusal}
-use Rattle.pg_step.specs.declared.refusal.Refusal.TheVariants.{ClockFull, NotAMessage, NoSuchPlace}
-use Rattle.pg_step.specs.declared.refusal.Refusal.TheVariants.{NotWaiting, NodeLost, NotLost, NotDrained}
-use Rattle.pg_step.specs.Nodes.{Node, Nodes}
-use Rattle.pg_step.specs.Step.{TimedTurn, step_take}
-use Rattle.pg_sends.specs.contracts.sends.VecTuple2UsizePacketOutgoing.TheImpl as packets
-use Rattle.pg_sends.specs.Dones.{PacketsDone}
+use Rattle.pg_node_state.specs.PgFrame.Frames.{frame}
+use Rattle.pg_node_state.specs.PgMessage.declared.packet.Packet.{Packet}
+use Rattle.pg_node_state.specs.PgOpens.Places.{name_at, whole_in}
+use Rattle.pg_node_state.specs.PgStep.declared.answer.Answer.{Answer as Given}
+use Rattle.pg_node_state.specs.PgStep.declared.refusal.Refusal.{Refusal}
+use Rattle.pg_node_state.specs.PgStep.declared.refusal.Refusal.TheVariants.{ClockFull, NotAMessage, NoSuchPlace}
+use Rattle.pg_node_state.specs.PgStep.declared.refusal.Refusal.TheVariants.{NotWaiting, NodeLost, NotLost, NotDrained}
+use Rattle.pg_node_state.specs.PgStep.Nodes.{Node, Nodes}
+use Rattle.pg_node_state.specs.PgStep.Step.{TimedTurn, step_take}
+use Rattle.pg_node_state.specs.PgSends.contracts.sends.VecTuple2UsizePacketOutgoing.TheImpl as packets
+use Rattle.pg_node_state.specs.PgSends.Dones.{PacketsDone}
 use Rattle.pg_node_state.specs.declared.state.fault.NodeFault.{NodeFault}
 use Rattle.pg_node_state.specs.declared.state.fault.NodeFault.TheVariants.{Refused, OutOfMemory}
 use Rattle.pg_node_state.specs.declared.state.fault.NodeFault.TheVariants.{Message, TooLong, Damaged}
 use Rattle.pg_replica.specs.Fault.{refused_as, untaken_as, Refuses}
-use Rattle.pg_writer.specs.Frames.{frame_of}
-use Rattle.pg_sends.specs.Frames.{frames_to}
-use Rattle.pg_sends.specs.Sendable.{FitLinks, IsSendable, Ascends, AreSendable}
+use Rattle.pg_node_state.specs.PgWriter.Frames.{frame_of}
+use Rattle.pg_node_state.specs.PgSends.Frames.{frames_to}
+use Rattle.pg_node_state.specs.PgSends.Sendable.{FitLinks, IsSendable, Ascends, AreSendable}
 use Rattle.pg_replica.specs.Replica.{State, AnswersServed, nodes_of, frames_of, body_sent}
 use Rattle.pg_replica.specs.Replica.{bodies_to, pair_in, taken_packet, turned}
 use Rattle.pg_node_state.specs.States.{Comes}
-use Rattle.pg_sends.specs.Sent.{sends_in, stamped_of}
+use Rattle.pg_node_state.specs.PgSends.Sent.{sends_in, stamped_of}
 
 self_same : (peer : Node) → same_atom peer peer ≡ true
 self_same = nat_list_eq_equiv.refl

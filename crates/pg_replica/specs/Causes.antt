@@ -1,7 +1,7 @@
 -- Why a server stops before the end of its input, and what was flushed by then.
 use Rattle.std.specs.Prelude.{◌≡◌, ◌<◌, ◌^◌, ◌⊎◌, ⊤, ℕ, List, [], ◌∷◌, ◌++◌, length, Option, None, Result, Ok, Err}
 use Rattle.std.specs.Io.KnownBytes.{Appends}
-use Rattle.pg_frame.specs.Frames.{bodies_of}
+use Rattle.pg_node_state.specs.PgFrame.Frames.{bodies_of}
 use Rattle.pg_replica.specs.declared.fault.ServeFault.{ServeFault}
 use Rattle.pg_replica.specs.declared.fault.ServeFault.TheVariants.{ReadFault, WriteFault}
 use Rattle.pg_replica.specs.Replica.{Pair, start, replica_run, frames_of}

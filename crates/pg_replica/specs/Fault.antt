@@ -1,11 +1,11 @@
 -- The faults' place in the one list of faults, and what a call may refuse.
 use Rattle.std.specs.Prelude.{◌≡◌, ℕ, Result, Err}
-use Rattle.pg_faults.specs.declared.TheConstants.{CLOCK_FULL, READ_FAULT, TOO_LONG, WRITE_FAULT}
+use Rattle.pg_term.specs.PgFaults.declared.TheConstants.{CLOCK_FULL, READ_FAULT, TOO_LONG, WRITE_FAULT}
 use Rattle.pg_term.specs.declared.fault.TermFault.TheVariants.{OutOfMemory}
-use Rattle.pg_message.specs.Fault.{message_number_of}
-use Rattle.pg_message.specs.declared.fault.MessageFault.TheVariants.{Term, NotAMessage}
-use Rattle.pg_step.specs.declared.refusal.Refusal.{Refusal}
-use Rattle.pg_step.specs.declared.refusal.Refusal.TheVariants as refusal
+use Rattle.pg_node_state.specs.PgMessage.Fault.{message_number_of}
+use Rattle.pg_node_state.specs.PgMessage.declared.fault.MessageFault.TheVariants.{Term, NotAMessage}
+use Rattle.pg_node_state.specs.PgStep.declared.refusal.Refusal.{Refusal}
+use Rattle.pg_node_state.specs.PgStep.declared.refusal.Refusal.TheVariants as refusal
 use Rattle.pg_replica.specs.declared.fault.ServeFault.{ServeFault}
 use Rattle.pg_replica.specs.declared.fault.ServeFault.TheVariants.{Message, FrameTooLong, ClockFull}
 use Rattle.pg_replica.specs.declared.fault.ServeFault.TheVariants.{ReadFault, WriteFault}

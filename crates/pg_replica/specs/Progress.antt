@@ -2,8 +2,8 @@
 use Rattle.std.specs.Prelude.{◌≡◌, ◌<◌, ℕ, Bool, true, false, List, [], ◌++◌, length, Option, Some, None, Ok, Err, ◌⊎◌}
 use Rattle.std.specs.Io.KnownBytes.{Appends, Keeps, Consumes, IsAtEnd}
 use Rattle.pg_term.specs.declared.fault.TermFault.TheVariants.{OutOfMemory}
-use Rattle.pg_message.specs.declared.fault.MessageFault.TheVariants.{Term}
-use Rattle.pg_frame.specs.Frames.{front_of, too_long, Leaves}
+use Rattle.pg_node_state.specs.PgMessage.declared.fault.MessageFault.TheVariants.{Term}
+use Rattle.pg_node_state.specs.PgFrame.Frames.{front_of, too_long, Leaves}
 use Rattle.pg_replica.specs.declared.fault.ServeFault.{ServeFault}
 use Rattle.pg_replica.specs.declared.fault.ServeFault.TheVariants.{Message, FrameTooLong, ReadFault, WriteFault}
 use Rattle.pg_replica.specs.Causes.{joined}

@@ -5,29 +5,29 @@ use Rattle.std.specs.Prelude.{if◌then◌else◌, Option, Some, None, Result, O
 use Rattle.std.specs.List.{flat_map}
 use Rattle.std.specs.Io.KnownBytes.{Appends}
 use Rattle.pg_term.specs.declared.fault.TermFault.TheVariants.{Truncated, OutOfMemory}
-use Rattle.pg_term_io.specs.Writing.{written}
-use Rattle.pg_frame.specs.declared.fault.TooLong.{TooLong}
-use Rattle.pg_frame.specs.Frames.{frame, front_of, bodies_of, rest_of}
-use Rattle.pg_group.specs.declared.table.GroupTable.{Ghosts}
-use Rattle.pg_message.specs.declared.fault.MessageFault.{MessageFault}
-use Rattle.pg_message.specs.declared.fault.MessageFault.TheVariants.{Term}
-use Rattle.pg_message.specs.declared.message.Message.{Message}
-use Rattle.pg_message.specs.declared.packet.Packet.{Packet}
-use Rattle.pg_message.specs.Reading.{packet_spelled}
-use Rattle.pg_message.specs.Writing.{term_of_packet}
-use Rattle.pg_machine.specs.Clocked.{Timed, Stamped}
-use Rattle.pg_step.specs.Nodes.{Node, Nodes}
-use Rattle.pg_step.specs.State as machine
-use Rattle.pg_step.specs.State.{new_state}
-use Rattle.pg_opens.specs.Places.{name_at}
-use Rattle.pg_step.specs.Step.{TimedTurn, step_take}
-use Rattle.pg_step.specs.declared.refusal.Refusal.{Refusal}
+use Rattle.pg_node_state.specs.PgTermIo.Writing.{written}
+use Rattle.pg_node_state.specs.PgFrame.declared.fault.TooLong.{TooLong}
+use Rattle.pg_node_state.specs.PgFrame.Frames.{frame, front_of, bodies_of, rest_of}
+use Rattle.pg_node_state.specs.PgGroup.declared.table.GroupTable.{Ghosts}
+use Rattle.pg_node_state.specs.PgMessage.declared.fault.MessageFault.{MessageFault}
+use Rattle.pg_node_state.specs.PgMessage.declared.fault.MessageFault.TheVariants.{Term}
+use Rattle.pg_node_state.specs.PgMessage.declared.message.Message.{Message}
+use Rattle.pg_node_state.specs.PgMessage.declared.packet.Packet.{Packet}
+use Rattle.pg_node_state.specs.PgMessage.Reading.{packet_spelled}
+use Rattle.pg_node_state.specs.PgMessage.Writing.{term_of_packet}
+use Rattle.pg_node_state.specs.PgMachine.Clocked.{Timed, Stamped}
+use Rattle.pg_node_state.specs.PgStep.Nodes.{Node, Nodes}
+use Rattle.pg_node_state.specs.PgStep.State as machine
+use Rattle.pg_node_state.specs.PgStep.State.{new_state}
+use Rattle.pg_node_state.specs.PgOpens.Places.{name_at}
+use Rattle.pg_node_state.specs.PgStep.Step.{TimedTurn, step_take}
+use Rattle.pg_node_state.specs.PgStep.declared.refusal.Refusal.{Refusal}
 use Rattle.pg_replica.specs.declared.fault.ServeFault.{ServeFault}
 use Rattle.pg_replica.specs.declared.fault.ServeFault.TheVariants as faults
 use Rattle.pg_node_state.specs.declared.state.NodeState.{NodeState}
 use Rattle.pg_replica.specs.Fault.{refused_as}
 use Rattle.pg_node_state.specs.States.{names_of}
-use Rattle.pg_sends.specs.Sent.{stamped_of}
+use Rattle.pg_node_state.specs.PgSends.Sent.{stamped_of}
 
 -- ---- one packet
 

@@ -1,23 +1,21 @@
 //! What a node with one peer answers to a packet of it.
 
 ghost use Rattle.std.specs.Prelude.{◌≡◌, ◌≤◌, ◌+◌, ◌++◌, ◌^◌, length, IfErr, OnOk, OnErr};
-ghost use Rattle.pg_message.specs.Members.{IsShort};
-ghost use Rattle.pg_writer.specs.declared.size.TheConstants.{MAX_SMALL_LEN};
+ghost use Rattle.pg_node_state.specs.PgMessage.Members.{IsShort};
+ghost use Rattle.pg_node_state.specs.PgWriter.declared.size.TheConstants.{MAX_SMALL_LEN};
 ghost use Rattle.pg_replica.specs.Fault.{untaken_as, Refuses};
-ghost use Rattle.pg_sends.specs.Frames.{frames_to};
-ghost use Rattle.pg_sends.specs.Sendable.{FitLinks};
+ghost use Rattle.pg_node_state.specs.PgSends.Frames.{frames_to};
+ghost use Rattle.pg_node_state.specs.PgSends.Sendable.{FitLinks};
 ghost use Rattle.pg_replica.specs.Replica.{pair_of, taken_packet, answered, AnswersServed};
 ghost use Rattle.pg_node_state.specs.States.{names_of, state_of};
 
 use crate::fault::ServeFault;
 use bytes::BytesMut;
-use pg_group::GroupTable;
-use pg_message::{MessageFault, Packet};
-use pg_node_state::{NodeFault, NodeState, write_small};
+use pg_node_state::{
+    GroupTable, MAX_SMALL_LEN, MessageFault, NodeFault, NodeState, Packet, Refusal, write_small,
+};
 use pg_reader::read_packet;
-use pg_step::Refusal;
 use pg_term::TermFault;
-use pg_writer::MAX_SMALL_LEN;
 use std::alloc::Global;
 
 /// Takes the body of a packet of the one peer, and appends what is sent for it, framed, to the output.

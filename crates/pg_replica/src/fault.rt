@@ -1,6 +1,6 @@
-use pg_faults::{CLOCK_FULL, READ_FAULT, TOO_LONG, WRITE_FAULT};
-use pg_message::MessageFault;
+use pg_node_state::MessageFault;
 use pg_term::TermFault;
+use pg_term::pg_faults::{CLOCK_FULL, READ_FAULT, TOO_LONG, WRITE_FAULT};
 use std::alloc::AllocError;
 use thiserror::Error;
 
@@ -59,7 +59,7 @@ impl From<MessageFault> for ServeFault {
 impl From<TermFault> for ServeFault {
     ghost use Rattle.std.specs.Prelude.{◌≡◌};
     ghost use Rattle.pg_replica.specs.declared.fault.ServeFault.TheVariants.{Message};
-    ghost use Rattle.pg_message.specs.declared.fault.MessageFault.TheVariants.{Term};
+    ghost use Rattle.pg_node_state.specs.PgMessage.declared.fault.MessageFault.TheVariants.{Term};
 
     ghost from_gives = { λ fault e. e ≡ Message (Term fault) };
 

@@ -1,7 +1,7 @@
 ghost use Rattle.std.specs.Prelude.{◌≡◌, ◌<◌, ◌∷◌, ◌++◌, ⊤, true, false, List, ℕ, length, [], Some, None};
 ghost use Rattle.std.specs.Prelude.{Ok, Err, IfSome, IfOk, IfErr, OnOk, OnErr, ◌⊎◌, ◌==◌, if◌then◌else◌};
 ghost use Rattle.std.specs.Io.KnownBytes.{Appends, Keeps, Consumes, IsAtEnd};
-ghost use Rattle.pg_frame.specs.Frames.{front_of};
+ghost use Rattle.pg_node_state.specs.PgFrame.Frames.{front_of};
 ghost use Rattle.pg_replica.specs.Causes.{AllAnswered, Cause, FailedAt, InTurn, LeavesFlushed, Unread};
 ghost use Rattle.pg_replica.specs.Fault.{out_of_memory};
 ghost use Rattle.pg_replica.specs.Replica.{start, pair_of, Serves};
@@ -9,7 +9,7 @@ ghost use Rattle.pg_node_state.specs.States.{names_of, state_of};
 ghost use Rattle.pg_term.specs.Same.{same_atom};
 ghost use Rattle.pg_replica.specs.Progress.{HasServed, ReadsSome, StopsAt, Stops};
 ghost use Rattle.pg_replica.specs.declared.fault.ServeFault.TheVariants.{Message, ReadFault, WriteFault};
-ghost use Rattle.pg_message.specs.declared.fault.MessageFault.TheVariants.{Term};
+ghost use Rattle.pg_node_state.specs.PgMessage.declared.fault.MessageFault.TheVariants.{Term};
 ghost use Rattle.pg_term.specs.declared.fault.TermFault.TheVariants.{Truncated};
 
 use crate::answer::answer;
@@ -17,11 +17,8 @@ use crate::fault::ServeFault;
 use crate::sink::Sink;
 use crate::source::Source;
 use bytes::BytesMut;
-use pg_frame::Deframer;
-use pg_group::GroupTable;
 use pg_index::IndexTable;
-use pg_message::MessageFault;
-use pg_node_state::{NodeConfig, NodeState, started};
+use pg_node_state::{Deframer, GroupTable, MessageFault, NodeConfig, NodeState, started};
 use pg_term::{Atom, TermFault};
 use std::alloc::{AllocError, Global};
 

@@ -4,7 +4,7 @@ use Rattle.std.proofs.Common.{Some, None, refl, sym, ap, ◌∙◌, append_assoc
 use Rattle.std.specs.Option.{option_map, option_and_then}
 use Rattle.std.proofs.lemmas.List.{reverse-append, reverse-reverse, append-nil}
 use Rattle.pg_term.specs.declared.term.Term.{Term}
-use Rattle.pg_message.specs.Reading.{read_each}
+use Rattle.pg_step.specs.PgMessage.Reading.{read_each}
 use Rattle.pg_step.specs.declared.start.Start.{Start}
 use Rattle.pg_requests.specs.Members.{node_of, put_told, told_all}
 

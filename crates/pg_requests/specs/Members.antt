@@ -5,8 +5,8 @@ use Rattle.std.specs.Option.{option_map, option_and_then}
 use Rattle.pg_term.specs.declared.pid.Pid.{Pid}
 use Rattle.pg_term.specs.declared.term.Term.{Term}
 use Rattle.pg_term.specs.Same.{same_atom}
-use Rattle.pg_message.specs.Parts.{atom_of, elements_of, items_of, pid_of}
-use Rattle.pg_message.specs.Reading.{read_each}
+use Rattle.pg_step.specs.PgMessage.Parts.{atom_of, elements_of, items_of, pid_of}
+use Rattle.pg_step.specs.PgMessage.Reading.{read_each}
 use Rattle.pg_step.specs.declared.start.Start.{Start}
 use Rattle.pg_text.specs.Reading.{term_of}
 use Rattle.pg_requests.specs.Requests.{number_of}

@@ -3,7 +3,7 @@ use Rattle.std.specs.Prelude.{ℕ, pos, ◌^◌, nat_lt, List, [], ◌∷◌, co
 use Rattle.std.specs.Option.{option_map, option_and_then}
 use Rattle.pg_term.specs.declared.term.Term.{Term, out-Term}
 use Rattle.pg_term.specs.declared.term.Term.TheOpen.{Term-F}
-use Rattle.pg_message.specs.Parts.{elements_of, is_word, atom_of, pid_of}
+use Rattle.pg_step.specs.PgMessage.Parts.{elements_of, is_word, atom_of, pid_of}
 use Rattle.pg_step.specs.declared.command.Command.{Command}
 use Rattle.pg_step.specs.declared.command.Command.TheVariants as commands
 use Rattle.pg_requests.specs.declared.input.Input.{Input}

@@ -3,8 +3,8 @@
 ghost use Rattle.std.specs.Prelude.{◌≡◌, ◌<◌, Some, None, IfOk, IfErr, IfSome, length, map, cond};
 ghost use Rattle.std.specs.Option.{option_and_then, option_map};
 ghost use Rattle.std.specs.Str.{chars};
-ghost use Rattle.pg_message.specs.Parts.{atom_of, items_of, pid_of};
-ghost use Rattle.pg_message.specs.Reading.{read_each};
+ghost use Rattle.pg_step.specs.PgMessage.Parts.{atom_of, items_of, pid_of};
+ghost use Rattle.pg_step.specs.PgMessage.Reading.{read_each};
 ghost use Rattle.pg_requests.specs.Members.{AreNumbered, bare, group_in, group_of, groups_of, is_bare};
 ghost use Rattle.pg_requests.specs.Members.{node_name as name_by, node_in, node_of, pids_of, place_among};
 ghost use Rattle.pg_requests.specs.Members.{put_at, put_told, starting, starts_by, starts_said, told_all};

@@ -2,7 +2,7 @@
 
 ghost use Rattle.std.specs.Prelude.{◌≡◌, ◌∷◌, [], Some, None, IfOk, IfErr, length};
 ghost use Rattle.std.specs.Option.{option_map};
-ghost use Rattle.pg_message.specs.Parts.{elements_of, items_of, is_word, atom_of, pid_of};
+ghost use Rattle.pg_step.specs.PgMessage.Parts.{elements_of, items_of, is_word, atom_of, pid_of};
 ghost use Rattle.pg_requests.specs.Requests.{number_of};
 
 use pg_term::{Atom, Pid, Term};

@@ -2,7 +2,7 @@
 
 ghost use Rattle.std.specs.Prelude.{◌≡◌, ◌∷◌, [], length, Some, None};
 ghost use Rattle.std.specs.Option.{option_map, option_and_then};
-ghost use Rattle.pg_message.specs.Parts.{atom_of, pid_of};
+ghost use Rattle.pg_step.specs.PgMessage.Parts.{atom_of, pid_of};
 ghost use Rattle.pg_step.specs.declared.command.Command.TheVariants.{Join, Leave, Closest};
 ghost use Rattle.pg_requests.specs.Layouts.{client_at};
 ghost use Rattle.pg_requests.specs.Requests.{number_of, input_of, input_in, loss_in, request_in, command_of};

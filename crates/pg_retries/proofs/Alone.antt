@@ -8,47 +8,47 @@ use Rattle.std.proofs.lemmas.Bool.{cases_eq, eq-eqb}
 use Rattle.std.proofs.lemmas.Bool.Decides.{Decides-ltb}
 use Rattle.std.proofs.lemmas.List.{map-append}
 use Rattle.pg_term.specs.Same.{same_atom}
-use Rattle.pg_refs.specs.Numbered.{numbered}
-use Rattle.pg_group.specs.declared.update.Update.{Update}
-use Rattle.pg_group.specs.Functions.{upd}
-use Rattle.pg_group.specs.Value.{name_of}
-use Rattle.pg_message.specs.declared.message.Message.{Message}
-use Rattle.pg_message.specs.declared.message.Message.TheVariants.{Reply}
-use Rattle.pg_message.specs.declared.message.Said.{Said}
-use Rattle.pg_message.specs.declared.message.Said.TheVariants.{Applied, Granted}
-use Rattle.pg_multicall.specs.Gathered.{what_of}
-use Rattle.pg_machine.specs.Happened.{Changes, Happened}
-use Rattle.pg_machine.specs.Losing.{Noticed, Sent}
-use Rattle.pg_machine.specs.Machine.{Take}
-use Rattle.pg_machine.specs.Places.{is_pair}
-use Rattle.pg_machine.proofs.Steps.{changes, pair_apart}
-use Rattle.pg_step.specs.declared.command.OpId.{OpId}
-use Rattle.pg_step.specs.Attempts.{count_answer, count_ok, go_on, lock_entry, replies_in}
-use Rattle.pg_step.specs.Attempts.{reply_by, reply_taken, reply_under}
-use Rattle.pg_step.specs.Config.{Config, name_at, names_of, nodes_at}
-use Rattle.pg_step.specs.FrameMachine.{losing_machine_of}
-use Rattle.pg_step.specs.Nodes.{Node, Nodes}
-use Rattle.pg_step.specs.State.{State, formed, live_nodes}
-use Rattle.pg_step.specs.State.Response.{Given as Given_}
-use Rattle.pg_step.specs.State.Status.{Asked, Yes}
-use Rattle.pg_step.specs.declared.answer.Reply.TheVariants as reply
-use Rattle.pg_step.specs.State.Use.{Locking, Updating}
-use Rattle.pg_step.specs.Step.{Action, taken}
-use Rattle.pg_step.specs.Turns.{NodeTurn, Report, and_then}
-use Rattle.pg_step.proofs.Once.{clash}
-use Rattle.pg_history.specs.History.{IsAnsweredOk, answer_at, answer_by, answers_by}
-use Rattle.pg_history.proofs.ends.Apart.{pair_second, pair_swapped, same_place}
-use Rattle.pg_history.proofs.locks.Packets.{number_is, use_is}
-use Rattle.pg_history.proofs.places.Shown.{IsHere}
-use Rattle.pg_history.proofs.quiet.Home.{After, AtEnd, AtLock, AtUpdate, IsAtEnd, IsAtLock, IsAtUpdate, IsFreed}
-use Rattle.pg_history.proofs.quiet.Home.{Result, Sees, SeesOk, confirmed_result, granted_result}
-use Rattle.pg_history.proofs.quiet.Phases.{Phase, backs, count, needs_free, outs}
-use Rattle.pg_history.proofs.quiet.Phases.Phase.{Ahead, Confirmed, Done, Freed, Given, Over, Owned, Told, Wanted}
-use Rattle.pg_history.proofs.quiet.Solo.{answered_more}
-use Rattle.pg_history.proofs.quiet.Sums.{total, total_less, total_same}
-use Rattle.pg_history.proofs.references.Keys.{at_upd, atoms, numbers, upd_at, upd_other}
-use Rattle.pg_history.proofs.steps.Single.{ok_is}
-use Rattle.pg_history.proofs.steps.Ways.{told_append}
+use Rattle.pg_ready.specs.PgRefs.Numbered.{numbered}
+use Rattle.pg_ready.specs.PgGroup.declared.update.Update.{Update}
+use Rattle.pg_ready.specs.PgGroup.Functions.{upd}
+use Rattle.pg_ready.specs.PgGroup.Value.{name_of}
+use Rattle.pg_ready.specs.PgMessage.declared.message.Message.{Message}
+use Rattle.pg_ready.specs.PgMessage.declared.message.Message.TheVariants.{Reply}
+use Rattle.pg_ready.specs.PgMessage.declared.message.Said.{Said}
+use Rattle.pg_ready.specs.PgMessage.declared.message.Said.TheVariants.{Applied, Granted}
+use Rattle.pg_ready.specs.PgMulticall.Gathered.{what_of}
+use Rattle.pg_ready.specs.PgMachine.Happened.{Changes, Happened}
+use Rattle.pg_ready.specs.PgMachine.Losing.{Noticed, Sent}
+use Rattle.pg_ready.specs.PgMachine.Machine.{Take}
+use Rattle.pg_ready.specs.PgMachine.Places.{is_pair}
+use Rattle.pg_ready.proofs.PgMachine.Steps.{changes, pair_apart}
+use Rattle.pg_ready.specs.PgStep.declared.command.OpId.{OpId}
+use Rattle.pg_ready.specs.PgStep.Attempts.{count_answer, count_ok, go_on, lock_entry, replies_in}
+use Rattle.pg_ready.specs.PgStep.Attempts.{reply_by, reply_taken, reply_under}
+use Rattle.pg_ready.specs.PgStep.Config.{Config, name_at, names_of, nodes_at}
+use Rattle.pg_ready.specs.PgStep.FrameMachine.{losing_machine_of}
+use Rattle.pg_ready.specs.PgStep.Nodes.{Node, Nodes}
+use Rattle.pg_ready.specs.PgStep.State.{State, formed, live_nodes}
+use Rattle.pg_ready.specs.PgStep.State.Response.{Given as Given_}
+use Rattle.pg_ready.specs.PgStep.State.Status.{Asked, Yes}
+use Rattle.pg_ready.specs.PgStep.declared.answer.Reply.TheVariants as reply
+use Rattle.pg_ready.specs.PgStep.State.Use.{Locking, Updating}
+use Rattle.pg_ready.specs.PgStep.Step.{Action, taken}
+use Rattle.pg_ready.specs.PgStep.Turns.{NodeTurn, Report, and_then}
+use Rattle.pg_ready.proofs.PgStep.Once.{clash}
+use Rattle.pg_ready.specs.PgHistory.History.{IsAnsweredOk, answer_at, answer_by, answers_by}
+use Rattle.pg_ready.proofs.PgHistory.ends.Apart.{pair_second, pair_swapped, same_place}
+use Rattle.pg_ready.proofs.PgHistory.locks.Packets.{number_is, use_is}
+use Rattle.pg_ready.proofs.PgHistory.places.Shown.{IsHere}
+use Rattle.pg_ready.proofs.PgHistory.quiet.Home.{After, AtEnd, AtLock, AtUpdate, IsAtEnd, IsAtLock, IsAtUpdate, IsFreed}
+use Rattle.pg_ready.proofs.PgHistory.quiet.Home.{Result, Sees, SeesOk, confirmed_result, granted_result}
+use Rattle.pg_ready.proofs.PgHistory.quiet.Phases.{Phase, backs, count, needs_free, outs}
+use Rattle.pg_ready.proofs.PgHistory.quiet.Phases.Phase.{Ahead, Confirmed, Done, Freed, Given, Over, Owned, Told, Wanted}
+use Rattle.pg_ready.proofs.PgHistory.quiet.Solo.{answered_more}
+use Rattle.pg_ready.proofs.PgHistory.quiet.Sums.{total, total_less, total_same}
+use Rattle.pg_ready.proofs.PgHistory.references.Keys.{at_upd, atoms, numbers, upd_at, upd_other}
+use Rattle.pg_ready.proofs.PgHistory.steps.Single.{ok_is}
+use Rattle.pg_ready.proofs.PgHistory.steps.Ways.{told_append}
 use Rattle.pg_retries.proofs.Hearing.{Bare, first, full_later, known_is, reported_is, sent_is, state_is, turn}
 use Rattle.pg_retries.proofs.Peers.{IsNone, IsPeer, Peer, Placed, knows, m, of_peer, of_peers, placed, some_pass}
 use Rattle.pg_retries.proofs.Served.{PeerGoes, confirmed_ok, confirmed_unseen, first_of_two, given_no_ok, peer_goes, sees_given}

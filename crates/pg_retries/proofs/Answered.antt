@@ -7,41 +7,41 @@ use Rattle.std.proofs.lemmas.Bool.{cases_eq, cases_lt, le-ltb, lt-ltb}
 use Rattle.std.proofs.lemmas.Bool.Decides.{Decides-ltb}
 use Rattle.pg_term.specs.RefParts.{RefParts}
 use Rattle.pg_term.specs.Same.{same_atom}
-use Rattle.pg_group.specs.declared.update.Update.{Update}
-use Rattle.pg_group.specs.Value.{name_of}
-use Rattle.pg_message.specs.declared.message.Message.{Message}
-use Rattle.pg_machine.specs.Clocked.{plain}
-use Rattle.pg_machine.specs.Happened.{Changes, Happened}
-use Rattle.pg_machine.specs.Losing.{LosingEvent, Noticed, Sent, Step, all_steps}
-use Rattle.pg_machine.specs.Machine.{Do, Event, Take, node_of}
-use Rattle.pg_machine.specs.Places.{is_pair}
-use Rattle.pg_machine.proofs.Steps.{changes, pair_apart}
-use Rattle.pg_step.specs.declared.command.OpId.{OpId}
-use Rattle.pg_step.specs.declared.refusal.Refusal.TheVariants.{NoSuchPlace, NotWaiting}
-use Rattle.pg_step.specs.Attempts.{attempt, is_asked, is_complete, tried_again, waits}
-use Rattle.pg_step.specs.Config.{Config, name_at, names_of, nodes_at, ports_at}
-use Rattle.pg_step.specs.FrameMachine.{losing_machine_of}
-use Rattle.pg_step.specs.LossLaws.{LosingFrameWorld}
-use Rattle.pg_step.specs.Nodes.{Node, Nodes}
-use Rattle.pg_step.specs.State.{Stage, State, Status, Use, formed, live_nodes}
-use Rattle.pg_step.specs.State.Stage.{Asking, Changing, Waiting}
-use Rattle.pg_step.specs.State.Status.{Asked, No, Unasked, Yes}
-use Rattle.pg_step.specs.State.Use.{Locking, Updating}
-use Rattle.pg_step.specs.Step.{Action, Retry, acted}
-use Rattle.pg_step.specs.Turns.{NodeTurn}
-use Rattle.pg_step.proofs.Once.{clash}
-use Rattle.pg_history.specs.Counted.{is_open}
-use Rattle.pg_history.specs.History.{IsAnsweredOk, answers_by}
-use Rattle.pg_history.specs.Quiet.{OnlyTakes}
-use Rattle.pg_history.proofs.ends.Apart.{pair_second, pair_swapped}
-use Rattle.pg_history.proofs.places.Shown.{IsHere}
-use Rattle.pg_history.proofs.quiet.Home.{IsFreed, OwnSees, Sees, SeesOk, attempt_result}
-use Rattle.pg_history.proofs.quiet.Phases.{Phase, backs, count, outs}
-use Rattle.pg_history.proofs.quiet.Phases.Phase.{Ahead, Confirmed, Done, Freed, Given, Over, Owned, Told, Wanted}
-use Rattle.pg_history.proofs.quiet.Sums.{find_place, total, total_all, total_le, total_tight}
-use Rattle.pg_history.proofs.steps.Single.{Makes, ok_is}
-use Rattle.pg_loss.proofs.Lossy.{Died, Passed, Went, bare, passed}
-use Rattle.pg_left.proofs.Passing.{Leads}
+use Rattle.pg_ready.specs.PgGroup.declared.update.Update.{Update}
+use Rattle.pg_ready.specs.PgGroup.Value.{name_of}
+use Rattle.pg_ready.specs.PgMessage.declared.message.Message.{Message}
+use Rattle.pg_ready.specs.PgMachine.Clocked.{plain}
+use Rattle.pg_ready.specs.PgMachine.Happened.{Changes, Happened}
+use Rattle.pg_ready.specs.PgMachine.Losing.{LosingEvent, Noticed, Sent, Step, all_steps}
+use Rattle.pg_ready.specs.PgMachine.Machine.{Do, Event, Take, node_of}
+use Rattle.pg_ready.specs.PgMachine.Places.{is_pair}
+use Rattle.pg_ready.proofs.PgMachine.Steps.{changes, pair_apart}
+use Rattle.pg_ready.specs.PgStep.declared.command.OpId.{OpId}
+use Rattle.pg_ready.specs.PgStep.declared.refusal.Refusal.TheVariants.{NoSuchPlace, NotWaiting}
+use Rattle.pg_ready.specs.PgStep.Attempts.{attempt, is_asked, is_complete, tried_again, waits}
+use Rattle.pg_ready.specs.PgStep.Config.{Config, name_at, names_of, nodes_at, ports_at}
+use Rattle.pg_ready.specs.PgStep.FrameMachine.{losing_machine_of}
+use Rattle.pg_ready.specs.PgStep.LossLaws.{LosingFrameWorld}
+use Rattle.pg_ready.specs.PgStep.Nodes.{Node, Nodes}
+use Rattle.pg_ready.specs.PgStep.State.{Stage, State, Status, Use, formed, live_nodes}
+use Rattle.pg_ready.specs.PgStep.State.Stage.{Asking, Changing, Waiting}
+use Rattle.pg_ready.specs.PgStep.State.Status.{Asked, No, Unasked, Yes}
+use Rattle.pg_ready.specs.PgStep.State.Use.{Locking, Updating}
+use Rattle.pg_ready.specs.PgStep.Step.{Action, Retry, acted}
+use Rattle.pg_ready.specs.PgStep.Turns.{NodeTurn}
+use Rattle.pg_ready.proofs.PgStep.Once.{clash}
+use Rattle.pg_ready.specs.PgHistory.Counted.{is_open}
+use Rattle.pg_ready.specs.PgHistory.History.{IsAnsweredOk, answers_by}
+use Rattle.pg_ready.specs.PgHistory.Quiet.{OnlyTakes}
+use Rattle.pg_ready.proofs.PgHistory.ends.Apart.{pair_second, pair_swapped}
+use Rattle.pg_ready.proofs.PgHistory.places.Shown.{IsHere}
+use Rattle.pg_ready.proofs.PgHistory.quiet.Home.{IsFreed, OwnSees, Sees, SeesOk, attempt_result}
+use Rattle.pg_ready.proofs.PgHistory.quiet.Phases.{Phase, backs, count, outs}
+use Rattle.pg_ready.proofs.PgHistory.quiet.Phases.Phase.{Ahead, Confirmed, Done, Freed, Given, Over, Owned, Told, Wanted}
+use Rattle.pg_ready.proofs.PgHistory.quiet.Sums.{find_place, total, total_all, total_le, total_tight}
+use Rattle.pg_ready.proofs.PgHistory.steps.Single.{Makes, ok_is}
+use Rattle.pg_ready.proofs.PgLoss.Lossy.{Died, Passed, Went, bare, passed}
+use Rattle.pg_ready.proofs.PgLeft.Passing.{Leads}
 use Rattle.pg_ready.specs.Ready.{is_ready}
 use Rattle.pg_ready.proofs.Going.{no_loss}
 use Rattle.pg_retries.proofs.Alone.{Alone, AtHome, Ends, End, Fewer, GoesOut, IsPeer_, Lock, Locks, Result_, Updates}

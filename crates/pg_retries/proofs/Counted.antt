@@ -5,36 +5,36 @@ use Rattle.std.specs.List.{Contains, list_any}
 use Rattle.std.proofs.lemmas.Bool.{eq-eqb}
 use Rattle.std.proofs.lemmas.Bool.Decides.{Decides-ltb}
 use Rattle.std.proofs.lemmas.List.{length-append}
-use Rattle.pg_message.specs.declared.message.Message.{Message}
-use Rattle.pg_machine.specs.Happened.{Happened}
-use Rattle.pg_machine.specs.Losing.{LosingEvent, Noticed, Step, all_steps, nobody_gone}
-use Rattle.pg_machine.specs.Machine.{Do, Event, Input, Own, Take, Taken, Turn, first_from, node_of, start_of}
-use Rattle.pg_machine.proofs.Options.{some_is}
-use Rattle.pg_step.specs.Config.{Config, ports_at}
-use Rattle.pg_step.specs.FrameMachine.{losing_frame_machine, losing_machine_of}
-use Rattle.pg_step.specs.LossLaws.{LosingFrameWorld}
-use Rattle.pg_step.specs.State.{Response, State}
-use Rattle.pg_step.specs.State.Response.{Given}
-use Rattle.pg_step.specs.Step.{Action, Issue, Retry}
-use Rattle.pg_step.specs.Turns.{Report}
-use Rattle.pg_step.specs.declared.answer.Reply.TheVariants as reply
-use Rattle.pg_step.specs.declared.command.OpId.{OpId}
-use Rattle.pg_history.specs.Counted.{is_open, open_at, open_in}
-use Rattle.pg_history.specs.History.{IsAnsweredOk, answers_by, has_answer}
-use Rattle.pg_history.specs.Quiet.{OnlyTakesAndRetries}
-use Rattle.pg_history.proofs.commands.CountRuns.{AllCounts}
-use Rattle.pg_history.proofs.commands.Ports.{counts_by, step_counts}
-use Rattle.pg_history.proofs.places.Shown.{IsHere}
-use Rattle.pg_history.proofs.quiet.Bounds.{open_in_total}
-use Rattle.pg_history.proofs.quiet.Sums.{total, total_le, total_lower}
-use Rattle.pg_history.proofs.steps.Ways.{state_after}
-use Rattle.pg_loss.specs.Quiet.{live_open}
-use Rattle.pg_loss.specs.Reached.{LosingReaches}
-use Rattle.pg_loss.proofs.Counting.{all_count}
-use Rattle.pg_loss.proofs.Lasts.{answers_later}
-use Rattle.pg_loss.proofs.Lossy.{Died, Makes, Passed, Sees, Steps, Went, bare, heard, makes, noted, passed}
-use Rattle.pg_loss.proofs.Standing.{standing}
-use Rattle.pg_left.proofs.Passing.{Leads}
+use Rattle.pg_ready.specs.PgMessage.declared.message.Message.{Message}
+use Rattle.pg_ready.specs.PgMachine.Happened.{Happened}
+use Rattle.pg_ready.specs.PgMachine.Losing.{LosingEvent, Noticed, Step, all_steps, nobody_gone}
+use Rattle.pg_ready.specs.PgMachine.Machine.{Do, Event, Input, Own, Take, Taken, Turn, first_from, node_of, start_of}
+use Rattle.pg_ready.proofs.PgMachine.Options.{some_is}
+use Rattle.pg_ready.specs.PgStep.Config.{Config, ports_at}
+use Rattle.pg_ready.specs.PgStep.FrameMachine.{losing_frame_machine, losing_machine_of}
+use Rattle.pg_ready.specs.PgStep.LossLaws.{LosingFrameWorld}
+use Rattle.pg_ready.specs.PgStep.State.{Response, State}
+use Rattle.pg_ready.specs.PgStep.State.Response.{Given}
+use Rattle.pg_ready.specs.PgStep.Step.{Action, Issue, Retry}
+use Rattle.pg_ready.specs.PgStep.Turns.{Report}
+use Rattle.pg_ready.specs.PgStep.declared.answer.Reply.TheVariants as reply
+use Rattle.pg_ready.specs.PgStep.declared.command.OpId.{OpId}
+use Rattle.pg_ready.specs.PgHistory.Counted.{is_open, open_at, open_in}
+use Rattle.pg_ready.specs.PgHistory.History.{IsAnsweredOk, answers_by, has_answer}
+use Rattle.pg_ready.specs.PgHistory.Quiet.{OnlyTakesAndRetries}
+use Rattle.pg_ready.proofs.PgHistory.commands.CountRuns.{AllCounts}
+use Rattle.pg_ready.proofs.PgHistory.commands.Ports.{counts_by, step_counts}
+use Rattle.pg_ready.proofs.PgHistory.places.Shown.{IsHere}
+use Rattle.pg_ready.proofs.PgHistory.quiet.Bounds.{open_in_total}
+use Rattle.pg_ready.proofs.PgHistory.quiet.Sums.{total, total_le, total_lower}
+use Rattle.pg_ready.proofs.PgHistory.steps.Ways.{state_after}
+use Rattle.pg_ready.specs.PgLoss.Quiet.{live_open}
+use Rattle.pg_ready.specs.PgLoss.Reached.{LosingReaches}
+use Rattle.pg_ready.proofs.PgLoss.Counting.{all_count}
+use Rattle.pg_ready.proofs.PgLoss.Lasts.{answers_later}
+use Rattle.pg_ready.proofs.PgLoss.Lossy.{Died, Makes, Passed, Sees, Steps, Went, bare, heard, makes, noted, passed}
+use Rattle.pg_ready.proofs.PgLoss.Standing.{standing}
+use Rattle.pg_ready.proofs.PgLeft.Passing.{Leads}
 use Rattle.pg_ready.proofs.Going.{no_loss}
 use Rattle.pg_retries.proofs.Reaching.{leads_on}
 

@@ -5,19 +5,19 @@ use Rattle.std.specs.List.{IsDistinct}
 use Rattle.std.proofs.Math.Nat.{add-mul, mul-le-mul_right, mul-suc}
 use Rattle.std.proofs.lemmas.List.{length-append}
 use Rattle.pg_term.specs.Same.{same_atom}
-use Rattle.pg_machine.specs.Losing.{LosingEvent, all_steps, nobody_gone}
-use Rattle.pg_machine.specs.Machine.{Do, Event, Take, start_of}
-use Rattle.pg_step.specs.Config.{Config, names_of}
-use Rattle.pg_step.specs.FrameMachine.{losing_frame_machine}
-use Rattle.pg_step.specs.LossLaws.{LosingFrameWorld}
-use Rattle.pg_step.specs.Step.{Action, CLOCK_LIMIT, Retry}
-use Rattle.pg_step.specs.declared.command.OpId.{OpId}
-use Rattle.pg_history.specs.Quiet.{OnlyTakes, OnlyTakesAndRetries, peer_count, total}
-use Rattle.pg_history.proofs.quiet.Answering.{both_too, takes_too}
-use Rattle.pg_history.proofs.quiet.Sums.{total_all, total_le}
-use Rattle.pg_loss.specs.Quiet.{IsQuietLive, live_open}
-use Rattle.pg_loss.specs.Reached.{LosingReaches}
-use Rattle.pg_left.proofs.Passing.{Leads}
+use Rattle.pg_ready.specs.PgMachine.Losing.{LosingEvent, all_steps, nobody_gone}
+use Rattle.pg_ready.specs.PgMachine.Machine.{Do, Event, Take, start_of}
+use Rattle.pg_ready.specs.PgStep.Config.{Config, names_of}
+use Rattle.pg_ready.specs.PgStep.FrameMachine.{losing_frame_machine}
+use Rattle.pg_ready.specs.PgStep.LossLaws.{LosingFrameWorld}
+use Rattle.pg_ready.specs.PgStep.Step.{Action, CLOCK_LIMIT, Retry}
+use Rattle.pg_ready.specs.PgStep.declared.command.OpId.{OpId}
+use Rattle.pg_ready.specs.PgHistory.Quiet.{OnlyTakes, OnlyTakesAndRetries, peer_count, total}
+use Rattle.pg_ready.proofs.PgHistory.quiet.Answering.{both_too, takes_too}
+use Rattle.pg_ready.proofs.PgHistory.quiet.Sums.{total_all, total_le}
+use Rattle.pg_ready.specs.PgLoss.Quiet.{IsQuietLive, live_open}
+use Rattle.pg_ready.specs.PgLoss.Reached.{LosingReaches}
+use Rattle.pg_ready.proofs.PgLeft.Passing.{Leads}
 use Rattle.pg_ready.specs.Ready.{HasRoomLive, NoneReadyLive}
 use Rattle.pg_retries.specs.Retried.{FreesLocks, NoneOpenLive, RetryGoesPastLosses, live_count, live_peer_count}
 use Rattle.pg_retries.specs.Retried.{most_events_live, most_events_to_free}

@@ -3,20 +3,20 @@ use Rattle.std.proofs.Common.{◌≡◌, ◌⊎◌, inl, inr, ℕ, ◌+◌, ◌<
 use Rattle.std.proofs.Common.{refl, ap, sym, ◌∙◌, arith}
 use Rattle.std.proofs.lemmas.Bool.{cases_lt}
 use Rattle.std.proofs.lemmas.Bool.Decides.{Decides-ltb}
-use Rattle.pg_machine.specs.Losing.{LosingEvent}
-use Rattle.pg_machine.specs.Places.{is_place}
-use Rattle.pg_step.specs.Config.{Config, ports_at}
-use Rattle.pg_step.specs.LossLaws.{LosingFrameWorld}
-use Rattle.pg_step.specs.Step.{Action}
-use Rattle.pg_step.specs.declared.command.OpId.{OpId}
-use Rattle.pg_history.specs.Counted.{is_open}
-use Rattle.pg_history.proofs.commands.Counting.{Counts}
-use Rattle.pg_history.proofs.places.Shown.{IsHere}
-use Rattle.pg_history.proofs.quiet.Bounds.{some_open}
-use Rattle.pg_history.proofs.quiet.Sums.{find_place, total_term}
-use Rattle.pg_loss.specs.Quiet.{live_open}
-use Rattle.pg_loss.specs.Reached.{LosingReaches}
-use Rattle.pg_loss.proofs.Counting.{all_count}
+use Rattle.pg_ready.specs.PgMachine.Losing.{LosingEvent}
+use Rattle.pg_ready.specs.PgMachine.Places.{is_place}
+use Rattle.pg_ready.specs.PgStep.Config.{Config, ports_at}
+use Rattle.pg_ready.specs.PgStep.LossLaws.{LosingFrameWorld}
+use Rattle.pg_ready.specs.PgStep.Step.{Action}
+use Rattle.pg_ready.specs.PgStep.declared.command.OpId.{OpId}
+use Rattle.pg_ready.specs.PgHistory.Counted.{is_open}
+use Rattle.pg_ready.proofs.PgHistory.commands.Counting.{Counts}
+use Rattle.pg_ready.proofs.PgHistory.places.Shown.{IsHere}
+use Rattle.pg_ready.proofs.PgHistory.quiet.Bounds.{some_open}
+use Rattle.pg_ready.proofs.PgHistory.quiet.Sums.{find_place, total_term}
+use Rattle.pg_ready.specs.PgLoss.Quiet.{live_open}
+use Rattle.pg_ready.specs.PgLoss.Reached.{LosingReaches}
+use Rattle.pg_ready.proofs.PgLoss.Counting.{all_count}
 use Rattle.pg_retries.specs.Retried.{NoneOpenLive}
 
 pub record OpenOne (config : Config) (w : LosingFrameWorld) : Type 0 where

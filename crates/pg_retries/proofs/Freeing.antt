@@ -4,21 +4,21 @@ use Rattle.std.proofs.Common.{List, [], ◌∷◌, ◌++◌, refl, ap, ◌∙◌
 use Rattle.std.specs.List.{IsDistinct}
 use Rattle.std.proofs.Math.Nat.{add-mul, mul-le-mul_left}
 use Rattle.pg_term.specs.Same.{same_atom}
-use Rattle.pg_machine.specs.Losing.{LosingEvent, Step, all_steps, nobody_gone}
-use Rattle.pg_machine.specs.Machine.{Do, Event, Take, start_of}
-use Rattle.pg_machine.proofs.Steps.{happened}
-use Rattle.pg_step.specs.Config.{Config, names_of}
-use Rattle.pg_step.specs.FrameMachine.{losing_frame_machine}
-use Rattle.pg_step.specs.LossLaws.{LosingFrameWorld}
-use Rattle.pg_step.specs.Step.{Action, CLOCK_LIMIT, Issue, Retry}
-use Rattle.pg_step.specs.declared.command.OpId.{OpId}
-use Rattle.pg_history.specs.Quiet.{OnlyTakes, OnlyTakesAndRetries, peer_count}
-use Rattle.pg_history.proofs.places.Shown.{IsHere}
-use Rattle.pg_history.proofs.quiet.Answering.{takes_too}
-use Rattle.pg_loss.specs.Quiet.{IsQuietLive, live_open, most_takes_live}
-use Rattle.pg_loss.specs.Reached.{LosingReaches}
-use Rattle.pg_loss.proofs.Takes.{takes_end}
-use Rattle.pg_left.proofs.Passing.{Leads, Leaves, leads_more}
+use Rattle.pg_ready.specs.PgMachine.Losing.{LosingEvent, Step, all_steps, nobody_gone}
+use Rattle.pg_ready.specs.PgMachine.Machine.{Do, Event, Take, start_of}
+use Rattle.pg_ready.proofs.PgMachine.Steps.{happened}
+use Rattle.pg_ready.specs.PgStep.Config.{Config, names_of}
+use Rattle.pg_ready.specs.PgStep.FrameMachine.{losing_frame_machine}
+use Rattle.pg_ready.specs.PgStep.LossLaws.{LosingFrameWorld}
+use Rattle.pg_ready.specs.PgStep.Step.{Action, CLOCK_LIMIT, Issue, Retry}
+use Rattle.pg_ready.specs.PgStep.declared.command.OpId.{OpId}
+use Rattle.pg_ready.specs.PgHistory.Quiet.{OnlyTakes, OnlyTakesAndRetries, peer_count}
+use Rattle.pg_ready.proofs.PgHistory.places.Shown.{IsHere}
+use Rattle.pg_ready.proofs.PgHistory.quiet.Answering.{takes_too}
+use Rattle.pg_ready.specs.PgLoss.Quiet.{IsQuietLive, live_open, most_takes_live}
+use Rattle.pg_ready.specs.PgLoss.Reached.{LosingReaches}
+use Rattle.pg_ready.proofs.PgLoss.Takes.{takes_end}
+use Rattle.pg_ready.proofs.PgLeft.Passing.{Leads, Leaves, leads_more}
 use Rattle.pg_ready.specs.Ready.{HasRoomLive, LossesSeen, NoneReadyLive, OnlyRetries, is_ready_at}
 use Rattle.pg_ready.proofs.Resting.{Next, Rests, comes_to_rest, next_is_taken, next_or_quiet, on_time, room_left, went}
 use Rattle.pg_ready.proofs.Retried.{no_lock, seen_later}

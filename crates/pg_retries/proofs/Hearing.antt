@@ -1,23 +1,23 @@
 -- A packet that is taken where nodes were lost, and what a node does of its own: what was first on its way, and what is made of it.
 use Rattle.std.proofs.Common.{◌≡◌, ℕ, true, cond, map, List, [], ◌∷◌, ◌++◌, Some, Ok, refl, ap, sym, ◌∙◌}
-use Rattle.pg_message.specs.declared.message.Message.{Message}
-use Rattle.pg_machine.specs.Happened.{Changes, Happened}
-use Rattle.pg_machine.specs.Losing.{Noticed, Sent, mapped_turn}
-use Rattle.pg_machine.specs.Machine.{Do, Event, Own, Take, Taken, Turn, World, first_from, node_of}
-use Rattle.pg_machine.proofs.Options.{map_is_some, some_is}
-use Rattle.pg_machine.proofs.Steps.{changes}
-use Rattle.pg_step.specs.Config.{Config, name_at, nodes_at, ports_at}
-use Rattle.pg_step.specs.FrameMachine.{losing_machine_of, node_step, place_turn}
-use Rattle.pg_step.specs.State.{State, formed, live_nodes}
-use Rattle.pg_step.specs.Step.{Action, acted, taken}
-use Rattle.pg_step.specs.Turns.{NodeTurn, Report}
-use Rattle.pg_history.proofs.places.Shown.{IsHere}
-use Rattle.pg_history.proofs.steps.Lasting.{all_stay}
-use Rattle.pg_history.proofs.steps.Lossless.{step_sees_none}
-use Rattle.pg_history.proofs.steps.Made.{did_so, took_so}
-use Rattle.pg_history.proofs.steps.Ways.{state_after}
-use Rattle.pg_loss.proofs.Lasts.{made_stays}
-use Rattle.pg_loss.proofs.Lossy.{makes}
+use Rattle.pg_ready.specs.PgMessage.declared.message.Message.{Message}
+use Rattle.pg_ready.specs.PgMachine.Happened.{Changes, Happened}
+use Rattle.pg_ready.specs.PgMachine.Losing.{Noticed, Sent, mapped_turn}
+use Rattle.pg_ready.specs.PgMachine.Machine.{Do, Event, Own, Take, Taken, Turn, World, first_from, node_of}
+use Rattle.pg_ready.proofs.PgMachine.Options.{map_is_some, some_is}
+use Rattle.pg_ready.proofs.PgMachine.Steps.{changes}
+use Rattle.pg_ready.specs.PgStep.Config.{Config, name_at, nodes_at, ports_at}
+use Rattle.pg_ready.specs.PgStep.FrameMachine.{losing_machine_of, node_step, place_turn}
+use Rattle.pg_ready.specs.PgStep.State.{State, formed, live_nodes}
+use Rattle.pg_ready.specs.PgStep.Step.{Action, acted, taken}
+use Rattle.pg_ready.specs.PgStep.Turns.{NodeTurn, Report}
+use Rattle.pg_ready.proofs.PgHistory.places.Shown.{IsHere}
+use Rattle.pg_ready.proofs.PgHistory.steps.Lasting.{all_stay}
+use Rattle.pg_ready.proofs.PgHistory.steps.Lossless.{step_sees_none}
+use Rattle.pg_ready.proofs.PgHistory.steps.Made.{did_so, took_so}
+use Rattle.pg_ready.proofs.PgHistory.steps.Ways.{state_after}
+use Rattle.pg_ready.proofs.PgLoss.Lasts.{made_stays}
+use Rattle.pg_ready.proofs.PgLoss.Lossy.{makes}
 
 -- the nodes without their clocks, where they can be lost
 abbrev pub Bare : Type 0

@@ -9,3 +9,6 @@ pub mod Peers
 pub mod Reaching
 pub mod Served
 pub mod Settling
+pub use Rattle.pg_ready.proofs.PgHistory
+pub use Rattle.pg_ready.proofs.PgLeft
+pub use Rattle.pg_ready.proofs.PgLoss

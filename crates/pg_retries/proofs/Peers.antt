@@ -6,19 +6,19 @@ use Rattle.std.specs.List.{IsDistinct, filter, list_all}
 use Rattle.std.proofs.lemmas.Bool.{and_from, cases_eq}
 use Rattle.std.proofs.lemmas.Bool.Decides.{Decides-ltb}
 use Rattle.pg_term.specs.Same.{same_atom}
-use Rattle.pg_machine.specs.Places.{is_pair}
-use Rattle.pg_machine.proofs.Steps.{pair_apart}
-use Rattle.pg_step.specs.Config.{Config, name_at, names_of, nodes_at}
-use Rattle.pg_step.specs.Nodes.{Node, Nodes, is_peer}
-use Rattle.pg_history.proofs.ends.Apart.{pair_second, place_below}
-use Rattle.pg_history.proofs.places.Shown.{IsHere}
-use Rattle.pg_history.proofs.quiet.Home.{Knows}
-use Rattle.pg_history.proofs.quiet.Rest.{each_peer, pair_of}
-use Rattle.pg_history.proofs.quiet.Solo.{knows as knows_all}
-use Rattle.pg_history.proofs.quiet.Sums.{but, but_here, but_other, total, total_change, total_same, total_scale}
-use Rattle.pg_history.proofs.tables.Formed.{all_others}
-use Rattle.pg_loss.proofs.Bridge.{any_filter}
-use Rattle.pg_loss.proofs.Retries.{every_left}
+use Rattle.pg_ready.specs.PgMachine.Places.{is_pair}
+use Rattle.pg_ready.proofs.PgMachine.Steps.{pair_apart}
+use Rattle.pg_ready.specs.PgStep.Config.{Config, name_at, names_of, nodes_at}
+use Rattle.pg_ready.specs.PgStep.Nodes.{Node, Nodes, is_peer}
+use Rattle.pg_ready.proofs.PgHistory.ends.Apart.{pair_second, place_below}
+use Rattle.pg_ready.proofs.PgHistory.places.Shown.{IsHere}
+use Rattle.pg_ready.proofs.PgHistory.quiet.Home.{Knows}
+use Rattle.pg_ready.proofs.PgHistory.quiet.Rest.{each_peer, pair_of}
+use Rattle.pg_ready.proofs.PgHistory.quiet.Solo.{knows as knows_all}
+use Rattle.pg_ready.proofs.PgHistory.quiet.Sums.{but, but_here, but_other, total, total_change, total_same, total_scale}
+use Rattle.pg_ready.proofs.PgHistory.tables.Formed.{all_others}
+use Rattle.pg_ready.proofs.PgLoss.Bridge.{any_filter}
+use Rattle.pg_ready.proofs.PgLoss.Retries.{every_left}
 
 -- ---- those of a list that count
 

@@ -5,46 +5,46 @@ use Rattle.std.specs.Prelude.{option_map}
 use Rattle.std.specs.List.{IsDistinct}
 use Rattle.std.proofs.lemmas.Bool.{cases_eq, cases_lt, le-leb, le-ltb, lt-ltb}
 use Rattle.pg_term.specs.Same.{same_atom}
-use Rattle.pg_group.specs.declared.update.Update.{Update}
-use Rattle.pg_group.specs.Value.{name_of}
-use Rattle.pg_message.specs.declared.message.Message.{Message}
-use Rattle.pg_machine.specs.Clocked.{Stamped, next_clock, packets_of, plain}
-use Rattle.pg_machine.specs.Happened.{Happened}
-use Rattle.pg_machine.specs.Losing.{LosingEvent, Noticed, Sent, Step, all_steps, losing_happens, mapped_turn, nobody_gone}
-use Rattle.pg_machine.specs.Machine.{Do, Event, Input, Own, Take, Taken, Turn, happens, node_of, perform, start_of}
-use Rattle.pg_machine.specs.Places.{is_pair}
-use Rattle.pg_machine.proofs.Options.{map_is_some}
-use Rattle.pg_machine.proofs.Plain.{plain_happens}
-use Rattle.pg_machine.proofs.Timing.{ticks}
+use Rattle.pg_ready.specs.PgGroup.declared.update.Update.{Update}
+use Rattle.pg_ready.specs.PgGroup.Value.{name_of}
+use Rattle.pg_ready.specs.PgMessage.declared.message.Message.{Message}
+use Rattle.pg_ready.specs.PgMachine.Clocked.{Stamped, next_clock, packets_of, plain}
+use Rattle.pg_ready.specs.PgMachine.Happened.{Happened}
+use Rattle.pg_ready.specs.PgMachine.Losing.{LosingEvent, Noticed, Sent, Step, all_steps, losing_happens, mapped_turn, nobody_gone}
+use Rattle.pg_ready.specs.PgMachine.Machine.{Do, Event, Input, Own, Take, Taken, Turn, happens, node_of, perform, start_of}
+use Rattle.pg_ready.specs.PgMachine.Places.{is_pair}
+use Rattle.pg_ready.proofs.PgMachine.Options.{map_is_some}
+use Rattle.pg_ready.proofs.PgMachine.Plain.{plain_happens}
+use Rattle.pg_ready.proofs.PgMachine.Timing.{ticks}
 use Rattle.std.specs.List.{AllByRecursion}
-use Rattle.pg_machine.proofs.Steps.{pair_apart, happened, happens_so}
-use Rattle.pg_step.specs.declared.command.OpId.{OpId}
-use Rattle.pg_step.specs.declared.refusal.Refusal.TheVariants.{NoSuchPlace, NotWaiting}
-use Rattle.pg_step.specs.Attempts.{tried_again, waits}
-use Rattle.pg_step.specs.Config.{Config, name_at, names_of, nodes_at, ports_at}
-use Rattle.pg_step.specs.FrameMachine.{last_notice, losing_frame_machine, losing_machine_of, place_turn, placed}
-use Rattle.pg_step.specs.LossLaws.{LosingFrameWorld}
-use Rattle.pg_step.specs.Nodes.{Node, Nodes}
-use Rattle.pg_step.specs.State.{State, live_nodes}
-use Rattle.pg_step.specs.State.Stage.{Asking, Changing, Closed, Waiting}
-use Rattle.pg_step.specs.State.{Stage}
-use Rattle.pg_step.specs.Step.{Action, CLOCK_LIMIT, Retry}
-use Rattle.pg_step.specs.Turns.{Report}
-use Rattle.pg_history.specs.Counted.{is_open}
-use Rattle.pg_history.specs.Quiet.{OnlyTakes}
-use Rattle.pg_history.proofs.ends.Apart.{pair_first, pair_second}
-use Rattle.pg_history.proofs.steps.Ways.{packet_there, pair_there}
-use Rattle.pg_history.proofs.places.Shown.{IsHere}
-use Rattle.pg_history.proofs.quiet.Sums.{total}
-use Rattle.pg_loss.specs.Quiet.{IsQuietLive}
-use Rattle.pg_loss.specs.Reached.{LosingReaches}
-use Rattle.pg_loss.proofs.Bridge.{live_same, not_true}
-use Rattle.pg_loss.proofs.Bridges.{Bridged, bridged}
-use Rattle.pg_loss.proofs.Counting.{all_count}
-use Rattle.pg_loss.proofs.Formation.{is_formed_live}
-use Rattle.pg_loss.proofs.Lossy.{Died, Passed, Went, bare, passed}
-use Rattle.pg_loss.proofs.Retries.{waits_for_retries}
-use Rattle.pg_left.proofs.Passing.{Leads, Leaves, leads_more}
+use Rattle.pg_ready.proofs.PgMachine.Steps.{pair_apart, happened, happens_so}
+use Rattle.pg_ready.specs.PgStep.declared.command.OpId.{OpId}
+use Rattle.pg_ready.specs.PgStep.declared.refusal.Refusal.TheVariants.{NoSuchPlace, NotWaiting}
+use Rattle.pg_ready.specs.PgStep.Attempts.{tried_again, waits}
+use Rattle.pg_ready.specs.PgStep.Config.{Config, name_at, names_of, nodes_at, ports_at}
+use Rattle.pg_ready.specs.PgStep.FrameMachine.{last_notice, losing_frame_machine, losing_machine_of, place_turn, placed}
+use Rattle.pg_ready.specs.PgStep.LossLaws.{LosingFrameWorld}
+use Rattle.pg_ready.specs.PgStep.Nodes.{Node, Nodes}
+use Rattle.pg_ready.specs.PgStep.State.{State, live_nodes}
+use Rattle.pg_ready.specs.PgStep.State.Stage.{Asking, Changing, Closed, Waiting}
+use Rattle.pg_ready.specs.PgStep.State.{Stage}
+use Rattle.pg_ready.specs.PgStep.Step.{Action, CLOCK_LIMIT, Retry}
+use Rattle.pg_ready.specs.PgStep.Turns.{Report}
+use Rattle.pg_ready.specs.PgHistory.Counted.{is_open}
+use Rattle.pg_ready.specs.PgHistory.Quiet.{OnlyTakes}
+use Rattle.pg_ready.proofs.PgHistory.ends.Apart.{pair_first, pair_second}
+use Rattle.pg_ready.proofs.PgHistory.steps.Ways.{packet_there, pair_there}
+use Rattle.pg_ready.proofs.PgHistory.places.Shown.{IsHere}
+use Rattle.pg_ready.proofs.PgHistory.quiet.Sums.{total}
+use Rattle.pg_ready.specs.PgLoss.Quiet.{IsQuietLive}
+use Rattle.pg_ready.specs.PgLoss.Reached.{LosingReaches}
+use Rattle.pg_ready.proofs.PgLoss.Bridge.{live_same, not_true}
+use Rattle.pg_ready.proofs.PgLoss.Bridges.{Bridged, bridged}
+use Rattle.pg_ready.proofs.PgLoss.Counting.{all_count}
+use Rattle.pg_ready.proofs.PgLoss.Formation.{is_formed_live}
+use Rattle.pg_ready.proofs.PgLoss.Lossy.{Died, Passed, Went, bare, passed}
+use Rattle.pg_ready.proofs.PgLoss.Retries.{waits_for_retries}
+use Rattle.pg_ready.proofs.PgLeft.Passing.{Leads, Leaves, leads_more}
 use Rattle.pg_ready.specs.Ready.{HasRoomLive, LossesSeen, NoLockLive, NoneReadyLive, is_ready, is_ready_at}
 use Rattle.pg_ready.proofs.Going.{no_loss, retry_is}
 use Rattle.pg_ready.proofs.Resting.{next_with_room, on_time, room_left, went}
@@ -53,7 +53,7 @@ use Rattle.pg_ready.proofs.Silence.{all_silent, among_live}
 use Rattle.pg_retries.specs.Retried.{HasRoomAmongLive, IsFreeLive, RetryGoesPastLosses, live_peer_count}
 use Rattle.pg_retries.proofs.Alone.{Alone, weight}
 use Rattle.pg_retries.proofs.Answered.{IsStill, begun, begun_many, ends_answered, opens, some_packet, still_again, taken_all}
-use Rattle.pg_history.proofs.quiet.Phases.Phase.{Ahead}
+use Rattle.pg_ready.proofs.PgHistory.quiet.Phases.Phase.{Ahead}
 
 -- ---- runs
 

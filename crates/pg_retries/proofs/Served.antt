@@ -2,25 +2,25 @@
 use Rattle.std.proofs.Common.{◌≡◌, ◌≢◌, ℕ, suc, Bool, true, false, ◌&&◌, cond, List, [], ◌∷◌, ◌++◌, None, Ok}
 use Rattle.std.proofs.Common.{refl, ap, sym, ◌∙◌, subst}
 use Rattle.pg_term.specs.Same.{same_atom}
-use Rattle.pg_refs.specs.Numbered.{numbered}
-use Rattle.pg_group.specs.declared.update.Update.{Update}
-use Rattle.pg_group.specs.Value.{name_of}
-use Rattle.pg_lock.specs.Locks.{is_free}
-use Rattle.pg_message.specs.declared.message.Message.{Message}
-use Rattle.pg_message.specs.declared.message.Message.TheVariants.{Call, Reply, DelLock}
-use Rattle.pg_message.specs.declared.message.Request.TheVariants.{SetLock, Change}
-use Rattle.pg_message.specs.declared.message.Said.TheVariants.{Applied}
-use Rattle.pg_step.specs.Nodes.{Node, Nodes}
-use Rattle.pg_step.specs.Peers.{lock_request, lock_freed, update_request, verdict, would_grant}
-use Rattle.pg_step.specs.State.{State, Status, formed}
-use Rattle.pg_step.specs.State.Status.{Asked, No, Unasked, Yes}
-use Rattle.pg_step.specs.Step.{taken}
-use Rattle.pg_step.specs.Turns.{NodeTurn}
-use Rattle.pg_history.proofs.quiet.Home.{IsFreed, Sees, SeesOk}
-use Rattle.pg_history.proofs.quiet.Phases.{Phase, backs, count, needs_free, outs}
-use Rattle.pg_history.proofs.quiet.Phases.Phase.{Ahead, Confirmed, Done, Freed, Given, Over, Owned, Told, Wanted}
-use Rattle.pg_history.proofs.references.Keys.{atoms, differ}
-use Rattle.pg_history.proofs.steps.Single.{ok_is}
+use Rattle.pg_ready.specs.PgRefs.Numbered.{numbered}
+use Rattle.pg_ready.specs.PgGroup.declared.update.Update.{Update}
+use Rattle.pg_ready.specs.PgGroup.Value.{name_of}
+use Rattle.pg_ready.specs.PgLock.Locks.{is_free}
+use Rattle.pg_ready.specs.PgMessage.declared.message.Message.{Message}
+use Rattle.pg_ready.specs.PgMessage.declared.message.Message.TheVariants.{Call, Reply, DelLock}
+use Rattle.pg_ready.specs.PgMessage.declared.message.Request.TheVariants.{SetLock, Change}
+use Rattle.pg_ready.specs.PgMessage.declared.message.Said.TheVariants.{Applied}
+use Rattle.pg_ready.specs.PgStep.Nodes.{Node, Nodes}
+use Rattle.pg_ready.specs.PgStep.Peers.{lock_request, lock_freed, update_request, verdict, would_grant}
+use Rattle.pg_ready.specs.PgStep.State.{State, Status, formed}
+use Rattle.pg_ready.specs.PgStep.State.Status.{Asked, No, Unasked, Yes}
+use Rattle.pg_ready.specs.PgStep.Step.{taken}
+use Rattle.pg_ready.specs.PgStep.Turns.{NodeTurn}
+use Rattle.pg_ready.proofs.PgHistory.quiet.Home.{IsFreed, Sees, SeesOk}
+use Rattle.pg_ready.proofs.PgHistory.quiet.Phases.{Phase, backs, count, needs_free, outs}
+use Rattle.pg_ready.proofs.PgHistory.quiet.Phases.Phase.{Ahead, Confirmed, Done, Freed, Given, Over, Owned, Told, Wanted}
+use Rattle.pg_ready.proofs.PgHistory.references.Keys.{atoms, differ}
+use Rattle.pg_ready.proofs.PgHistory.steps.Single.{ok_is}
 
 -- ---- what the node keeps of a peer whose phase is known
 

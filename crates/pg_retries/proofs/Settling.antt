@@ -8,51 +8,51 @@ use Rattle.std.proofs.Math.Nat.{mul-le-mul_left, mul-suc}
 use Rattle.std.proofs.lemmas.Bool.{cases_eq, eq-eqb, ne_eqb}
 use Rattle.std.proofs.lemmas.Bool.Decides.{Decides-ltb}
 use Rattle.pg_term.specs.Same.{same_atom}
-use Rattle.pg_group.specs.declared.update.Update.{Update}
-use Rattle.pg_group.specs.Functions.{upd}
-use Rattle.pg_group.specs.Value.{name_of}
-use Rattle.pg_lock.specs.Attempts.{after_round, does_wait}
-use Rattle.pg_message.specs.declared.message.Message.{Message}
-use Rattle.pg_message.specs.declared.message.Message.TheVariants.{DelLock}
-use Rattle.pg_machine.specs.Clocked.{packets_of}
-use Rattle.pg_machine.specs.Happened.{Changes, Happened, Takes}
-use Rattle.pg_machine.specs.Losing.{Last, LosingEvent, Noticed, Sent, Step, mapped_turn}
-use Rattle.pg_machine.specs.Machine.{Do, Event, Take, Turn, node_of}
-use Rattle.pg_machine.specs.Places.{is_pair, is_place}
-use Rattle.pg_machine.proofs.Steps.{changes, pair_apart}
-use Rattle.pg_step.specs.declared.command.OpId.{OpId}
-use Rattle.pg_step.specs.declared.refusal.Refusal.TheVariants.{NoSuchPlace, NotWaiting}
-use Rattle.pg_step.specs.Attempts.{ask, finish, give_up, go_on, is_complete, locks_in, none_denied, own_reference}
-use Rattle.pg_step.specs.Attempts.{replies_in, round_of, tried_again, waits}
-use Rattle.pg_step.specs.Config.{Config, name_at, names_of, nodes_at, ports_at}
-use Rattle.pg_step.specs.FrameMachine.{losing_machine_of, place_turn}
-use Rattle.pg_step.specs.LossLaws.{LosingFrameWorld}
-use Rattle.pg_step.specs.Nodes.{Node, Nodes, is_peer, to_peers}
-use Rattle.pg_step.specs.State.{Stage, State, Use, live_nodes}
-use Rattle.pg_step.specs.State.Stage.{Asking, Changing, Closed, Waiting}
-use Rattle.pg_step.specs.State.Use.{Fresh, Locking, Owning, Spent, Updating}
-use Rattle.pg_step.specs.Step.{Action, Retry, acted}
-use Rattle.pg_step.specs.Turns.{NodeTurn, Report, and_then, becomes}
-use Rattle.pg_history.specs.Quiet.{peer_count}
-use Rattle.pg_history.proofs.ends.Apart.{pair_first, pair_second}
-use Rattle.pg_history.proofs.places.Shown.{IsHere}
-use Rattle.pg_history.proofs.quiet.Bounds.{node_light, own_no_peer, some_open}
-use Rattle.pg_history.proofs.quiet.Ending.{to_one_place}
-use Rattle.pg_history.proofs.quiet.Linked.{HasReference, IsLockingOf, IsUpdatingOf, Linked}
-use Rattle.pg_history.proofs.quiet.Rest.{IsAtRest, pair_of}
-use Rattle.pg_history.proofs.quiet.Sums.{but, but_other, total, total_add, total_all, total_but, total_change}
-use Rattle.pg_history.proofs.quiet.Sums.{total_changes, total_le, total_lower, total_same, total_scale}
-use Rattle.pg_history.proofs.quiet.Weights.{Lessens, Made, Pays, gives_up_pay, node_weight, packet_lessens, packet_weight}
-use Rattle.pg_history.proofs.quiet.Weights.{round_goes_pay, sent_weight, use_weight, weigh}
-use Rattle.pg_history.proofs.references.Keys.{at_upd, numbers}
-use Rattle.pg_history.proofs.steps.Single.{Makes, ok_is}
-use Rattle.pg_loss.specs.Quiet.{IsQuietLive, live_open}
-use Rattle.pg_loss.specs.Reached.{LosingReaches}
-use Rattle.pg_loss.proofs.Bridge.{Left, any_filter, live_same, not_true}
-use Rattle.pg_loss.proofs.Bridges.{Bridged, bridged}
-use Rattle.pg_loss.proofs.Counting.{all_count}
-use Rattle.pg_loss.proofs.Lossy.{Died, Lossy, Passed, Went, bare, passed}
-use Rattle.pg_left.proofs.Passing.{Leaves}
+use Rattle.pg_ready.specs.PgGroup.declared.update.Update.{Update}
+use Rattle.pg_ready.specs.PgGroup.Functions.{upd}
+use Rattle.pg_ready.specs.PgGroup.Value.{name_of}
+use Rattle.pg_ready.specs.PgLock.Attempts.{after_round, does_wait}
+use Rattle.pg_ready.specs.PgMessage.declared.message.Message.{Message}
+use Rattle.pg_ready.specs.PgMessage.declared.message.Message.TheVariants.{DelLock}
+use Rattle.pg_ready.specs.PgMachine.Clocked.{packets_of}
+use Rattle.pg_ready.specs.PgMachine.Happened.{Changes, Happened, Takes}
+use Rattle.pg_ready.specs.PgMachine.Losing.{Last, LosingEvent, Noticed, Sent, Step, mapped_turn}
+use Rattle.pg_ready.specs.PgMachine.Machine.{Do, Event, Take, Turn, node_of}
+use Rattle.pg_ready.specs.PgMachine.Places.{is_pair, is_place}
+use Rattle.pg_ready.proofs.PgMachine.Steps.{changes, pair_apart}
+use Rattle.pg_ready.specs.PgStep.declared.command.OpId.{OpId}
+use Rattle.pg_ready.specs.PgStep.declared.refusal.Refusal.TheVariants.{NoSuchPlace, NotWaiting}
+use Rattle.pg_ready.specs.PgStep.Attempts.{ask, finish, give_up, go_on, is_complete, locks_in, none_denied, own_reference}
+use Rattle.pg_ready.specs.PgStep.Attempts.{replies_in, round_of, tried_again, waits}
+use Rattle.pg_ready.specs.PgStep.Config.{Config, name_at, names_of, nodes_at, ports_at}
+use Rattle.pg_ready.specs.PgStep.FrameMachine.{losing_machine_of, place_turn}
+use Rattle.pg_ready.specs.PgStep.LossLaws.{LosingFrameWorld}
+use Rattle.pg_ready.specs.PgStep.Nodes.{Node, Nodes, is_peer, to_peers}
+use Rattle.pg_ready.specs.PgStep.State.{Stage, State, Use, live_nodes}
+use Rattle.pg_ready.specs.PgStep.State.Stage.{Asking, Changing, Closed, Waiting}
+use Rattle.pg_ready.specs.PgStep.State.Use.{Fresh, Locking, Owning, Spent, Updating}
+use Rattle.pg_ready.specs.PgStep.Step.{Action, Retry, acted}
+use Rattle.pg_ready.specs.PgStep.Turns.{NodeTurn, Report, and_then, becomes}
+use Rattle.pg_ready.specs.PgHistory.Quiet.{peer_count}
+use Rattle.pg_ready.proofs.PgHistory.ends.Apart.{pair_first, pair_second}
+use Rattle.pg_ready.proofs.PgHistory.places.Shown.{IsHere}
+use Rattle.pg_ready.proofs.PgHistory.quiet.Bounds.{node_light, own_no_peer, some_open}
+use Rattle.pg_ready.proofs.PgHistory.quiet.Ending.{to_one_place}
+use Rattle.pg_ready.proofs.PgHistory.quiet.Linked.{HasReference, IsLockingOf, IsUpdatingOf, Linked}
+use Rattle.pg_ready.proofs.PgHistory.quiet.Rest.{IsAtRest, pair_of}
+use Rattle.pg_ready.proofs.PgHistory.quiet.Sums.{but, but_other, total, total_add, total_all, total_but, total_change}
+use Rattle.pg_ready.proofs.PgHistory.quiet.Sums.{total_changes, total_le, total_lower, total_same, total_scale}
+use Rattle.pg_ready.proofs.PgHistory.quiet.Weights.{Lessens, Made, Pays, gives_up_pay, node_weight, packet_lessens, packet_weight}
+use Rattle.pg_ready.proofs.PgHistory.quiet.Weights.{round_goes_pay, sent_weight, use_weight, weigh}
+use Rattle.pg_ready.proofs.PgHistory.references.Keys.{at_upd, numbers}
+use Rattle.pg_ready.proofs.PgHistory.steps.Single.{Makes, ok_is}
+use Rattle.pg_ready.specs.PgLoss.Quiet.{IsQuietLive, live_open}
+use Rattle.pg_ready.specs.PgLoss.Reached.{LosingReaches}
+use Rattle.pg_ready.proofs.PgLoss.Bridge.{Left, any_filter, live_same, not_true}
+use Rattle.pg_ready.proofs.PgLoss.Bridges.{Bridged, bridged}
+use Rattle.pg_ready.proofs.PgLoss.Counting.{all_count}
+use Rattle.pg_ready.proofs.PgLoss.Lossy.{Died, Lossy, Passed, Went, bare, passed}
+use Rattle.pg_ready.proofs.PgLeft.Passing.{Leaves}
 use Rattle.pg_ready.specs.Ready.{LossesSeen, is_ready, is_ready_at}
 use Rattle.pg_ready.proofs.Going.{no_loss, ready_waits, retry_is}
 use Rattle.pg_ready.proofs.Holders.{all_linked}

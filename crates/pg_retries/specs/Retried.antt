@@ -2,23 +2,23 @@
 use Rattle.std.specs.Prelude.{◌≡◌, ℕ, ◌+◌, ◌-◌, ◌*◌, ◌<◌, ◌≤◌, true, false, cond, nat_lt}
 use Rattle.std.specs.Prelude.{length, List, ◌∷◌, None, Some}
 use Rattle.pg_term.specs.declared.term.Term.{Term}
-use Rattle.pg_group.specs.Value.{name_of}
-use Rattle.pg_group.specs.declared.update.Update.{Update}
-use Rattle.pg_message.specs.declared.message.Message.{Message}
-use Rattle.pg_machine.specs.Clocked.{Stamped}
-use Rattle.pg_machine.specs.Losing.{LosingLeads, Noticed, Step, all_steps, losing_happens}
-use Rattle.pg_machine.specs.Machine.{Do, Event, Take}
-use Rattle.pg_machine.specs.Places.{is_pair, is_place}
-use Rattle.pg_step.specs.Config.{Config}
-use Rattle.pg_step.specs.FrameMachine.{last_notice, losing_frame_machine}
-use Rattle.pg_step.specs.LossLaws.{LosingFrameWorld}
-use Rattle.pg_step.specs.State.Stage.{Waiting}
-use Rattle.pg_step.specs.Step.{Action, CLOCK_LIMIT, Retry}
-use Rattle.pg_step.specs.declared.command.OpId.{OpId}
-use Rattle.pg_history.specs.Counted.{is_open}
-use Rattle.pg_history.specs.History.{IsAnsweredOk, answers_by}
-use Rattle.pg_history.specs.Quiet.{OnlyTakes, OnlyTakesAndRetries, peer_count, total}
-use Rattle.pg_loss.specs.Quiet.{IsQuietLive, live_open, most_takes_live}
+use Rattle.pg_ready.specs.PgGroup.Value.{name_of}
+use Rattle.pg_ready.specs.PgGroup.declared.update.Update.{Update}
+use Rattle.pg_ready.specs.PgMessage.declared.message.Message.{Message}
+use Rattle.pg_ready.specs.PgMachine.Clocked.{Stamped}
+use Rattle.pg_ready.specs.PgMachine.Losing.{LosingLeads, Noticed, Step, all_steps, losing_happens}
+use Rattle.pg_ready.specs.PgMachine.Machine.{Do, Event, Take}
+use Rattle.pg_ready.specs.PgMachine.Places.{is_pair, is_place}
+use Rattle.pg_ready.specs.PgStep.Config.{Config}
+use Rattle.pg_ready.specs.PgStep.FrameMachine.{last_notice, losing_frame_machine}
+use Rattle.pg_ready.specs.PgStep.LossLaws.{LosingFrameWorld}
+use Rattle.pg_ready.specs.PgStep.State.Stage.{Waiting}
+use Rattle.pg_ready.specs.PgStep.Step.{Action, CLOCK_LIMIT, Retry}
+use Rattle.pg_ready.specs.PgStep.declared.command.OpId.{OpId}
+use Rattle.pg_ready.specs.PgHistory.Counted.{is_open}
+use Rattle.pg_ready.specs.PgHistory.History.{IsAnsweredOk, answers_by}
+use Rattle.pg_ready.specs.PgHistory.Quiet.{OnlyTakes, OnlyTakesAndRetries, peer_count, total}
+use Rattle.pg_ready.specs.PgLoss.Quiet.{IsQuietLive, live_open, most_takes_live}
 use Rattle.pg_ready.specs.Ready.{EachIsRetried, HasRoomLive, NoLockLive, NoneReadyLive, OnlyReady, OnlyRetries}
 
 -- how many nodes are live

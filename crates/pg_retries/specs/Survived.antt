@@ -2,17 +2,17 @@
 use Rattle.std.specs.Prelude.{◌≡◌, ℕ, true, false, length, List}
 use Rattle.pg_term.specs.declared.pid.Pid.{Pid}
 use Rattle.pg_term.specs.declared.term.Term.{Term}
-use Rattle.pg_machine.specs.Losing.{LosingEvent}
-use Rattle.pg_machine.specs.Places.{is_place}
-use Rattle.pg_step.specs.Config.{Config, name_at}
-use Rattle.pg_step.specs.LossLaws.{LosingFrameWorld}
-use Rattle.pg_step.specs.Step.{Action}
-use Rattle.pg_history.specs.Reached.{FinishedAt}
-use Rattle.pg_loss.specs.Reached.{steps_of}
-use Rattle.pg_loss.specs.Survived.{KeptPastLosses}
-use Rattle.pg_left.specs.Agreed.{AgreeOnUnchanged}
-use Rattle.pg_left.specs.Heard.{MadeOf}
-use Rattle.pg_left.specs.Missed.{TakenAlong}
+use Rattle.pg_ready.specs.PgMachine.Losing.{LosingEvent}
+use Rattle.pg_ready.specs.PgMachine.Places.{is_place}
+use Rattle.pg_ready.specs.PgStep.Config.{Config, name_at}
+use Rattle.pg_ready.specs.PgStep.LossLaws.{LosingFrameWorld}
+use Rattle.pg_ready.specs.PgStep.Step.{Action}
+use Rattle.pg_ready.specs.PgHistory.Reached.{FinishedAt}
+use Rattle.pg_ready.specs.PgLoss.Reached.{steps_of}
+use Rattle.pg_ready.specs.PgLoss.Survived.{KeptPastLosses}
+use Rattle.pg_ready.specs.PgLeft.Agreed.{AgreeOnUnchanged}
+use Rattle.pg_ready.specs.PgLeft.Heard.{MadeOf}
+use Rattle.pg_ready.specs.PgLeft.Missed.{TakenAlong}
 use Rattle.pg_ready.specs.Ready.{ReadyGoOn}
 use Rattle.pg_retries.specs.Retried.{RetriesGoOn}
 

@@ -4,21 +4,21 @@ use Rattle.std.proofs.Common.{false, cond, length, map, get_or, List, [], ◌∷
 use Rattle.std.proofs.Common.{Some, None, Result, Ok, Err, refl, ap, sym, ◌∙◌, subst, arith}
 use Rattle.std.specs.Prelude.{slice_get, IfSome, IfErr, min, ◌^◌}
 use Rattle.std.proofs.lemmas.List.{length-append, append_assoc, append-nil}
-use Rattle.pg_opens.specs.Places.{name_at, whole_in}
-use Rattle.pg_machine.specs.Clocked.{Timed}
-use Rattle.pg_message.specs.declared.packet.Packet.{Packet}
-use Rattle.pg_step.specs.Nodes.{Node}
-use Rattle.pg_step.specs.State.{State}
-use Rattle.pg_step.specs.Step.{TimedTurn}
-use Rattle.pg_step.specs.declared.refusal.Refusal.TheVariants.{NodeLost}
-use Rattle.pg_group.specs.declared.table.GroupTable.{Ghosts}
+use Rattle.pg_node.specs.PgOpens.Places.{name_at, whole_in}
+use Rattle.pg_node.specs.PgMachine.Clocked.{Timed}
+use Rattle.pg_node.specs.PgMessage.declared.packet.Packet.{Packet}
+use Rattle.pg_node.specs.PgStep.Nodes.{Node}
+use Rattle.pg_node.specs.PgStep.State.{State}
+use Rattle.pg_node.specs.PgStep.Step.{TimedTurn}
+use Rattle.pg_node.specs.PgStep.declared.refusal.Refusal.TheVariants.{NodeLost}
+use Rattle.pg_node.specs.PgGroup.declared.table.GroupTable.{Ghosts}
 use Rattle.pg_node.specs.Bytes.{next_packet}
 use Rattle.pg_node.specs.Links.{Link}
 use Rattle.pg_node.specs.Nodes.{held_by, has_lost, links_of, taken_of}
-use Rattle.pg_node_state.specs.declared.state.fault.NodeFault.{NodeFault}
-use Rattle.pg_node_state.specs.declared.state.fault.NodeFault.TheVariants.{Refused, Message, TooLong}
-use Rattle.pg_node_state.specs.declared.state.fault.NodeFault.TheVariants.{Damaged, OutOfMemory}
-use Rattle.pg_ring.specs.MemRing.{RingBytes, Grows, Loses, HasRoomFor, HasUnread, free_room}
+use Rattle.pg_node.specs.PgNodeState.declared.state.fault.NodeFault.{NodeFault}
+use Rattle.pg_node.specs.PgNodeState.declared.state.fault.NodeFault.TheVariants.{Refused, Message, TooLong}
+use Rattle.pg_node.specs.PgNodeState.declared.state.fault.NodeFault.TheVariants.{Damaged, OutOfMemory}
+use Rattle.pg_node.specs.PgRing.MemRing.{RingBytes, Grows, Loses, HasRoomFor, HasUnread, free_room}
 use Rattle.pg_run.specs.declared.linked.LinkedNode.{LinkedNode}
 use Rattle.pg_run.specs.declared.run.NodeRun.{NodeRun}
 use Rattle.pg_run.specs.Acts.{Act, log_entry}

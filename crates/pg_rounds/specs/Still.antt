@@ -1,10 +1,10 @@
 -- A whole turn over rings in memory that does nothing, and what is left to do then.
 use Rattle.std.specs.Prelude.{◌≡◌, ◌⊎◌, ◌<◌, ℕ, false, length, slice_get, [], IfSome, Some, None, Ok, Err}
-use Rattle.pg_group.specs.declared.table.GroupTable.{Ghosts}
+use Rattle.pg_node.specs.PgGroup.declared.table.GroupTable.{Ghosts}
 use Rattle.pg_node.specs.Bytes.{next_packet}
 use Rattle.pg_node.specs.Nodes.{held_by, has_lost, links_of}
-use Rattle.pg_node_state.specs.declared.state.fault.NodeFault.{NodeFault}
-use Rattle.pg_ring.specs.MemRing.{RingBytes, Grows, Loses, HasRoomFor, HasUnread, free_room}
+use Rattle.pg_node.specs.PgNodeState.declared.state.fault.NodeFault.{NodeFault}
+use Rattle.pg_node.specs.PgRing.MemRing.{RingBytes, Grows, Loses, HasRoomFor, HasUnread, free_room}
 use Rattle.pg_run.specs.declared.linked.Peer.{Peer}
 use Rattle.pg_run.specs.declared.run.NodeRun.{NodeRun}
 use Rattle.pg_run.specs.Events.{told_of_peer}

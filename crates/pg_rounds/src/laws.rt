@@ -1,7 +1,7 @@
 ghost use Rattle.std.specs.Prelude.{ℕ};
-ghost use Rattle.pg_index.specs.declared.index_table.IndexTable.{IndexTable};
-ghost use Rattle.pg_index.specs.contracts.index_table.IndexTableGroupTable.TheImpl.{ghosts};
-ghost use Rattle.pg_ring.specs.MemRing.{RingBytes};
+ghost use Rattle.pg_node.specs.PgIndex.declared.index_table.IndexTable.{IndexTable};
+ghost use Rattle.pg_node.specs.PgIndex.contracts.index_table.IndexTableGroupTable.TheImpl.{ghosts};
+ghost use Rattle.pg_node.specs.PgRing.MemRing.{RingBytes};
 ghost use Rattle.pg_run.specs.declared.run.NodeRun.{NodeRun};
 ghost use Rattle.pg_rounds.specs.Still.{AllTaken, AreJoined, CountsOn, HasNothingToDo, IsStill};
 

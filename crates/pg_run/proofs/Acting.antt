@@ -3,31 +3,31 @@ use Rattle.std.proofs.Common.{◌≡◌, ◌≢◌, ◌⊎◌, ◌∙◌, ℕ, c
 use Rattle.std.proofs.Common.{refl, sym, ap, subst, inl, inr, append-nil}
 use Rattle.std.proofs.lemmas.Bool.{cases_eq}
 use Rattle.std.specs.Prelude.{Bool, true, false, ◌||◌, ◌+◌, Result, Ok, Err, Option}
-use Rattle.pg_group.specs.declared.table.GroupTable.{Ghosts}
-use Rattle.pg_machine.specs.Clocked.{Timed}
-use Rattle.pg_sends.specs.contracts.framing.FramedOutgoing.TheImpl as frames
-use Rattle.pg_sends.specs.Dones.{FramedDone}
-use Rattle.pg_node_state.specs.declared.state.fault.NodeFault.{NodeFault}
-use Rattle.pg_node_state.specs.declared.state.fault.NodeFault.TheVariants.{Refused, OutOfMemory}
-use Rattle.pg_node_state.specs.declared.state.fault.NodeFault.TheVariants.{TooLong, Message, Damaged}
-use Rattle.pg_node_state.specs.Issued.{ports_of}
+use Rattle.pg_node.specs.PgGroup.declared.table.GroupTable.{Ghosts}
+use Rattle.pg_node.specs.PgMachine.Clocked.{Timed}
+use Rattle.pg_node.specs.PgSends.contracts.framing.FramedOutgoing.TheImpl as frames
+use Rattle.pg_node.specs.PgSends.Dones.{FramedDone}
+use Rattle.pg_node.specs.PgNodeState.declared.state.fault.NodeFault.{NodeFault}
+use Rattle.pg_node.specs.PgNodeState.declared.state.fault.NodeFault.TheVariants.{Refused, OutOfMemory}
+use Rattle.pg_node.specs.PgNodeState.declared.state.fault.NodeFault.TheVariants.{TooLong, Message, Damaged}
+use Rattle.pg_node.specs.PgNodeState.Issued.{ports_of}
 use Rattle.pg_node.specs.Bytes.{damages, marked}
-use Rattle.pg_sends.specs.Frames.{frames_to}
+use Rattle.pg_node.specs.PgSends.Frames.{frames_to}
 use Rattle.pg_node.specs.Links.{Link, at_link}
 use Rattle.pg_node.specs.Nodes.{held_by, links_of, step_link, ComesInRoom}
-use Rattle.pg_node_state.specs.States.{names_of, state_of, answers_of, Happens, Comes}
+use Rattle.pg_node.specs.PgNodeState.States.{names_of, state_of, answers_of, Happens, Comes}
 use Rattle.pg_run.specs.declared.linked.LinkedNode.{LinkedNode}
 use Rattle.pg_run.specs.Acts.{Act, Standing, ActLeads, event_of, is_from, losses_of}
-use Rattle.pg_opens.specs.Places.{name_at, whole_in}
+use Rattle.pg_node.specs.PgOpens.Places.{name_at, whole_in}
 use Rattle.pg_run.specs.Events.{IsRefusedAs, IsFault, told_of_peer}
 use Rattle.pg_run.specs.Follows.{Follows, HaveMoved, WasMarked, node_of, peers_of, log_of, standing_of}
 use Rattle.pg_run.proofs.Moving.{Closes, act_moved, peers_kept, unmoved, link_there, link_else}
-use Rattle.pg_step.specs.declared.answer.Answer.{Answer}
-use Rattle.pg_step.specs.declared.refusal.Refusal.{Refusal}
-use Rattle.pg_step.specs.declared.refusal.Refusal.TheVariants.{NodeLost}
-use Rattle.pg_step.specs.Nodes.{Node as Name}
-use Rattle.pg_step.specs.State.{State}
-use Rattle.pg_step.specs.Step.{TimedTurn}
+use Rattle.pg_node.specs.PgStep.declared.answer.Answer.{Answer}
+use Rattle.pg_node.specs.PgStep.declared.refusal.Refusal.{Refusal}
+use Rattle.pg_node.specs.PgStep.declared.refusal.Refusal.TheVariants.{NodeLost}
+use Rattle.pg_node.specs.PgStep.Nodes.{Node as Name}
+use Rattle.pg_node.specs.PgStep.State.{State}
+use Rattle.pg_node.specs.PgStep.Step.{TimedTurn}
 
 -- ---- what is told of an event
 

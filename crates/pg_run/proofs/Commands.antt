@@ -2,8 +2,8 @@
 use Rattle.std.proofs.Common.{◌≡◌, ◌≢◌, ◌⊎◌, refl, ap, inl, inr}
 use Rattle.std.specs.Prelude.{Bool, true, false, nat_eq, ◌&&◌}
 use Rattle.std.proofs.lemmas.Bool.{cases_eq, eq-eqb, eqb-true}
-use Rattle.pg_step.specs.declared.command.OpId.{OpId}
-use Rattle.pg_step.specs.Attempts.{same_op}
+use Rattle.pg_node.specs.PgStep.declared.command.OpId.{OpId}
+use Rattle.pg_node.specs.PgStep.Attempts.{same_op}
 
 first_true : (b c : Bool) → (b && c) ≡ true → b ≡ true
 first_true true c e = refl

@@ -3,15 +3,15 @@ use Rattle.std.proofs.Common.{◌≡◌, ◌<◌, ◌∙◌, ◌⊎◌, ℕ, len
 use Rattle.std.proofs.Common.{sym, ap, subst, inl, inr, arith, append_assoc, append-nil}
 use Rattle.std.specs.Prelude.{true}
 use Rattle.std.proofs.lemmas.List.{map-append}
-use Rattle.pg_group.specs.declared.table.GroupTable.{Ghosts}
-use Rattle.pg_node_state.specs.Issued.{ports_of}
+use Rattle.pg_node.specs.PgGroup.declared.table.GroupTable.{Ghosts}
+use Rattle.pg_node.specs.PgNodeState.Issued.{ports_of}
 use Rattle.pg_node.specs.Nodes.{held_by, links_of}
-use Rattle.pg_node_state.specs.States.{names_of, state_of, answers_of}
+use Rattle.pg_node.specs.PgNodeState.States.{names_of, state_of, answers_of}
 use Rattle.pg_run.specs.declared.linked.LinkedNode.{LinkedNode}
 use Rattle.pg_run.specs.Acts.{Act, Standing, AllLead, log_entry, frames_taken}
 use Rattle.pg_run.specs.Follows.{HaveMoved, Follows, WasMarked, node_of, peers_of, log_of, standing_of}
 use Rattle.pg_run.proofs.Moving.{have_moved_on, peers_kept, taken_join, unmoved}
-use Rattle.pg_step.specs.Nodes.{Node as Name}
+use Rattle.pg_node.specs.PgStep.Nodes.{Node as Name}
 
 pub all_lead_on : (names : List Name) (ports : ℕ) (a : Standing) (first : List Act) (b : Standing) (second : List Act) (c : Standing)
     → AllLead names ports a first b → AllLead names ports b second c → AllLead names ports a (first ++ second) c

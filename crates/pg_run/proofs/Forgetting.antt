@@ -10,8 +10,8 @@ use Rattle.pg_run.specs.Pauses.{wait_of}
 use Rattle.pg_run.specs.Ports.{ForgetsHanded, HandsMore, HandsNext, handed, handed_count, has_number, was_handed}
 use Rattle.pg_run.specs.Served.{AllForgetHanded}
 use Rattle.pg_run.proofs.Commands.{one_or_other}
-use Rattle.pg_step.specs.declared.answer.Answer.{Answer}
-use Rattle.pg_step.specs.declared.command.OpId.{OpId}
+use Rattle.pg_node.specs.PgStep.declared.answer.Answer.{Answer}
+use Rattle.pg_node.specs.PgStep.declared.command.OpId.{OpId}
 
 -- ---- numbers
 

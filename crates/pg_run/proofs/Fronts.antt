@@ -2,9 +2,9 @@
 use Rattle.std.proofs.Common.{◌≡◌, ◌≤◌, ◌+◌, ◌∙◌, ℕ, List, take, drop, length, ◌++◌, Some, Ok, sym, ap, inl, inr, arith}
 use Rattle.std.specs.Int.{w32, from_be_bytes}
 use Rattle.std.proofs.lemmas.List.{take-append-le, take-append-drop, length-take-le}
-use Rattle.pg_frame.specs.Frames.{front_of, after_front, size_at}
-use Rattle.pg_frame.proofs.Fronts.{Cases, whole, waiting, overlong, cases_of, front_is, front_fits, front_of-append}
-use Rattle.pg_frame.proofs.Bodies.{after_front-whole}
+use Rattle.pg_node.specs.PgFrame.Frames.{front_of, after_front, size_at}
+use Rattle.pg_node.proofs.PgFrame.Fronts.{Cases, whole, waiting, overlong, cases_of, front_is, front_fits, front_of-append}
+use Rattle.pg_node.proofs.PgFrame.Bodies.{after_front-whole}
 
 same_size : (b r : List ℕ) → 4 ≤ length b → size_at b ≡ size_at (b ++ r)
 unfolding size_at

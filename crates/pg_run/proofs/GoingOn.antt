@@ -4,17 +4,17 @@ use Rattle.std.proofs.Common.{◌∷◌, ◌++◌, refl, ap, sym, subst, append_
 use Rattle.std.specs.Prelude.{slice_set, Bool, true, false, Option, Some, None, Result, Ok, Err, IfSome, IfNone}
 use Rattle.std.proofs.lemmas.Bool.{eq-eqb, ne_eqb}
 use Rattle.std.proofs.lemmas.Grind.{flat_map-append}
-use Rattle.pg_group.specs.declared.table.GroupTable.{Ghosts}
-use Rattle.pg_node_state.specs.declared.state.fault.NodeFault.{NodeFault}
-use Rattle.pg_node_state.specs.Issued.{ports_of}
+use Rattle.pg_node.specs.PgGroup.declared.table.GroupTable.{Ghosts}
+use Rattle.pg_node.specs.PgNodeState.declared.state.fault.NodeFault.{NodeFault}
+use Rattle.pg_node.specs.PgNodeState.Issued.{ports_of}
 use Rattle.pg_node.specs.Nodes.{held_by}
-use Rattle.pg_node_state.specs.States.{names_of, answers_of}
+use Rattle.pg_node.specs.PgNodeState.States.{names_of, answers_of}
 use Rattle.pg_run.specs.declared.linked.LinkedNode.{LinkedNode}
 use Rattle.pg_run.specs.declared.notices.Notice.{Notice}
 use Rattle.pg_run.specs.declared.notices.Notices.{Notices}
 use Rattle.pg_run.specs.declared.port.Port.{Port}
 use Rattle.pg_run.specs.declared.run.NodeRun.{NodeRun}
-use Rattle.pg_ring.specs.Slots.{SameSlotIn, taken}
+use Rattle.pg_node.specs.PgRing.Slots.{SameSlotIn, taken}
 use Rattle.pg_run.specs.Acts.{Act, Given, Took, Saw, Did, SawNone, loss_of, losses_of, seen_by, seen_in}
 use Rattle.pg_run.specs.Events.{ActsOnce, TookNext, Acted, IsOfPeer}
 use Rattle.pg_run.specs.Follows.{Follows, node_of, standing_of}
@@ -28,9 +28,9 @@ use Rattle.pg_run.proofs.Following.{follows_itself, follows_on}
 use Rattle.pg_run.proofs.Moving.{nil_first, nil_second}
 use Rattle.pg_run.proofs.PortsGoing.{slot_in_on, Grows, answers_in, answers_grow, ports_wait, ports_follow_on}
 use Rattle.pg_run.proofs.PortsGoing.{ports_set, port_gave_none, port_gave, port_kept, port_handed}
-use Rattle.pg_step.specs.declared.command.OpId.{OpId}
-use Rattle.pg_step.specs.declared.command.Command.{Command}
-use Rattle.pg_step.specs.Step.{Issue, Retry}
+use Rattle.pg_node.specs.PgStep.declared.command.OpId.{OpId}
+use Rattle.pg_node.specs.PgStep.declared.command.Command.{Command}
+use Rattle.pg_node.specs.PgStep.Step.{Issue, Retry}
 
 -- a packet is no command, and no loss
 quiet_take : (peer place : ℕ) (input : Given) → IsOfPeer peer input → command_at place input ≡ []

@@ -1,8 +1,8 @@
 -- What is logged, phase by phase.
 use Rattle.std.proofs.Common.{◌≡◌, ◌∙◌, ℕ, List, [], ◌∷◌, ◌++◌, sym, ap, subst, inl, append_assoc, append-nil}
 use Rattle.std.specs.Prelude.{Bool, true, false, Result, Ok, Err}
-use Rattle.pg_group.specs.declared.table.GroupTable.{Ghosts}
-use Rattle.pg_node_state.specs.declared.state.fault.NodeFault.{NodeFault}
+use Rattle.pg_node.specs.PgGroup.declared.table.GroupTable.{Ghosts}
+use Rattle.pg_node.specs.PgNodeState.declared.state.fault.NodeFault.{NodeFault}
 use Rattle.pg_run.specs.declared.linked.LinkedNode.{LinkedNode}
 use Rattle.pg_run.specs.declared.log.NodeEvent.{NodeEvent}
 use Rattle.pg_run.specs.declared.log.NodeEvent.TheVariants as events
@@ -13,9 +13,9 @@ use Rattle.pg_run.specs.Events.{ActsOnce, Acted, IsOfPeer, TookNext}
 use Rattle.pg_run.specs.Follows.{Follows, log_of}
 use Rattle.pg_run.specs.Logs.{AreOf, LogsOnly, IsTake, IsCommand, LogsLoss, LogsRetry, MayLogRetry}
 use Rattle.pg_run.specs.Pauses.{begins_next, wait_of}
-use Rattle.pg_step.specs.declared.command.Command.{Command}
-use Rattle.pg_step.specs.declared.command.OpId.{OpId}
-use Rattle.pg_step.specs.Step.{Issue, Retry}
+use Rattle.pg_node.specs.PgStep.declared.command.Command.{Command}
+use Rattle.pg_node.specs.PgStep.declared.command.OpId.{OpId}
+use Rattle.pg_node.specs.PgStep.Step.{Issue, Retry}
 
 -- ---- entries of one kind
 

@@ -7,8 +7,8 @@ use Rattle.std.proofs.lemmas.Bool.{cases_eq, eq-eqb, ne_eqb}
 use Rattle.std.proofs.lemmas.List.{get_or-set_same, get_or-set_other, get_or_default, take-append-drop}
 use Rattle.std.proofs.lemmas.List.{length-set}
 use Rattle.std.proofs.lemmas.Grind.{flat_map-append}
-use Rattle.pg_group.specs.Functions.{upd}
-use Rattle.pg_sends.specs.Frames.{frames_to}
+use Rattle.pg_node.specs.PgGroup.Functions.{upd}
+use Rattle.pg_node.specs.PgSends.Frames.{frames_to}
 use Rattle.pg_node.specs.Links.{Link, at_link}
 use Rattle.pg_run.specs.declared.linked.Peer.{Peer}
 use Rattle.pg_run.specs.Acts.{Act, Saw, frames_sent, frames_taken, is_from, loss_of, losses_of}

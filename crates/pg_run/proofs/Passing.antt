@@ -7,8 +7,8 @@ use Rattle.std.proofs.lemmas.Bool.{eqb-true}
 use Rattle.std.proofs.lemmas.Option.{slice_get-get_or}
 use Rattle.std.specs.Prelude.{slice_get, slice_set, IfSome, Result, Ok, Err, IfOk, OnErr}
 use Rattle.std.specs.Prelude.{true, false, eqb, min, Option, Some, None}
-use Rattle.pg_group.specs.Functions.{upd}
-use Rattle.pg_node_state.specs.declared.state.fault.NodeFault.{NodeFault}
+use Rattle.pg_node.specs.PgGroup.Functions.{upd}
+use Rattle.pg_node.specs.PgNodeState.declared.state.fault.NodeFault.{NodeFault}
 use Rattle.pg_node.specs.Links.{Link, at_link, without_front, with_fed}
 use Rattle.pg_run.specs.declared.linked.Peer.{Peer}
 use Rattle.pg_run.specs.Follows.{HaveMoved}

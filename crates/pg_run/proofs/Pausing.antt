@@ -9,8 +9,8 @@ use Rattle.pg_run.specs.declared.pauses.Wait.{Wait}
 use Rattle.pg_run.specs.declared.pauses.Wait.TheVariants.{Turns, Due, Tried}
 use Rattle.pg_run.specs.Pauses.{Passed, Waited, Waits, begins_next, is_due, is_over, wait_in}
 use Rattle.pg_run.proofs.Commands.{same_is, same_itself}
-use Rattle.pg_step.specs.declared.command.OpId.{OpId}
-use Rattle.pg_step.specs.Attempts.{same_op}
+use Rattle.pg_node.specs.PgStep.declared.command.OpId.{OpId}
+use Rattle.pg_node.specs.PgStep.Attempts.{same_op}
 
 some_of : {A : Type 0} (x y : A) → Some x ≡ Some y → x ≡ y
 some_of x y e = ap (either x) e

@@ -7,22 +7,22 @@ use Rattle.std.proofs.lemmas.Grind.{flat_map-append}
 use Rattle.std.proofs.lemmas.Option.{slice_get_within, get_or_from_slice_get}
 use Rattle.std.proofs.lemmas.List.{take_more, map-append, take-append-le, get_or-set_same}
 use Rattle.std.proofs.lemmas.List.{get_or-set_other, get_or_default, length-set}
-use Rattle.pg_group.specs.Functions.{upd}
-use Rattle.pg_node_state.specs.States.{Gave}
-use Rattle.pg_opens.specs.Places.{name_at}
-use Rattle.pg_ring.specs.declared.slot_in.SlotIn.{SlotIn}
-use Rattle.pg_ring.specs.declared.slot_out.SlotOut.{SlotOut}
-use Rattle.pg_ring.specs.Slots.{SameSlotIn, SameSlotOut}
+use Rattle.pg_node.specs.PgGroup.Functions.{upd}
+use Rattle.pg_node.specs.PgNodeState.States.{Gave}
+use Rattle.pg_node.specs.PgOpens.Places.{name_at}
+use Rattle.pg_node.specs.PgRing.declared.slot_in.SlotIn.{SlotIn}
+use Rattle.pg_node.specs.PgRing.declared.slot_out.SlotOut.{SlotOut}
+use Rattle.pg_node.specs.PgRing.Slots.{SameSlotIn, SameSlotOut}
 use Rattle.pg_run.specs.declared.port.Asked.{Asked}
 use Rattle.pg_run.specs.declared.port.Port.{Port}
 use Rattle.pg_run.specs.Acts.{Act, Standing, AllLead}
 use Rattle.pg_run.specs.Ports.{asked, handed, handed_count, asked_kept, SamePort, HandedOver, Hands, KeepsSame}
 use Rattle.pg_run.specs.Turns.{PortFollows, PortsFollow, commands_at, command_at, gave_at, answered_at, AreLater}
-use Rattle.pg_step.specs.declared.answer.Answer.{Answer}
-use Rattle.pg_step.specs.declared.command.Command.{Command}
-use Rattle.pg_step.specs.declared.command.OpId.{OpId}
-use Rattle.pg_step.specs.Nodes.{Node as Name}
-use Rattle.pg_step.specs.State.{Response}
+use Rattle.pg_node.specs.PgStep.declared.answer.Answer.{Answer}
+use Rattle.pg_node.specs.PgStep.declared.command.Command.{Command}
+use Rattle.pg_node.specs.PgStep.declared.command.OpId.{OpId}
+use Rattle.pg_node.specs.PgStep.Nodes.{Node as Name}
+use Rattle.pg_node.specs.PgStep.State.{Response}
 
 -- ---- one end of a port
 

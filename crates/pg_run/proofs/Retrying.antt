@@ -6,15 +6,15 @@ use Rattle.std.specs.Prelude.{Option, Some, None, Result, Ok, Err, IfErr, â—Œ||â
 use Rattle.std.specs.List.{AllByRecursion, IsDistinct, list_any}
 use Rattle.std.proofs.lemmas.Bool.{cases_eq, le-ltb}
 use Rattle.std.proofs.lemmas.Map.Keys.{IsDistinct-head, IsDistinct-tail}
-use Rattle.pg_group.specs.declared.table.GroupTable.{Ghosts}
-use Rattle.pg_node_state.specs.declared.state.fault.NodeFault.{NodeFault}
-use Rattle.pg_node_state.specs.declared.state.fault.NodeFault.TheVariants.{Refused}
-use Rattle.pg_node_state.specs.Issued.{ports_of}
+use Rattle.pg_node.specs.PgGroup.declared.table.GroupTable.{Ghosts}
+use Rattle.pg_node.specs.PgNodeState.declared.state.fault.NodeFault.{NodeFault}
+use Rattle.pg_node.specs.PgNodeState.declared.state.fault.NodeFault.TheVariants.{Refused}
+use Rattle.pg_node.specs.PgNodeState.Issued.{ports_of}
 use Rattle.pg_node.specs.declared.node.Node.{Node}
 use Rattle.pg_node.specs.Nodes.{held_by}
-use Rattle.pg_node_state.specs.States.{kept_by, live_of}
-use Rattle.pg_opens.specs.Commands.{stages_in}
-use Rattle.pg_opens.specs.declared.command.OpenCommand.{OpenCommand}
+use Rattle.pg_node.specs.PgNodeState.States.{kept_by, live_of}
+use Rattle.pg_node.specs.PgOpens.Commands.{stages_in}
+use Rattle.pg_node.specs.PgOpens.declared.command.OpenCommand.{OpenCommand}
 use Rattle.pg_run.specs.declared.linked.LinkedNode.{LinkedNode}
 use Rattle.pg_run.specs.declared.log.NodeEvent.{NodeEvent}
 use Rattle.pg_run.specs.declared.log.NodeEvent.TheVariants as events
@@ -32,13 +32,13 @@ use Rattle.pg_run.proofs.Logging.{are_so, logs_on, logs_same}
 use Rattle.pg_run.proofs.Pausing.{waits_less}
 use Rattle.pg_run.proofs.Trying.{stays, comes_on}
 use Rattle.pg_run.proofs.Wanting.{not_both}
-use Rattle.pg_step.specs.declared.command.OpId.{OpId}
-use Rattle.pg_step.specs.declared.refusal.Refusal.{Refusal}
-use Rattle.pg_step.specs.declared.refusal.Refusal.TheVariants.{NoSuchPlace}
-use Rattle.pg_step.specs.Attempts.{same_op, waits}
-use Rattle.pg_step.specs.State.Stage.{Closed}
-use Rattle.pg_step.specs.Step.{Retry, timed}
-use Rattle.pg_step.specs.Turns.{NodeTurn}
+use Rattle.pg_node.specs.PgStep.declared.command.OpId.{OpId}
+use Rattle.pg_node.specs.PgStep.declared.refusal.Refusal.{Refusal}
+use Rattle.pg_node.specs.PgStep.declared.refusal.Refusal.TheVariants.{NoSuchPlace}
+use Rattle.pg_node.specs.PgStep.Attempts.{same_op, waits}
+use Rattle.pg_node.specs.PgStep.State.Stage.{Closed}
+use Rattle.pg_node.specs.PgStep.Step.{Retry, timed}
+use Rattle.pg_node.specs.PgStep.Turns.{NodeTurn}
 
 -- ---- none is open
 

@@ -4,12 +4,12 @@ use Rattle.std.proofs.Common.{length, List, [], ◌∷◌, refl, sym, ap, subst,
 use Rattle.std.specs.Prelude.{Bool, true, false, nat_lt, nat_le, slice_set, Ok, Err}
 use Rattle.std.proofs.lemmas.Bool.{cases_eq, lt-ltb}
 use Rattle.std.proofs.lemmas.List.{get_or-set_same, get_or-set_other, get_or_default}
-use Rattle.pg_group.specs.declared.table.GroupTable.{Ghosts}
+use Rattle.pg_node.specs.PgGroup.declared.table.GroupTable.{Ghosts}
 use Rattle.pg_node.specs.declared.node.Node.{Node}
-use Rattle.pg_node_state.specs.declared.state.fault.NodeFault.{NodeFault}
-use Rattle.pg_node_state.specs.declared.state.fault.NodeFault.TheVariants.{Refused, Message, TooLong}
-use Rattle.pg_node_state.specs.declared.state.fault.NodeFault.TheVariants.{Damaged, OutOfMemory}
-use Rattle.pg_node_state.specs.Issued.{ports_of}
+use Rattle.pg_node.specs.PgNodeState.declared.state.fault.NodeFault.{NodeFault}
+use Rattle.pg_node.specs.PgNodeState.declared.state.fault.NodeFault.TheVariants.{Refused, Message, TooLong}
+use Rattle.pg_node.specs.PgNodeState.declared.state.fault.NodeFault.TheVariants.{Damaged, OutOfMemory}
+use Rattle.pg_node.specs.PgNodeState.Issued.{ports_of}
 use Rattle.pg_node.specs.Nodes.{held_by}
 use Rattle.pg_run.specs.declared.port.Asked.{Asked}
 use Rattle.pg_run.specs.declared.port.Port.{Port}
@@ -20,11 +20,11 @@ use Rattle.pg_run.specs.Served.{AreHanded, AreServed, HandNone, IsHandedAt}
 use Rattle.pg_run.specs.Served.{IsServedAt, LeavesAnswerAt, StayBut, KeepTheSame}
 use Rattle.pg_run.specs.Tries.{IsNoWant}
 use Rattle.pg_run.proofs.PortsGoing.{keeps_itself, keeps_on}
-use Rattle.pg_step.specs.declared.answer.Answer.{Answer}
-use Rattle.pg_step.specs.declared.command.Command.{Command}
-use Rattle.pg_step.specs.declared.refusal.Refusal.TheVariants.{NoSuchPlace, ClockFull}
-use Rattle.pg_step.specs.Step.{CLOCK_LIMIT, TimedTurn, Issue, at_clock, timed}
-use Rattle.pg_step.specs.Turns.{NodeTurn}
+use Rattle.pg_node.specs.PgStep.declared.answer.Answer.{Answer}
+use Rattle.pg_node.specs.PgStep.declared.command.Command.{Command}
+use Rattle.pg_node.specs.PgStep.declared.refusal.Refusal.TheVariants.{NoSuchPlace, ClockFull}
+use Rattle.pg_node.specs.PgStep.Step.{CLOCK_LIMIT, TimedTurn, Issue, at_clock, timed}
+use Rattle.pg_node.specs.PgStep.Turns.{NodeTurn}
 
 -- ---- one port
 

@@ -4,29 +4,29 @@ use Rattle.std.proofs.Common.{[], ◌∷◌, ◌++◌, refl, sym, ap, subst, inl
 use Rattle.std.specs.Prelude.{if◌then◌else◌, max, nat_eq, nat_le, Bool, true}
 use Rattle.std.specs.Prelude.{false, Option, Some, None, Result, Ok, Err}
 use Rattle.std.proofs.lemmas.Bool.{cases_eq, eq-eqb, ne_eqb}
-use Rattle.pg_frame.specs.declared.fault.TooLong as frame
-use Rattle.pg_frame.specs.Frames.{front_of, after_front}
-use Rattle.pg_group.specs.declared.table.GroupTable.{Ghosts}
-use Rattle.pg_machine.specs.Clocked.{Timed}
-use Rattle.pg_message.specs.declared.fault.MessageFault.{MessageFault}
-use Rattle.pg_message.specs.declared.packet.Packet.{Packet}
-use Rattle.pg_message.specs.Reading.{packet_spelled}
+use Rattle.pg_node.specs.PgFrame.declared.fault.TooLong as frame
+use Rattle.pg_node.specs.PgFrame.Frames.{front_of, after_front}
+use Rattle.pg_node.specs.PgGroup.declared.table.GroupTable.{Ghosts}
+use Rattle.pg_node.specs.PgMachine.Clocked.{Timed}
+use Rattle.pg_node.specs.PgMessage.declared.fault.MessageFault.{MessageFault}
+use Rattle.pg_node.specs.PgMessage.declared.packet.Packet.{Packet}
+use Rattle.pg_node.specs.PgMessage.Reading.{packet_spelled}
 use Rattle.pg_node.specs.declared.node.Node.{Node}
-use Rattle.pg_sends.specs.Dones.{FramedDone}
-use Rattle.pg_sends.specs.Framed.{listed_of}
-use Rattle.pg_node_state.specs.declared.state.fault.NodeFault.{NodeFault}
-use Rattle.pg_node_state.specs.declared.state.fault.NodeFault.TheVariants.{Refused, OutOfMemory}
-use Rattle.pg_node_state.specs.declared.state.fault.NodeFault.TheVariants.{TooLong, Message, Damaged}
+use Rattle.pg_node.specs.PgSends.Dones.{FramedDone}
+use Rattle.pg_node.specs.PgSends.Framed.{listed_of}
+use Rattle.pg_node.specs.PgNodeState.declared.state.fault.NodeFault.{NodeFault}
+use Rattle.pg_node.specs.PgNodeState.declared.state.fault.NodeFault.TheVariants.{Refused, OutOfMemory}
+use Rattle.pg_node.specs.PgNodeState.declared.state.fault.NodeFault.TheVariants.{TooLong, Message, Damaged}
 use Rattle.pg_node.specs.Bytes.{next_packet, packet_at, packet_in, passed, closed, is_drained}
-use Rattle.pg_node_state.specs.declared.state.NodeState.{NodeState}
-use Rattle.pg_node_state.specs.Issued.{ports_of}
-use Rattle.pg_sends.specs.Frames.{AreSmallFrames}
+use Rattle.pg_node.specs.PgNodeState.declared.state.NodeState.{NodeState}
+use Rattle.pg_node.specs.PgNodeState.Issued.{ports_of}
+use Rattle.pg_node.specs.PgSends.Frames.{AreSmallFrames}
 use Rattle.pg_node.specs.Links.{Link, at_link}
 use Rattle.pg_node.specs.Nodes.{held_by, has_lost, links_of, sent_out, step_link, taken_as, taken_of, ComesInRoom, TakesNext}
-use Rattle.pg_sends.specs.Sendable.{AreSendable}
-use Rattle.pg_node_state.specs.States.{names_of, nodes_of, state_of, answers_of, step_see_loss, Gave, Comes}
-use Rattle.pg_sends.specs.Sent.{stamped_of}
-use Rattle.pg_opens.specs.Places.{name_at}
+use Rattle.pg_node.specs.PgSends.Sendable.{AreSendable}
+use Rattle.pg_node.specs.PgNodeState.States.{names_of, nodes_of, state_of, answers_of, step_see_loss, Gave, Comes}
+use Rattle.pg_node.specs.PgSends.Sent.{stamped_of}
+use Rattle.pg_node.specs.PgOpens.Places.{name_at}
 use Rattle.pg_run.specs.declared.linked.LinkedNode.{LinkedNode}
 use Rattle.pg_run.specs.Acts.{Act, Took, Saw, Did, event_of, is_from, loss_of}
 use Rattle.pg_run.specs.Events.{ActsOnce, IsOfPeer, IsFault, told_of_loss}
@@ -34,14 +34,14 @@ use Rattle.pg_run.specs.Follows.{node_of, peers_of, log_of}
 use Rattle.pg_run.proofs.Acting.{happened_by, acts_once}
 use Rattle.pg_run.proofs.Fronts.{front_alone, front_alone_len, front_taken}
 use Rattle.pg_run.proofs.Moving.{Closes, link_there, link_else, marks_kept}
-use Rattle.pg_step.specs.declared.answer.Answer.{Answer}
-use Rattle.pg_step.specs.declared.refusal.Refusal.{Refusal}
-use Rattle.pg_step.specs.Nodes.{Node as Name, Nodes}
-use Rattle.pg_step.specs.State.{State}
-use Rattle.pg_step.specs.declared.refusal.Refusal.TheVariants.{NodeLost, NotDrained, ClockFull}
-use Rattle.pg_step.specs.Losses.{see_loss}
-use Rattle.pg_step.specs.Step.{Action, TimedTurn, CLOCK_LIMIT, at_clock, step_take, step_act, timed}
-use Rattle.pg_step.specs.Turns.{NodeTurn}
+use Rattle.pg_node.specs.PgStep.declared.answer.Answer.{Answer}
+use Rattle.pg_node.specs.PgStep.declared.refusal.Refusal.{Refusal}
+use Rattle.pg_node.specs.PgStep.Nodes.{Node as Name, Nodes}
+use Rattle.pg_node.specs.PgStep.State.{State}
+use Rattle.pg_node.specs.PgStep.declared.refusal.Refusal.TheVariants.{NodeLost, NotDrained, ClockFull}
+use Rattle.pg_node.specs.PgStep.Losses.{see_loss}
+use Rattle.pg_node.specs.PgStep.Step.{Action, TimedTurn, CLOCK_LIMIT, at_clock, step_take, step_act, timed}
+use Rattle.pg_node.specs.PgStep.Turns.{NodeTurn}
 
 -- ---- the next packet of a link
 

@@ -1,7 +1,7 @@
 -- How commands fare in a turn, of its phases.
 use Rattle.std.proofs.Common.{◌≡◌, ℕ, get_or, List, [], ◌++◌, refl, cond, subst, sym}
 use Rattle.std.specs.Prelude.{Bool, true, false}
-use Rattle.pg_group.specs.declared.table.GroupTable.{Ghosts}
+use Rattle.pg_node.specs.PgGroup.declared.table.GroupTable.{Ghosts}
 use Rattle.pg_run.specs.declared.linked.LinkedNode.{LinkedNode}
 use Rattle.pg_run.specs.declared.log.NodeEvent.{NodeEvent}
 use Rattle.pg_run.specs.declared.pauses.Pauses.{Pauses}
@@ -20,7 +20,7 @@ use Rattle.pg_run.proofs.Logging.{logs_still}
 use Rattle.pg_run.proofs.Pausing.{waits_less}
 use Rattle.pg_run.proofs.Retrying.{retried_between}
 use Rattle.pg_run.proofs.Trying.{comes_on, stays}
-use Rattle.pg_step.specs.declared.command.OpId.{OpId}
+use Rattle.pg_node.specs.PgStep.declared.command.OpId.{OpId}
 
 module _ {T L I K : Type 0} {g : Ghosts T} (accepts : L → List ℕ → L → Type 0) (gives : I → List ℕ → I → Type 0)
     (link_rests : (a : L) → accepts a [] a) (inlet_rests : (a : I) → gives a [] a)

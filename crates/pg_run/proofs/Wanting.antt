@@ -3,18 +3,18 @@ use Rattle.std.proofs.Common.{◌≡◌, ◌⊎◌, ◌<◌, ◌≤◌, ◌+◌,
 use Rattle.std.proofs.Common.{◌++◌, length, min, refl, sym, ap, subst, arith, inl, inr}
 use Rattle.std.specs.Prelude.{Bool, true, false, cond, slice_get, IfSome, Result, Ok, Err, IfOk, IfErr, IsErrAnd}
 use Rattle.std.proofs.lemmas.Bool.Decides.{eqb_tells}
-use Rattle.pg_group.specs.declared.table.GroupTable.{Ghosts}
-use Rattle.pg_node_state.specs.declared.state.fault.NodeFault.{NodeFault}
-use Rattle.pg_node_state.specs.declared.state.fault.NodeFault.TheVariants.{Refused, Damaged, OutOfMemory}
+use Rattle.pg_node.specs.PgGroup.declared.table.GroupTable.{Ghosts}
+use Rattle.pg_node.specs.PgNodeState.declared.state.fault.NodeFault.{NodeFault}
+use Rattle.pg_node.specs.PgNodeState.declared.state.fault.NodeFault.TheVariants.{Refused, Damaged, OutOfMemory}
 use Rattle.pg_node.specs.Bytes.{is_drained}
-use Rattle.pg_node_state.specs.Issued.{ports_of}
+use Rattle.pg_node.specs.PgNodeState.Issued.{ports_of}
 use Rattle.pg_node.specs.Nodes.{held_by, has_lost, links_of}
 use Rattle.pg_run.specs.declared.linked.LinkedNode.{LinkedNode}
 use Rattle.pg_run.specs.declared.linked.Peer.{Peer}
 use Rattle.pg_run.specs.declared.notices.Notice.{Notice}
 use Rattle.pg_run.specs.declared.notices.Notices.{Notices}
-use Rattle.pg_ring.specs.declared.slot_in.SlotIn.{SlotIn}
-use Rattle.pg_ring.specs.Slots.{slots_left, taken}
+use Rattle.pg_node.specs.PgRing.declared.slot_in.SlotIn.{SlotIn}
+use Rattle.pg_node.specs.PgRing.Slots.{slots_left, taken}
 use Rattle.pg_run.specs.Acts.{Saw, Did}
 use Rattle.pg_run.specs.Events.{Acted, ActsOnce, IsRefusedAs, IsFault, TookNext}
 use Rattle.pg_run.specs.Events.{told_of_action, told_of_loss, told_of_peer}
@@ -24,11 +24,11 @@ use Rattle.pg_run.specs.Tries.{CameMore, ComesTo, HasLooked, HasPulled, HasPulle
 use Rattle.pg_run.specs.Tries.{IsNoWant, IsPutOff, IsWant, Pulling, Taking, Seeing, Commanding, Listing}
 use Rattle.pg_run.specs.Tries.{Passing, Retrying, RefusedLoss, SawDrained, WasWanting}
 use Rattle.pg_run.proofs.Following.{follows_itself, follows_on}
-use Rattle.pg_step.specs.declared.command.Command.{Command}
-use Rattle.pg_step.specs.declared.command.OpId.{OpId}
-use Rattle.pg_step.specs.declared.refusal.Refusal.{Refusal}
-use Rattle.pg_step.specs.declared.refusal.Refusal.TheVariants.{NodeLost}
-use Rattle.pg_step.specs.Step.{Issue, Retry, TimedTurn}
+use Rattle.pg_node.specs.PgStep.declared.command.Command.{Command}
+use Rattle.pg_node.specs.PgStep.declared.command.OpId.{OpId}
+use Rattle.pg_node.specs.PgStep.declared.refusal.Refusal.{Refusal}
+use Rattle.pg_node.specs.PgStep.declared.refusal.Refusal.TheVariants.{NodeLost}
+use Rattle.pg_node.specs.PgStep.Step.{Issue, Retry, TimedTurn}
 
 -- what is so is not otherwise
 pub not_both : {A : Type 0} (b : Bool) → b ≡ true → b ≡ false → A

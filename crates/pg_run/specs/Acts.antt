@@ -1,24 +1,24 @@
 -- What the events of one node make, by the step of the node and in the bytes of its links.
 use Rattle.std.specs.Prelude.{◌≡◌, ℕ, ◌+◌, ◌<◌, Bool, false, cond, nat_eq, length, List, [], ◌∷◌, Some, Result, Ok}
 use Rattle.std.specs.List.{flat_map}
-use Rattle.pg_frame.specs.Frames.{front_of}
-use Rattle.pg_machine.specs.Clocked.{Timed, Stamped}
-use Rattle.pg_message.specs.declared.message.Message.{Message}
-use Rattle.pg_message.specs.declared.packet.Packet.{Packet}
-use Rattle.pg_message.specs.Reading.{packet_spelled}
-use Rattle.pg_sends.specs.Frames.{frames_to, AreSmallFrames}
-use Rattle.pg_sends.specs.Sendable.{AreSendable}
-use Rattle.pg_node_state.specs.States.{step_see_loss, Gave}
-use Rattle.pg_sends.specs.Sent.{stamped_of, sends_in}
-use Rattle.pg_opens.specs.Places.{name_at, whole_in}
+use Rattle.pg_node.specs.PgFrame.Frames.{front_of}
+use Rattle.pg_node.specs.PgMachine.Clocked.{Timed, Stamped}
+use Rattle.pg_node.specs.PgMessage.declared.message.Message.{Message}
+use Rattle.pg_node.specs.PgMessage.declared.packet.Packet.{Packet}
+use Rattle.pg_node.specs.PgMessage.Reading.{packet_spelled}
+use Rattle.pg_node.specs.PgSends.Frames.{frames_to, AreSmallFrames}
+use Rattle.pg_node.specs.PgSends.Sendable.{AreSendable}
+use Rattle.pg_node.specs.PgNodeState.States.{step_see_loss, Gave}
+use Rattle.pg_node.specs.PgSends.Sent.{stamped_of, sends_in}
+use Rattle.pg_node.specs.PgOpens.Places.{name_at, whole_in}
 use Rattle.pg_run.specs.declared.log.NodeEvent.{NodeEvent}
 use Rattle.pg_run.specs.declared.notices.Notice.{Notice}
 use Rattle.pg_run.specs.declared.log.NodeEvent.TheVariants as events
-use Rattle.pg_step.specs.declared.answer.Answer.{Answer}
-use Rattle.pg_step.specs.declared.refusal.Refusal.{Refusal}
-use Rattle.pg_step.specs.Nodes.{Node}
-use Rattle.pg_step.specs.State.{State}
-use Rattle.pg_step.specs.Step.{Action, Issue, Retry, TimedTurn, step_take, step_act}
+use Rattle.pg_node.specs.PgStep.declared.answer.Answer.{Answer}
+use Rattle.pg_node.specs.PgStep.declared.refusal.Refusal.{Refusal}
+use Rattle.pg_node.specs.PgStep.Nodes.{Node}
+use Rattle.pg_node.specs.PgStep.State.{State}
+use Rattle.pg_node.specs.PgStep.Step.{Action, Issue, Retry, TimedTurn, step_take, step_act}
 
 -- what a node is given: a packet, by the place of the peer that sent it among the peers; the loss of the peer at a place, whose clock
 -- was this at last; or an action of its own

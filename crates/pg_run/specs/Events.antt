@@ -1,18 +1,18 @@
 -- What came of an event that a node with its links was to make.
 use Rattle.std.specs.Prelude.{◌≡◌, ◌+◌, ℕ, Bool, true, false, List, [], ◌∷◌, Option, Result, Ok, Err}
-use Rattle.pg_group.specs.declared.table.GroupTable.{Ghosts}
+use Rattle.pg_node.specs.PgGroup.declared.table.GroupTable.{Ghosts}
 use Rattle.pg_node.specs.declared.node.Node.{Node}
-use Rattle.pg_node_state.specs.declared.state.fault.NodeFault.{NodeFault}
-use Rattle.pg_node_state.specs.declared.state.fault.NodeFault.TheVariants.{Refused, OutOfMemory}
-use Rattle.pg_node_state.specs.Issued.{ports_of}
+use Rattle.pg_node.specs.PgNodeState.declared.state.fault.NodeFault.{NodeFault}
+use Rattle.pg_node.specs.PgNodeState.declared.state.fault.NodeFault.TheVariants.{Refused, OutOfMemory}
+use Rattle.pg_node.specs.PgNodeState.Issued.{ports_of}
 use Rattle.pg_node.specs.Nodes.{held_by, links_of, step_link, step_lose}
-use Rattle.pg_node_state.specs.States.{names_of, nodes_of, state_of}
-use Rattle.pg_opens.specs.Places.{name_at}
+use Rattle.pg_node.specs.PgNodeState.States.{names_of, nodes_of, state_of}
+use Rattle.pg_node.specs.PgOpens.Places.{name_at}
 use Rattle.pg_run.specs.declared.linked.LinkedNode.{LinkedNode}
 use Rattle.pg_run.specs.Acts.{Act, Given, Took, Saw, Did}
 use Rattle.pg_run.specs.Follows.{Follows}
-use Rattle.pg_step.specs.declared.refusal.Refusal.{Refusal}
-use Rattle.pg_step.specs.Step.{Action, TimedTurn, step_act}
+use Rattle.pg_node.specs.PgStep.declared.refusal.Refusal.{Refusal}
+use Rattle.pg_node.specs.PgStep.Step.{Action, TimedTurn, step_act}
 
 -- ---- why one did not happen
 

@@ -1,19 +1,19 @@
 -- A node that follows from another by its events, and by the bytes that its links moved.
 use Rattle.std.specs.Prelude.{◌≡◌, ◌≢◌, ◌⊎◌, ℕ, ◌+◌, ◌<◌, true, false, get_or, length, map, List, [], ◌∷◌, ◌++◌, Err}
-use Rattle.pg_group.specs.declared.table.GroupTable.{Ghosts}
+use Rattle.pg_node.specs.PgGroup.declared.table.GroupTable.{Ghosts}
 use Rattle.pg_node.specs.declared.node.Node.{Node}
-use Rattle.pg_node_state.specs.declared.state.fault.NodeFault.{NodeFault}
+use Rattle.pg_node.specs.PgNodeState.declared.state.fault.NodeFault.{NodeFault}
 use Rattle.pg_node.specs.Bytes.{damages}
-use Rattle.pg_node_state.specs.Issued.{ports_of}
+use Rattle.pg_node.specs.PgNodeState.Issued.{ports_of}
 use Rattle.pg_node.specs.Links.{Link}
 use Rattle.pg_node.specs.Nodes.{held_by, links_of, step_link}
-use Rattle.pg_node_state.specs.States.{names_of, state_of, answers_of}
-use Rattle.pg_opens.specs.Places.{name_at, whole_in}
+use Rattle.pg_node.specs.PgNodeState.States.{names_of, state_of, answers_of}
+use Rattle.pg_node.specs.PgOpens.Places.{name_at, whole_in}
 use Rattle.pg_run.specs.declared.log.NodeEvent.{NodeEvent}
 use Rattle.pg_run.specs.declared.linked.LinkedNode.{LinkedNode}
 use Rattle.pg_run.specs.declared.linked.Peer.{Peer}
 use Rattle.pg_run.specs.Acts.{Act, Saw, Standing, AllLead, log_entry, frames_sent, frames_taken, losses_of}
-use Rattle.pg_step.specs.Nodes.{Node as Name}
+use Rattle.pg_node.specs.PgStep.Nodes.{Node as Name}
 
 -- ---- a node as it is seen
 

@@ -1,11 +1,11 @@
 -- What the phases of a turn log.
 use Rattle.std.specs.Prelude.{◌≡◌, ◌⊎◌, ℕ, Bool, true, false, List, [], ◌∷◌, ◌++◌, Result, Ok, Err}
-use Rattle.pg_node_state.specs.declared.state.fault.NodeFault.{NodeFault}
+use Rattle.pg_node.specs.PgNodeState.declared.state.fault.NodeFault.{NodeFault}
 use Rattle.pg_run.specs.declared.log.NodeEvent.{NodeEvent}
 use Rattle.pg_run.specs.declared.log.NodeEvent.TheVariants as events
 use Rattle.pg_run.specs.declared.pauses.Pauses.{Pauses}
 use Rattle.pg_run.specs.Pauses.{begins_next, is_due, wait_of}
-use Rattle.pg_step.specs.declared.command.OpId.{OpId}
+use Rattle.pg_node.specs.PgStep.declared.command.OpId.{OpId}
 
 -- each of these entries is of such an event
 abbrev pub AreOf : (NodeEvent → Type 0) → List (ℕ × NodeEvent) → Type 0

@@ -1,7 +1,7 @@
 -- What a clause sees of where a node is told of losses.
 use Rattle.std.specs.Prelude.{◌≡◌, List, [], ◌∷◌, ◌++◌, Option, Some, None}
-use Rattle.pg_ring.specs.declared.slot_in.SlotIn.{SlotIn}
-use Rattle.pg_ring.specs.Slots.{taken, SameSlotIn}
+use Rattle.pg_node.specs.PgRing.declared.slot_in.SlotIn.{SlotIn}
+use Rattle.pg_node.specs.PgRing.Slots.{taken, SameSlotIn}
 use Rattle.pg_run.specs.declared.notices.Notice.{Notice}
 use Rattle.pg_run.specs.declared.notices.Notices.{Notices}
 

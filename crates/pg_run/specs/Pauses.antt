@@ -5,8 +5,8 @@ use Rattle.pg_run.specs.declared.pauses.Pause.{Pause}
 use Rattle.pg_run.specs.declared.pauses.Pauses.{Pauses}
 use Rattle.pg_run.specs.declared.pauses.Wait.{Wait}
 use Rattle.pg_run.specs.declared.pauses.Wait.TheVariants.{Turns, Due, Tried}
-use Rattle.pg_step.specs.declared.command.OpId.{OpId}
-use Rattle.pg_step.specs.Attempts.{same_op}
+use Rattle.pg_node.specs.PgStep.declared.command.OpId.{OpId}
+use Rattle.pg_node.specs.PgStep.Attempts.{same_op}
 
 -- how a command waits, if it does
 abbrev pub wait_in : OpId → List Pause → Option Wait

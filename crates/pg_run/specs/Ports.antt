@@ -2,14 +2,14 @@
 use Rattle.std.specs.Prelude.{◌≡◌, ◌⊎◌, ℕ, ◌<◌, ◌≤◌, ◌+◌, ◌-◌, ◌^◌, Bool, true, false, nat_eq}
 use Rattle.std.specs.Prelude.{List, [], ◌∷◌, ◌++◌, Option, Some, None, length, min, take}
 use Rattle.std.specs.List.{list_any}
-use Rattle.pg_ring.specs.Slots.{given, taken, slots_free, slots_left, AreSlots, SameSlotOut, SameSlotIn}
+use Rattle.pg_node.specs.PgRing.Slots.{given, taken, slots_free, slots_left, AreSlots, SameSlotOut, SameSlotIn}
 use Rattle.pg_run.specs.declared.pauses.Pauses.{Pauses}
 use Rattle.pg_run.specs.declared.port.Asked.{Asked}
 use Rattle.pg_run.specs.declared.port.Client.{Client}
 use Rattle.pg_run.specs.declared.port.Port.{Port}
 use Rattle.pg_run.specs.Pauses.{wait_of}
-use Rattle.pg_step.specs.declared.answer.Answer.{Answer}
-use Rattle.pg_step.specs.declared.command.OpId.{OpId}
+use Rattle.pg_node.specs.PgStep.declared.answer.Answer.{Answer}
+use Rattle.pg_node.specs.PgStep.declared.command.OpId.{OpId}
 
 -- ---- the client's end
 

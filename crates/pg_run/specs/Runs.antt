@@ -1,7 +1,7 @@
 -- What turns make of a node that runs.
 use Rattle.std.specs.Prelude.{◌≡◌, ◌⊎◌, ◌<◌, ◌+◌, ℕ, Bool, length, List, [], ◌∷◌}
-use Rattle.pg_ring.specs.declared.slot_in.SlotIn.{SlotIn}
-use Rattle.pg_group.specs.declared.table.GroupTable.{Ghosts}
+use Rattle.pg_node.specs.PgRing.declared.slot_in.SlotIn.{SlotIn}
+use Rattle.pg_node.specs.PgGroup.declared.table.GroupTable.{Ghosts}
 use Rattle.pg_run.specs.declared.linked.LinkedNode.{LinkedNode}
 use Rattle.pg_run.specs.declared.notices.Notice.{Notice}
 use Rattle.pg_run.specs.declared.notices.Notices.{Notices}

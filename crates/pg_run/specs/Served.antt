@@ -4,8 +4,8 @@ use Rattle.pg_run.specs.declared.pauses.Pauses.{Pauses}
 use Rattle.pg_run.specs.declared.port.Port.{Port}
 use Rattle.pg_run.specs.Pauses.{wait_of}
 use Rattle.pg_run.specs.Ports.{HandsAll, HandsMore, IsPortServed, KeepsSame, handed, handed_count, was_handed}
-use Rattle.pg_step.specs.declared.answer.Answer.{Answer}
-use Rattle.pg_step.specs.declared.command.OpId.{OpId}
+use Rattle.pg_node.specs.PgStep.declared.answer.Answer.{Answer}
+use Rattle.pg_node.specs.PgStep.declared.command.OpId.{OpId}
 
 -- the port at a place was served
 abbrev pub IsServedAt : ℕ → List Port → List Port → Type 0

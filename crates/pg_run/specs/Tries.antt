@@ -1,16 +1,16 @@
 -- What a whole turn has tried, and what was wanting in a short one.
 use Rattle.std.specs.Prelude.{◌≡◌, ◌⊎◌, ◌<◌, ◌≤◌, ◌+◌, ◌-◌, ◌^◌, ℕ, Bool, true, false, List, []}
 use Rattle.std.specs.Prelude.{◌∷◌, get_or, length, min, slice_get, None, IfSome, Result, Ok, IfErr}
-use Rattle.pg_group.specs.declared.table.GroupTable.{Ghosts}
-use Rattle.pg_node_state.specs.declared.state.fault.NodeFault.{NodeFault}
-use Rattle.pg_node_state.specs.declared.state.fault.NodeFault.TheVariants.{Refused, OutOfMemory}
+use Rattle.pg_node.specs.PgGroup.declared.table.GroupTable.{Ghosts}
+use Rattle.pg_node.specs.PgNodeState.declared.state.fault.NodeFault.{NodeFault}
+use Rattle.pg_node.specs.PgNodeState.declared.state.fault.NodeFault.TheVariants.{Refused, OutOfMemory}
 use Rattle.pg_node.specs.Bytes.{next_packet, is_drained}
 use Rattle.pg_node.specs.declared.node.Node.{Node}
-use Rattle.pg_node_state.specs.Issued.{ports_of}
+use Rattle.pg_node.specs.PgNodeState.Issued.{ports_of}
 use Rattle.pg_node.specs.Nodes.{held_by, links_of, has_lost}
-use Rattle.pg_node_state.specs.Waiting.{is_ready}
-use Rattle.pg_node_state.specs.States.{answers_of, kept_by, live_of}
-use Rattle.pg_ring.specs.Slots.{slots_left, taken}
+use Rattle.pg_node.specs.PgNodeState.Waiting.{is_ready}
+use Rattle.pg_node.specs.PgNodeState.States.{answers_of, kept_by, live_of}
+use Rattle.pg_node.specs.PgRing.Slots.{slots_left, taken}
 use Rattle.pg_run.specs.declared.linked.LinkedNode.{LinkedNode}
 use Rattle.pg_run.specs.declared.linked.Peer.{Peer}
 use Rattle.pg_run.specs.declared.notices.Notice.{Notice}
@@ -29,11 +29,11 @@ use Rattle.pg_run.specs.Notices.{inlet_of, kept_of}
 use Rattle.pg_run.specs.Pauses.{Waits, is_due, wait_of}
 use Rattle.pg_run.specs.Ports.{HandsMore, was_handed}
 use Rattle.pg_run.specs.Served.{AreServed, AreHanded, LeavesAnswer}
-use Rattle.pg_step.specs.declared.command.Command.{Command}
-use Rattle.pg_step.specs.declared.command.OpId.{OpId}
-use Rattle.pg_step.specs.declared.refusal.Refusal.TheVariants.{ClockFull}
-use Rattle.pg_step.specs.Attempts.{waits}
-use Rattle.pg_step.specs.Step.{Issue, Retry}
+use Rattle.pg_node.specs.PgStep.declared.command.Command.{Command}
+use Rattle.pg_node.specs.PgStep.declared.command.OpId.{OpId}
+use Rattle.pg_node.specs.PgStep.declared.refusal.Refusal.TheVariants.{ClockFull}
+use Rattle.pg_node.specs.PgStep.Attempts.{waits}
+use Rattle.pg_node.specs.PgStep.Step.{Issue, Retry}
 
 -- neither memory nor the clock was wanting
 abbrev pub IsNoWant : NodeFault → Type 0

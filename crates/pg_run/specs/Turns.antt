@@ -2,10 +2,10 @@
 use Rattle.std.specs.Prelude.{◌≡◌, ◌≢◌, ℕ, ◌+◌, ◌<◌, ◌≤◌, cond, nat_eq, get_or, length, map, List}
 use Rattle.std.specs.Prelude.{[], ◌∷◌, ◌++◌, Option, Some, None, Bool, true, false, Result, Ok, Err}
 use Rattle.std.specs.List.{flat_map}
-use Rattle.pg_group.specs.declared.table.GroupTable.{Ghosts}
-use Rattle.pg_node_state.specs.declared.state.fault.NodeFault.{NodeFault}
+use Rattle.pg_node.specs.PgGroup.declared.table.GroupTable.{Ghosts}
+use Rattle.pg_node.specs.PgNodeState.declared.state.fault.NodeFault.{NodeFault}
 use Rattle.pg_node.specs.Nodes.{held_by}
-use Rattle.pg_node_state.specs.States.{answers_of}
+use Rattle.pg_node.specs.PgNodeState.States.{answers_of}
 use Rattle.pg_run.specs.declared.linked.LinkedNode.{LinkedNode}
 use Rattle.pg_run.specs.declared.port.Asked.{Asked}
 use Rattle.pg_run.specs.declared.port.Port.{Port}
@@ -15,11 +15,11 @@ use Rattle.pg_run.specs.Acts.{Act, Given, Took, Saw, Did, seen_by}
 use Rattle.pg_run.specs.Follows.{Follows, node_of}
 use Rattle.pg_run.specs.Notices.{NoticesGo}
 use Rattle.pg_run.specs.Ports.{asked, asked_kept, SamePort, HandedOver}
-use Rattle.pg_step.specs.declared.answer.Answer.{Answer}
-use Rattle.pg_step.specs.declared.command.Command.{Command}
-use Rattle.pg_step.specs.declared.command.OpId.{OpId}
-use Rattle.pg_step.specs.State.{Response}
-use Rattle.pg_step.specs.Step.{Issue, Retry}
+use Rattle.pg_node.specs.PgStep.declared.answer.Answer.{Answer}
+use Rattle.pg_node.specs.PgStep.declared.command.Command.{Command}
+use Rattle.pg_node.specs.PgStep.declared.command.OpId.{OpId}
+use Rattle.pg_node.specs.PgStep.State.{Response}
+use Rattle.pg_node.specs.PgStep.Step.{Issue, Retry}
 
 -- ---- commands of a port
 

@@ -5,25 +5,21 @@ ghost use Rattle.std.specs.Prelude.{IfOk, IfErr, IfSome, OnOk, OnErr, length, ve
 
 use crate::linked::LinkedNode;
 use crate::log::NodeEvent;
-use pg_group::GroupTable;
-use pg_node::NodeFault;
-use pg_ring::{Inlet, Link};
-use pg_sends::Held;
-use pg_step::{Command, OpId};
+use pg_node::{Command, GroupTable, Held, Inlet, Link, NodeFault, OpId};
 
 impl<T: GroupTable + Drop, L: Link + Drop, I: Inlet + Drop> LinkedNode<T, L, I> {
-    ghost use Rattle.pg_message.specs.Members.{IsShort};
+    ghost use Rattle.pg_node.specs.PgMessage.Members.{IsShort};
     ghost use Rattle.pg_node.specs.Bytes.{next_packet, is_drained, marked, closed};
     ghost use Rattle.pg_node.specs.Links.{at_link};
-    ghost use Rattle.pg_node_state.specs.Issued.{ports_of};
+    ghost use Rattle.pg_node.specs.PgNodeState.Issued.{ports_of};
     ghost use Rattle.pg_node.specs.Nodes.{held_by, links_of};
-    ghost use Rattle.pg_node_state.specs.States.{names_of, kept_by, state_of};
-    ghost use Rattle.pg_opens.specs.Places.{name_at};
+    ghost use Rattle.pg_node.specs.PgNodeState.States.{names_of, kept_by, state_of};
+    ghost use Rattle.pg_node.specs.PgOpens.Places.{name_at};
     ghost use Rattle.pg_run.specs.Acts.{Saw, Did};
     ghost use Rattle.pg_run.specs.Events.{TookNext, Acted, IsFault, IsRefusedAs};
     ghost use Rattle.pg_run.specs.Events.{told_of_peer, told_of_action, told_of_loss};
     ghost use Rattle.pg_run.specs.Follows.{node_of, peers_of, log_of};
-    ghost use Rattle.pg_step.specs.Step.{Issue, Retry};
+    ghost use Rattle.pg_node.specs.PgStep.Step.{Issue, Retry};
 
     /// Takes the next packet of a peer, if its frame is whole, and logs that; whether it did. `peer`: its place among
     /// the peers. The place in the log is got first.

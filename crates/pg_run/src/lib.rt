@@ -23,7 +23,7 @@ pub use linked::{LinkedNode, Peer};
 pub use log::{LogEntry, NodeEvent};
 pub use notices::{NOTICE_PLACES, Notice};
 pub use pauses::Pauses;
-pub use pg_sends::Held;
+pub use pg_node::Held;
 pub use port::{Asked, Client, PORT_PLACES, Port};
 pub use ports::{port_pair, ports_together};
 pub use run::{NodeRun, Turned};

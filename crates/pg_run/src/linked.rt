@@ -2,11 +2,10 @@
 
 ghost use Rattle.std.specs.Prelude.{◌≡◌, ◌+◌, [], length};
 ghost use Rattle.pg_node.specs.Nodes.{held_by};
-ghost use Rattle.pg_node_state.specs.States.{names_of};
+ghost use Rattle.pg_node.specs.PgNodeState.States.{names_of};
 
 use crate::log::LogEntry;
-use pg_group::GroupTable;
-use pg_node::Node;
+use pg_node::{GroupTable, Node};
 use std::alloc::Global;
 
 /// The links of a node to one of its peers: where its bytes go out, and where those of the peer come in.

@@ -1,7 +1,6 @@
 //! What a node keeps of its events.
 
-use pg_sends::Held;
-use pg_step::{Command, OpId};
+use pg_node::{Command, Held, OpId};
 
 /// An event of one node.
 #[derive(Debug, Drop)]

@@ -11,9 +11,7 @@ ghost use Rattle.pg_run.specs.Turns.{SeesTold};
 use crate::linked::LinkedNode;
 use crate::notices::{Notice, Notices};
 use crate::phases::{PULL_LEN, Phase};
-use pg_group::GroupTable;
-use pg_node::NodeFault;
-use pg_ring::{Inlet, Link};
+use pg_node::{GroupTable, Inlet, Link, NodeFault};
 
 /// The loss in the next notice is seen, once all that came of the lost peer is taken. It is busy where it is seen.
 pub(crate) fn see_next<T: GroupTable + Drop, L: Link + Drop, I: Inlet + Drop>(

@@ -4,13 +4,11 @@ ghost use Rattle.std.specs.Prelude.{◌≡◌, ◌<◌, ◌≤◌, ◌+◌, ◌-
 ghost use Rattle.std.specs.Prelude.{Err, length, min, slice_get, IfOk, IfErr, IfSome, OnErr};
 
 use crate::linked::LinkedNode;
-use pg_group::GroupTable;
-use pg_node::NodeFault;
-use pg_ring::{Inlet, Link};
+use pg_node::{GroupTable, Inlet, Link, NodeFault};
 
 impl<T: GroupTable + Drop, L: Link + Drop, I: Inlet + Drop> LinkedNode<T, L, I> {
-    ghost use Rattle.pg_step.specs.declared.refusal.Refusal.TheVariants.{NodeLost};
-    ghost use Rattle.pg_node_state.specs.declared.state.fault.NodeFault.TheVariants.{Refused, Damaged, OutOfMemory};
+    ghost use Rattle.pg_node.specs.PgStep.declared.refusal.Refusal.TheVariants.{NodeLost};
+    ghost use Rattle.pg_node.specs.PgNodeState.declared.state.fault.NodeFault.TheVariants.{Refused, Damaged, OutOfMemory};
     ghost use Rattle.pg_node.specs.Nodes.{held_by, links_of, has_lost};
     ghost use Rattle.pg_node.specs.Links.{at_link, with_fed, without_front};
     ghost use Rattle.pg_run.specs.Follows.{Follows, InletMoves, LinkMoves, node_of, peers_of};

@@ -2,7 +2,7 @@
 
 ghost use Rattle.std.specs.Prelude.{◌≡◌, ◌⊎◌, ◌<◌, [], ◌∷◌, length, IfSome, IfNone};
 
-use pg_ring::SlotIn;
+use pg_node::SlotIn;
 
 /// How many notices are on their way to a node at most.
 pub const NOTICE_PLACES: usize = 16;
@@ -24,7 +24,7 @@ pub(crate) struct Notices {
 }
 
 impl Notices {
-    ghost use Rattle.pg_ring.specs.Slots.{slots_left, taken};
+    ghost use Rattle.pg_node.specs.PgRing.Slots.{slots_left, taken};
     ghost use Rattle.pg_run.specs.Notices.{NoticesGo, inlet_of, kept_of};
 
     /// Where notices come, of which none is to be seen yet.

@@ -5,10 +5,10 @@ ghost use Rattle.std.specs.Prelude.{Some, None, IsOk, IfOk, IfSome, IfNone, OnEr
 ghost use Rattle.pg_run.specs.declared.pauses.Pause.{Pause};
 ghost use Rattle.pg_run.specs.declared.pauses.Wait.TheVariants.{Tried};
 ghost use Rattle.pg_run.specs.Pauses.{Passed, wait_of};
-ghost use Rattle.pg_step.specs.declared.command.OpId.{OpId};
-ghost use Rattle.pg_step.specs.Attempts.{same_op};
+ghost use Rattle.pg_node.specs.PgStep.declared.command.OpId.{OpId};
+ghost use Rattle.pg_node.specs.PgStep.Attempts.{same_op};
 
-use pg_step::OpId;
+use pg_node::OpId;
 use rand_core::Rng;
 use std::alloc::{AllocError, Global};
 

@@ -4,10 +4,7 @@ ghost use Rattle.std.specs.Prelude.{◌≡◌, ◌⊎◌, ◌<◌, [], true, fal
 ghost use Rattle.pg_run.specs.Tries.{IsNoWant, IsWant};
 
 use crate::linked::LinkedNode;
-use pg_group::GroupTable;
-use pg_node::NodeFault;
-use pg_ring::{Inlet, Link};
-use pg_step::Refusal;
+use pg_node::{GroupTable, Inlet, Link, NodeFault, Refusal};
 
 /// How many bytes are pulled of a peer in one turn at most.
 pub(crate) const PULL_LEN: usize = 4096;

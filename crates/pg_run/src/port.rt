@@ -3,12 +3,11 @@
 ghost use Rattle.std.specs.Prelude.{◌≡◌, ◌<◌, ◌≤◌, ◌+◌, ◌-◌, ◌^◌, [], ◌∷◌, ◌++◌, true, false, min, length, None};
 ghost use Rattle.std.specs.Prelude.{Ok, IsTrue, IsFalse, IsOk, IsSome, IfOk, IfErr, IfSome, IfNone, OnOk, OnErr};
 ghost use mathlib.Core.List.{IsPrefix};
-ghost use Rattle.pg_ring.specs.Slots.{taken};
+ghost use Rattle.pg_node.specs.PgRing.Slots.{taken};
 
 use crate::pauses::Pauses;
 use crate::phases::Phase;
-use pg_ring::{SlotIn, SlotOut};
-use pg_step::{Answer, Command, OpId};
+use pg_node::{Answer, Command, OpId, SlotIn, SlotOut};
 use std::alloc::{AllocError, Global};
 
 /// How many commands, and how many answers, are on their way at a port at most.

@@ -4,7 +4,7 @@ ghost use Rattle.std.specs.Prelude.{IfOk};
 ghost use Rattle.pg_run.specs.Ports.{ArePort, AreNew, ClientRests, PortRests, Meets};
 
 use crate::port::{Client, PORT_PLACES, Port};
-use pg_ring::{slot_pair, slots_together};
+use pg_node::{slot_pair, slots_together};
 use std::alloc::{AllocError, Global};
 
 /// The two ends of a new port.

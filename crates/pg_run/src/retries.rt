@@ -8,16 +8,13 @@ ghost use Rattle.pg_run.specs.Logs.{IsDueRetry, LogsOnly, MayLogRetry};
 ghost use Rattle.pg_run.specs.Pauses.{Waits, is_due, wait_of};
 ghost use Rattle.pg_run.specs.Tries.{HasRetried, WasWanting, is_ready_at, waits_at};
 ghost use Rattle.pg_run.specs.Turns.{GoesOn};
-ghost use Rattle.pg_step.specs.declared.command.OpId.{OpId};
-ghost use Rattle.pg_step.specs.Attempts.{same_op};
+ghost use Rattle.pg_node.specs.PgStep.declared.command.OpId.{OpId};
+ghost use Rattle.pg_node.specs.PgStep.Attempts.{same_op};
 
 use crate::linked::LinkedNode;
 use crate::pauses::Pauses;
 use crate::phases::Phase;
-use pg_group::GroupTable;
-use pg_node::NodeFault;
-use pg_ring::{Inlet, Link};
-use pg_step::OpId;
+use pg_node::{GroupTable, Inlet, Link, NodeFault, OpId};
 use rand_core::Rng;
 use std::alloc::{AllocError, Global};
 

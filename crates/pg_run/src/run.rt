@@ -1,7 +1,7 @@
 //! A node as its thread runs it, and one turn of it.
 
 ghost use Rattle.std.specs.Prelude.{◌≡◌, cond, length};
-ghost use Rattle.pg_node_state.specs.Issued.{ports_of};
+ghost use Rattle.pg_node.specs.PgNodeState.Issued.{ports_of};
 ghost use Rattle.pg_node.specs.Nodes.{held_by};
 ghost use Rattle.pg_run.specs.Follows.{node_of};
 ghost use Rattle.pg_run.specs.declared.run.Turned.TheVariants as Turned;
@@ -14,8 +14,7 @@ use crate::phases::Phase;
 use crate::port::Port;
 use crate::retries::retry_all;
 use crate::serving::{command_all, hand_all};
-use pg_group::GroupTable;
-use pg_ring::{Inlet, Link, SlotIn};
+use pg_node::{GroupTable, Inlet, Link, SlotIn};
 use rand_core::Rng;
 use std::alloc::Global;
 
@@ -63,7 +62,7 @@ impl<T: GroupTable + Drop, L: Link + Drop, I: Inlet + Drop, K: Rng + Drop> NodeR
     ghost use Rattle.pg_run.specs.Tries.{RetriedBy, TurnDid};
     ghost use Rattle.pg_run.specs.Runs.{linked_of, ports_at, stop_of, notices_at};
     ghost use Rattle.pg_run.specs.Runs.{notices_of, generator_of, busy_of, pauses_of, Runs, TurnedTo};
-    ghost use Rattle.pg_step.specs.declared.command.OpId.{OpId};
+    ghost use Rattle.pg_node.specs.PgStep.declared.command.OpId.{OpId};
 
     /// A node that has made no turn.
     ///

@@ -4,8 +4,7 @@ ghost use Rattle.std.specs.Prelude.{◌≤◌};
 ghost use Rattle.pg_run.specs.Runs.{Runs, RanBy, Ended, stop_of};
 
 use crate::run::{NodeRun, Turned};
-use pg_group::GroupTable;
-use pg_ring::{Inlet, Link};
+use pg_node::{GroupTable, Inlet, Link};
 use rand_core::Rng;
 use std::thread;
 

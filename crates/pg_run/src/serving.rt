@@ -1,9 +1,9 @@
 //! The phases of a turn that are between a node and its clients.
 
 ghost use Rattle.std.specs.Prelude.{◌≡◌, ◌<◌, ◌^◌, true, false, length};
-ghost use Rattle.pg_node_state.specs.Issued.{ports_of};
+ghost use Rattle.pg_node.specs.PgNodeState.Issued.{ports_of};
 ghost use Rattle.pg_node.specs.Nodes.{held_by};
-ghost use Rattle.pg_node_state.specs.States.{answers_of};
+ghost use Rattle.pg_node.specs.PgNodeState.States.{answers_of};
 ghost use Rattle.pg_run.specs.Follows.{log_of, node_of};
 ghost use Rattle.pg_run.specs.Logs.{IsCommand, LogsOnly};
 ghost use Rattle.pg_run.specs.Ports.{IsPortServed, handed, handed_count};
@@ -16,8 +16,7 @@ use crate::linked::LinkedNode;
 use crate::pauses::Pauses;
 use crate::phases::Phase;
 use crate::port::{Asked, Port};
-use pg_group::GroupTable;
-use pg_ring::{Inlet, Link};
+use pg_node::{GroupTable, Inlet, Link};
 use std::alloc::Global;
 
 /// Each port gives a command at most.

@@ -3,3 +3,12 @@ pub mod Histories
 pub mod Rounds
 pub mod Runs
 pub mod Scripts
+pub use Rattle.pg_trace.specs.PgAccount
+pub use Rattle.pg_trace.specs.PgDiagram
+pub use Rattle.pg_trace.specs.PgFrameWorld
+pub use Rattle.pg_trace.specs.PgHistory
+pub use Rattle.pg_trace.specs.PgLines
+pub use Rattle.pg_trace.specs.PgStarts
+pub use Rattle.pg_trace.specs.PgStep
+pub use Rattle.pg_trace.specs.PgText
+pub use Rattle.pg_trace.specs.PgWorld

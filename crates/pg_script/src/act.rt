@@ -3,10 +3,8 @@
 ghost use Rattle.std.specs.Prelude.{◌≡◌};
 ghost use Rattle.pg_script.specs.Scripts.{node_act, pair_act};
 
-use pg_lines::{NodeForm, PairForm};
-use pg_step::OpId;
 use pg_term::Term;
-use pg_world::{FrameStep, Step};
+use pg_trace::{FrameStep, NodeForm, OpId, PairForm, Step};
 
 /// What a line does that is no declaration. Nodes are named by their places.
 #[derive(Debug, Drop)]

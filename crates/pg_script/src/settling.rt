@@ -4,9 +4,7 @@ ghost use Rattle.std.specs.Prelude.{◌≡◌, ◌||◌, nat_eq, Some, IfOk, OnO
 ghost use Rattle.pg_script.specs.Rounds.{MovesBy, RoundPasses, PassesIf, Round, RowFrom, Settles, moved_by, view_of};
 
 use crate::stage::Stage;
-use pg_node::NodeFault;
-use pg_step::Refusal;
-use pg_world::{FrameStep, Step, Stepped};
+use pg_trace::{FrameStep, NodeFault, Refusal, Step, Stepped};
 use std::alloc::AllocError;
 
 /// How many bytes a round moves at most of each pair.

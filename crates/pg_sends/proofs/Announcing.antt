@@ -1,11 +1,11 @@
 -- What a node sends as it begins.
 use Rattle.std.proofs.Common.{◌≡◌, ◌≤◌, ◌<◌, ◌+◌, ℕ, zero, suc, Bool, true, false, cond, get_or, List, [], ◌∷◌, ◌++◌, length, ◌∙◌, arith}
 use Rattle.std.specs.Prelude.{Result, Ok, Err, IfOk}
-use Rattle.pg_group.specs.Table.{Table}
-use Rattle.pg_machine.specs.Clocked.{Stamped, stamped}
-use Rattle.pg_message.specs.declared.message.Message.{Message}
-use Rattle.pg_message.specs.declared.packet.Packet.{Packet}
-use Rattle.pg_step.specs.Nodes.{Node, Nodes, to_peers}
+use Rattle.pg_opens.specs.PgGroup.Table.{Table}
+use Rattle.pg_opens.specs.PgMachine.Clocked.{Stamped, stamped}
+use Rattle.pg_opens.specs.PgMessage.declared.message.Message.{Message}
+use Rattle.pg_opens.specs.PgMessage.declared.packet.Packet.{Packet}
+use Rattle.pg_opens.specs.PgStep.Nodes.{Node, Nodes, to_peers}
 use Rattle.pg_sends.specs.Marked.{sent_below}
 use Rattle.pg_sends.specs.Opening.{Announces, GoToPeers, IsAnnouncement}
 

@@ -4,11 +4,11 @@ use Rattle.std.specs.Prelude.{IsOk, OnOk}
 use Rattle.std.specs.Int.{w32, to_be_bytes}
 use Rattle.std.proofs.Math.Seq.{drop-append_seam}
 use Rattle.bytes.specs.Filled.{Filled}
-use Rattle.pg_message.specs.declared.fault.MessageFault.{MessageFault}
-use Rattle.pg_message.specs.declared.packet.Packet.{Packet}
-use Rattle.pg_message.specs.Reading.{packet_spelled}
-use Rattle.pg_message.specs.Writing.{term_of_packet, is_exchange}
-use Rattle.pg_term_io.specs.Writing.{written}
+use Rattle.pg_opens.specs.PgMessage.declared.fault.MessageFault.{MessageFault}
+use Rattle.pg_opens.specs.PgMessage.declared.packet.Packet.{Packet}
+use Rattle.pg_opens.specs.PgMessage.Reading.{packet_spelled}
+use Rattle.pg_opens.specs.PgMessage.Writing.{term_of_packet, is_exchange}
+use Rattle.pg_opens.specs.PgTermIo.Writing.{written}
 use Rattle.pg_writer.specs.Frames.{frame_of, AppendsFrame}
 use Rattle.pg_writer.specs.declared.size.TheConstants.{MAX_SMALL_LEN}
 use Rattle.pg_sends.specs.declared.framed.Framed.{Framed}

@@ -4,7 +4,7 @@ use Rattle.std.proofs.Common.{◌||◌, List, [], ◌∷◌, refl, ap, sym, ◌�
 use Rattle.std.proofs.Math.Nat.{eq-or-lt_of_le}
 use Rattle.std.specs.List.{list_any}
 use Rattle.pg_term.specs.Same.{same_atom}
-use Rattle.pg_step.specs.Nodes.{Node, Nodes, is_peer}
+use Rattle.pg_opens.specs.PgStep.Nodes.{Node, Nodes, is_peer}
 use Rattle.pg_opens.specs.Places.{name_at, lost_in, live_in}
 use Rattle.pg_opens.proofs.Named.{place_cases, any_filtered}
 

@@ -3,11 +3,11 @@ use Rattle.std.proofs.Common.{◌≡◌, ◌⊎◌, inl, inr, ℕ, zero, suc, �
 use Rattle.std.proofs.Common.{get_or, length, List, [], ◌∷◌, ◌++◌, refl, sym, subst, ◌∙◌, arith}
 use Rattle.std.specs.List.{AllByRecursion}
 use Rattle.std.proofs.Math.Nat.{eq-or-lt_of_le}
-use Rattle.pg_message.specs.declared.message.Message.{Message}
-use Rattle.pg_message.specs.declared.packet.Packet.{Packet}
-use Rattle.pg_message.specs.declared.packet.TheConstants.{MAX_STAMP}
-use Rattle.pg_message.specs.Writing.{is_exchange, is_sayable}
-use Rattle.pg_step.specs.Nodes.{Node}
+use Rattle.pg_opens.specs.PgMessage.declared.message.Message.{Message}
+use Rattle.pg_opens.specs.PgMessage.declared.packet.Packet.{Packet}
+use Rattle.pg_opens.specs.PgMessage.declared.packet.TheConstants.{MAX_STAMP}
+use Rattle.pg_opens.specs.PgMessage.Writing.{is_exchange, is_sayable}
+use Rattle.pg_opens.specs.PgStep.Nodes.{Node}
 use Rattle.pg_sends.specs.declared.orders.Order.{Order}
 use Rattle.pg_sends.specs.declared.orders.Order.TheVariants.{Lock, Free, Change, End, Reply}
 use Rattle.pg_sends.specs.Orders.{message_of}

@@ -7,12 +7,12 @@ use Rattle.std.proofs.Math.Nat.{eq-or-lt_of_le}
 use Rattle.std.proofs.lemmas.Bool.{eq-eqb, ne_eqb}
 use Rattle.std.proofs.lemmas.List.{get_or_push, get_or_append_left, length_push}
 use Rattle.pg_term.specs.Same.{same_atom}
-use Rattle.pg_message.specs.declared.message.Message.{Message}
-use Rattle.pg_message.specs.declared.packet.Packet.{Packet}
-use Rattle.pg_machine.specs.Clocked.{Stamped, stamped}
-use Rattle.pg_multicall.specs.Places.{has_of}
-use Rattle.pg_multicall.specs.declared.places.Places.{Places}
-use Rattle.pg_step.specs.Nodes.{Node, is_peer, to_one}
+use Rattle.pg_opens.specs.PgMessage.declared.message.Message.{Message}
+use Rattle.pg_opens.specs.PgMessage.declared.packet.Packet.{Packet}
+use Rattle.pg_opens.specs.PgMachine.Clocked.{Stamped, stamped}
+use Rattle.pg_opens.specs.PgMulticall.Places.{has_of}
+use Rattle.pg_opens.specs.PgMulticall.declared.places.Places.{Places}
+use Rattle.pg_opens.specs.PgStep.Nodes.{Node, is_peer, to_one}
 use Rattle.pg_opens.specs.Places.{name_at, lost_in, live_in}
 use Rattle.pg_opens.proofs.Named.{atom_self, atom_other, names_differ, reads_at}
 use Rattle.pg_opens.proofs.Named.{reads_nobody, place_cases, any_filtered}

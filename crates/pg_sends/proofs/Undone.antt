@@ -4,7 +4,7 @@ use Rattle.std.proofs.Math.Path.{fun_ext}
 use Rattle.pg_term.specs.declared.term.Term.{Term}
 use Rattle.pg_term.specs.RefParts.{RefParts, ref_eq}
 use Rattle.pg_term.specs.Same.{same_term}
-use Rattle.pg_lock.specs.Locks.{Locks, held, is_free, is_holder, grants, after_ask, given_up}
+use Rattle.pg_opens.specs.PgLock.Locks.{Locks, held, is_free, is_holder, grants, after_ask, given_up}
 
 free_by : (asks formed free : Bool) → (asks && (formed && free)) ≡ true → (true && free) ≡ true
 free_by true true free e = e

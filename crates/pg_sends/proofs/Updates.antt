@@ -1,8 +1,8 @@
 -- Two words of one update.
 use Rattle.std.proofs.Common.{◌≡◌, ap, Option, Some, None}
-use Rattle.pg_group.specs.declared.update.Update.{Update}
-use Rattle.pg_step.specs.State.{Stage}
-use Rattle.pg_step.specs.State.Stage.{Closed, Waiting, Asking, Changing}
+use Rattle.pg_opens.specs.PgGroup.declared.update.Update.{Update}
+use Rattle.pg_opens.specs.PgStep.State.{Stage}
+use Rattle.pg_opens.specs.PgStep.State.Stage.{Closed, Waiting, Asking, Changing}
 
 -- two words of how a command waits
 pub same_update : (u v : Update) → Waiting u ≡ Waiting v → u ≡ v

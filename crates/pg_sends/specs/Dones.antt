@@ -1,7 +1,7 @@
 -- What an event did, by the form in which it sends.
 use Rattle.std.specs.Prelude.{ℕ}
 use Rattle.std.specs.Global.{Vec}
-use Rattle.pg_message.specs.declared.packet.Packet.{Packet}
+use Rattle.pg_opens.specs.PgMessage.declared.packet.Packet.{Packet}
 use Rattle.pg_sends.specs.declared.done.Done.{Done}
 use Rattle.pg_sends.specs.declared.framed.Framed.{Framed}
 use Rattle.pg_sends.specs.contracts.sends.VecTuple2UsizePacketOutgoing.TheImpl as packets

@@ -1,10 +1,10 @@
 -- The frames of packets that a node sends.
 use Rattle.std.specs.Prelude.{◌≡◌, ◌≤◌, ◌+◌, ℕ, nat_eq, cond, List, [], ◌∷◌, ◌++◌, length, Ok}
 use Rattle.std.specs.List.{AllByRecursion}
-use Rattle.pg_message.specs.declared.packet.Packet.{Packet}
-use Rattle.pg_message.specs.Reading.{packet_spelled}
-use Rattle.pg_message.specs.Writing.{term_of_packet}
-use Rattle.pg_term_io.specs.Writing.{written}
+use Rattle.pg_opens.specs.PgMessage.declared.packet.Packet.{Packet}
+use Rattle.pg_opens.specs.PgMessage.Reading.{packet_spelled}
+use Rattle.pg_opens.specs.PgMessage.Writing.{term_of_packet}
+use Rattle.pg_opens.specs.PgTermIo.Writing.{written}
 use Rattle.pg_writer.specs.Frames.{frame_of}
 use Rattle.pg_writer.specs.declared.size.TheConstants.{MAX_SMALL_LEN}
 

@@ -1,8 +1,8 @@
 -- To which peers a frame goes, and which packets that are.
 use Rattle.std.specs.Prelude.{◌≡◌, ℕ, Bool, true, false, drop, List, [], ◌∷◌, Result, Ok, Err}
-use Rattle.pg_message.specs.declared.fault.MessageFault.{MessageFault}
-use Rattle.pg_message.specs.declared.packet.Packet.{Packet}
-use Rattle.pg_message.specs.Reading.{packet_spelled}
+use Rattle.pg_opens.specs.PgMessage.declared.fault.MessageFault.{MessageFault}
+use Rattle.pg_opens.specs.PgMessage.declared.packet.Packet.{Packet}
+use Rattle.pg_opens.specs.PgMessage.Reading.{packet_spelled}
 use Rattle.pg_sends.specs.declared.goes.Goes.{Goes}
 use Rattle.pg_sends.specs.declared.goes.Goes.TheVariants.{Nobody, One, Marked}
 use Rattle.pg_sends.specs.Frames.{IsFrame}

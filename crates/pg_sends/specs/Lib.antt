@@ -7,3 +7,4 @@ pub mod Opening
 pub mod Orders
 pub mod Sendable
 pub mod Sent
+pub use Rattle.pg_writer.specs as PgWriter

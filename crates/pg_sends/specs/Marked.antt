@@ -1,11 +1,11 @@
 -- Peers that are marked, by their places, and the packets to them.
 use Rattle.std.specs.Prelude.{ℕ, zero, suc, Bool, false, cond, drop, get_or, List, [], ◌∷◌, ◌++◌}
-use Rattle.pg_message.specs.declared.message.Message.{Message}
-use Rattle.pg_message.specs.declared.packet.Packet.{Packet}
-use Rattle.pg_multicall.specs.Places.{has_of}
-use Rattle.pg_multicall.specs.declared.places.Places.{Places}
+use Rattle.pg_opens.specs.PgMessage.declared.message.Message.{Message}
+use Rattle.pg_opens.specs.PgMessage.declared.packet.Packet.{Packet}
+use Rattle.pg_opens.specs.PgMulticall.Places.{has_of}
+use Rattle.pg_opens.specs.PgMulticall.declared.places.Places.{Places}
 use Rattle.pg_opens.specs.Places.{reads}
-use Rattle.pg_step.specs.Nodes.{Node}
+use Rattle.pg_opens.specs.PgStep.Nodes.{Node}
 
 -- the peers with a mark, by the marks of all peers
 abbrev pub is_marked : List Node → List Bool → Node → Bool

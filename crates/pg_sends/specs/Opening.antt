@@ -1,13 +1,13 @@
 -- What a node sends as it begins.
 use Rattle.std.specs.Prelude.{◌≡◌, ◌<◌, ◌+◌, ℕ, true, List, length}
 use Rattle.std.specs.List.{AllByRecursion}
-use Rattle.pg_group.specs.Table.{Table}
-use Rattle.pg_exchange.specs.GroupList.{GroupList, IsSnapshot}
-use Rattle.pg_machine.specs.Clocked.{Stamped, stamped}
-use Rattle.pg_message.specs.declared.message.Message.{Message}
-use Rattle.pg_message.specs.declared.message.Message.TheVariants.{Exchange}
-use Rattle.pg_message.specs.declared.packet.Packet.{Packet}
-use Rattle.pg_step.specs.Nodes.{Node, Nodes, to_peers}
+use Rattle.pg_opens.specs.PgGroup.Table.{Table}
+use Rattle.pg_opens.specs.PgExchange.GroupList.{GroupList, IsSnapshot}
+use Rattle.pg_opens.specs.PgMachine.Clocked.{Stamped, stamped}
+use Rattle.pg_opens.specs.PgMessage.declared.message.Message.{Message}
+use Rattle.pg_opens.specs.PgMessage.declared.message.Message.TheVariants.{Exchange}
+use Rattle.pg_opens.specs.PgMessage.declared.packet.Packet.{Packet}
+use Rattle.pg_opens.specs.PgStep.Nodes.{Node, Nodes, to_peers}
 
 -- to each peer one packet at time 0, which tells all groups of a table
 abbrev pub Announces : Table → Nodes → (Node → List (Stamped Message)) → Type 0

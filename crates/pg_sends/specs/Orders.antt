@@ -1,11 +1,11 @@
 -- The messages of what a node tells its peers.
 use Rattle.std.specs.Prelude.{ℕ}
 use Rattle.pg_term.specs.RefParts.{RefParts}
-use Rattle.pg_message.specs.declared.message.Message.{Message}
-use Rattle.pg_message.specs.declared.message.Message.TheVariants as messages
-use Rattle.pg_message.specs.declared.message.Request.TheVariants as requests
-use Rattle.pg_message.specs.declared.packet.Packet.{Packet}
-use Rattle.pg_refs.specs.Numbered.{numbered}
+use Rattle.pg_opens.specs.PgMessage.declared.message.Message.{Message}
+use Rattle.pg_opens.specs.PgMessage.declared.message.Message.TheVariants as messages
+use Rattle.pg_opens.specs.PgMessage.declared.message.Request.TheVariants as requests
+use Rattle.pg_opens.specs.PgMessage.declared.packet.Packet.{Packet}
+use Rattle.pg_opens.specs.PgRefs.Numbered.{numbered}
 use Rattle.pg_sends.specs.declared.orders.Numbered.{Numbered}
 use Rattle.pg_sends.specs.declared.orders.Order.{Order}
 use Rattle.pg_sends.specs.declared.orders.Order.TheVariants.{Lock, Free, Change, End, Reply}

@@ -1,10 +1,10 @@
 -- What an event of a node sends can be written: one small packet, to a peer or to several.
 use Rattle.std.specs.Prelude.{◌≡◌, ◌≤◌, ◌<◌, ◌+◌, ℕ, true, false, List, [], ◌∷◌, length}
 use Rattle.std.specs.List.{AllByRecursion}
-use Rattle.pg_message.specs.declared.packet.Packet.{Packet}
-use Rattle.pg_message.specs.declared.packet.TheConstants.{MAX_STAMP}
-use Rattle.pg_message.specs.Writing.{is_exchange, is_sayable}
-use Rattle.pg_step.specs.Nodes.{Node}
+use Rattle.pg_opens.specs.PgMessage.declared.packet.Packet.{Packet}
+use Rattle.pg_opens.specs.PgMessage.declared.packet.TheConstants.{MAX_STAMP}
+use Rattle.pg_opens.specs.PgMessage.Writing.{is_exchange, is_sayable}
+use Rattle.pg_opens.specs.PgStep.Nodes.{Node}
 
 -- it goes to the place of a peer, each name in it is a name, its stamp is within the limit, and it is no exchange
 pub record IsSendable (names : List Node) (sent : ℕ × Packet) : Type 0 where

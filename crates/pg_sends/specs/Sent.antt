@@ -1,11 +1,11 @@
 -- What is sent to each node.
 use Rattle.std.specs.Prelude.{ℕ, ◌+◌, ◌++◌, cond, List, [], ◌∷◌}
 use Rattle.pg_term.specs.Same.{same_atom}
-use Rattle.pg_message.specs.declared.message.Message.{Message}
-use Rattle.pg_message.specs.declared.packet.Packet.{Packet}
-use Rattle.pg_machine.specs.Clocked.{Stamped}
+use Rattle.pg_opens.specs.PgMessage.declared.message.Message.{Message}
+use Rattle.pg_opens.specs.PgMessage.declared.packet.Packet.{Packet}
+use Rattle.pg_opens.specs.PgMachine.Clocked.{Stamped}
 use Rattle.pg_opens.specs.Places.{name_at}
-use Rattle.pg_step.specs.Nodes.{Node}
+use Rattle.pg_opens.specs.PgStep.Nodes.{Node}
 
 abbrev pub stamped_of : Packet → Stamped Message
 stamped_of packet = record { stamp = packet.stamp; packet = packet.message }

@@ -7,10 +7,7 @@ ghost use Rattle.pg_sends.specs.Opening.{Announces, GoToPeers, IsAnnouncement};
 ghost use Rattle.pg_sends.specs.Sent.{sends_in};
 
 use crate::sends::copies_to_live;
-use pg_exchange::snapshot;
-use pg_group::GroupTable;
-use pg_message::{Message, Packet};
-use pg_opens::Opens;
+use pg_opens::{GroupTable, Message, Opens, Packet, snapshot};
 use std::alloc::{AllocError, Global};
 
 /// The groups of a table to each live peer, by its place, at time 0.

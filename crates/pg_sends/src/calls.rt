@@ -1,22 +1,22 @@
 //! What the turns after answers send, made before anything changes.
 
 ghost use Rattle.std.specs.Prelude.{◌≡◌, ◌≤◌, ◌<◌, ◌+◌, ◌^◌, ℕ, Bool, true, Some, None, is_some, IfOk};
-ghost use Rattle.pg_group.specs.declared.update.Update.{Update};
-ghost use Rattle.pg_group.specs.Value.{name_of};
-ghost use Rattle.pg_machine.specs.Clocked.{stamped};
-ghost use Rattle.pg_message.specs.declared.message.Message.TheVariants as messages;
-ghost use Rattle.pg_message.specs.declared.message.Request.TheVariants as requests;
+ghost use Rattle.pg_opens.specs.PgGroup.declared.update.Update.{Update};
+ghost use Rattle.pg_opens.specs.PgGroup.Value.{name_of};
+ghost use Rattle.pg_opens.specs.PgMachine.Clocked.{stamped};
+ghost use Rattle.pg_opens.specs.PgMessage.declared.message.Message.TheVariants as messages;
+ghost use Rattle.pg_opens.specs.PgMessage.declared.message.Request.TheVariants as requests;
 ghost use Rattle.pg_opens.specs.Opens.{names_of, live_of, uses_of, references_of};
 ghost use Rattle.pg_opens.specs.Readings.{is_locking, is_updating, update_of};
-ghost use Rattle.pg_step.specs.declared.command.OpId.{OpId};
-ghost use Rattle.pg_step.specs.Attempts.{asks, is_yes, own_reference};
-ghost use Rattle.pg_step.specs.Nodes.{Node, to_peers};
-ghost use Rattle.pg_step.specs.State.{Status};
-ghost use Rattle.pg_step.specs.State.Use.{Locking, Updating};
+ghost use Rattle.pg_opens.specs.PgStep.declared.command.OpId.{OpId};
+ghost use Rattle.pg_opens.specs.PgStep.Attempts.{asks, is_yes, own_reference};
+ghost use Rattle.pg_opens.specs.PgStep.Nodes.{Node, to_peers};
+ghost use Rattle.pg_opens.specs.PgStep.State.{Status};
+ghost use Rattle.pg_opens.specs.PgStep.State.Use.{Locking, Updating};
 ghost use Rattle.pg_sends.specs.Sent.{sends_in};
 ghost use Rattle.pg_sends.specs.Sendable.{AreSendable};
-ghost use Rattle.pg_message.specs.Name.{is_name};
-ghost use Rattle.pg_message.specs.declared.packet.TheConstants.{MAX_STAMP};
+ghost use Rattle.pg_opens.specs.PgMessage.Name.{is_name};
+ghost use Rattle.pg_opens.specs.PgMessage.declared.packet.TheConstants.{MAX_STAMP};
 
 use crate::done::Done;
 use crate::held::Held;
@@ -24,9 +24,7 @@ use crate::orders::{Order, own_under};
 use crate::outgoing::Outgoing;
 use crate::sends::{to_asked, to_granted, to_live};
 use bytes::BytesMut;
-use pg_group::Update;
-use pg_opens::Opens;
-use pg_step::OpId;
+use pg_opens::{OpId, Opens, Update};
 use std::alloc::{AllocError, Global};
 
 /// An attempt is given up: each peer that granted frees the lock.
@@ -188,8 +186,8 @@ pub fn update_under(opens: &Opens, number: u32) -> &Update
 
 ghost use Rattle.std.specs.Prelude.{false, nat_le};
 ghost use Rattle.pg_opens.specs.Opens.{opened_of};
-ghost use Rattle.pg_step.specs.Commands.{OPEN_LIMIT as limit_of_open};
-ghost use Rattle.pg_step.specs.Nodes.{is_peer};
+ghost use Rattle.pg_opens.specs.PgStep.Commands.{OPEN_LIMIT as limit_of_open};
+ghost use Rattle.pg_opens.specs.PgStep.Nodes.{is_peer};
 
 /// How many commands are open at most at one node.
 const OPEN_LIMIT: usize = 256;

@@ -2,9 +2,7 @@ ghost use Rattle.std.specs.Prelude.{◌≡◌, ◌≤◌, length};
 
 use crate::held::Held;
 use crate::outgoing::Outgoing;
-use pg_group::Update;
-use pg_message::Packet;
-use pg_step::{Odd, OpId};
+use pg_opens::{Odd, OpId, Packet, Update};
 use std::alloc::Global;
 
 /// What an event did beside its change of the state. `S`: the form in which it sends.
@@ -21,7 +19,7 @@ pub struct Done<S: Outgoing = Vec<(usize, Packet)>> {
 
 impl<S: Outgoing> Done<S> {
     ghost use Rattle.std.specs.Prelude.{List, [], None};
-    ghost use Rattle.pg_step.specs.Nodes.{Node};
+    ghost use Rattle.pg_opens.specs.PgStep.Nodes.{Node};
     ghost use Rattle.pg_sends.specs.Sendable.{AreSendable};
 
     /// Nothing is sent, and nothing began. It takes no memory.

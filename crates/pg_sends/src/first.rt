@@ -1,20 +1,20 @@
 //! The first request of an attempt, made before anything changes.
 
 ghost use Rattle.std.specs.Prelude.{◌≡◌, ◌≤◌, ◌<◌, ◌+◌, ◌^◌, List, [], true, Some, None, IfOk, length};
-ghost use Rattle.pg_group.specs.declared.update.Update.{Update};
-ghost use Rattle.pg_group.specs.Value.{name_of};
-ghost use Rattle.pg_machine.specs.Clocked.{stamped};
-ghost use Rattle.pg_message.specs.declared.message.Message.TheVariants as messages;
-ghost use Rattle.pg_message.specs.declared.message.Request.TheVariants as requests;
+ghost use Rattle.pg_opens.specs.PgGroup.declared.update.Update.{Update};
+ghost use Rattle.pg_opens.specs.PgGroup.Value.{name_of};
+ghost use Rattle.pg_opens.specs.PgMachine.Clocked.{stamped};
+ghost use Rattle.pg_opens.specs.PgMessage.declared.message.Message.TheVariants as messages;
+ghost use Rattle.pg_opens.specs.PgMessage.declared.message.Request.TheVariants as requests;
 ghost use Rattle.pg_opens.specs.Opens.{names_of, live_of, references_of, stages_of};
 ghost use Rattle.pg_opens.specs.Places.{name_at};
 ghost use Rattle.pg_opens.specs.Readings.{stage_seen};
 ghost use Rattle.pg_opens.specs.declared.command.Stage.TheVariants as seen;
-ghost use Rattle.pg_step.specs.Attempts.{own_reference};
-ghost use Rattle.pg_step.specs.Nodes.{Node, to_one, to_peers};
-ghost use Rattle.pg_step.specs.State.Stage.{Waiting};
-ghost use Rattle.pg_message.specs.Name.{is_name};
-ghost use Rattle.pg_message.specs.declared.packet.TheConstants.{MAX_STAMP};
+ghost use Rattle.pg_opens.specs.PgStep.Attempts.{own_reference};
+ghost use Rattle.pg_opens.specs.PgStep.Nodes.{Node, to_one, to_peers};
+ghost use Rattle.pg_opens.specs.PgStep.State.Stage.{Waiting};
+ghost use Rattle.pg_opens.specs.PgMessage.Name.{is_name};
+ghost use Rattle.pg_opens.specs.PgMessage.declared.packet.TheConstants.{MAX_STAMP};
 ghost use Rattle.pg_sends.specs.Sendable.{AreSendable};
 ghost use Rattle.pg_sends.specs.Sent.{sends_in};
 
@@ -24,9 +24,7 @@ use crate::orders::{Order, own_under};
 use crate::outgoing::Outgoing;
 use crate::sends::{to_live, to_place};
 use bytes::BytesMut;
-use pg_group::Update;
-use pg_opens::Opens;
-use pg_step::OpId;
+use pg_opens::{OpId, Opens, Update};
 use std::alloc::{AllocError, Global};
 
 /// The node at a place is asked, under the next reference.

@@ -1,7 +1,7 @@
 //! One frame, and the peers that it goes to.
 
 ghost use Rattle.std.specs.Prelude.{◌≡◌, ◌≤◌, ◌+◌, [], true, false, length, Ok, IsOk};
-ghost use Rattle.pg_message.specs.declared.packet.Packet.{Packet};
+ghost use Rattle.pg_opens.specs.PgMessage.declared.packet.Packet.{Packet};
 ghost use Rattle.pg_writer.specs.declared.size.TheConstants.{MAX_SMALL_LEN};
 ghost use Rattle.pg_writer.specs.Frames.{frame_of};
 ghost use Rattle.pg_sends.specs.Going.{goes_out, read_in};

@@ -1,14 +1,14 @@
 //! The frames of what a node sends.
 
 ghost use Rattle.std.specs.Prelude.{◌≡◌, ◌≤◌, ◌+◌, ◌++◌, length, true, false};
-ghost use Rattle.pg_message.specs.declared.packet.TheConstants.{MAX_STAMP};
-ghost use Rattle.pg_message.specs.Writing.{is_exchange, is_sayable};
+ghost use Rattle.pg_opens.specs.PgMessage.declared.packet.TheConstants.{MAX_STAMP};
+ghost use Rattle.pg_opens.specs.PgMessage.Writing.{is_exchange, is_sayable};
 ghost use Rattle.pg_writer.specs.Frames.{frame_of};
 ghost use Rattle.pg_sends.specs.Frames.{IsSmallFrame};
 ghost use Rattle.pg_writer.specs.declared.size.TheConstants.{MAX_SMALL_LEN};
 
 use bytes::BytesMut;
-use pg_message::Packet;
+use pg_opens::Packet;
 use pg_writer::write_packet_into;
 
 /// Appends a small packet as one frame, where there is room.

@@ -1,11 +1,11 @@
 //! Orders written as frames.
 
 ghost use Rattle.std.specs.Prelude.{◌≡◌, ◌≤◌, ℕ, true, length, IfOk, OnOk};
-ghost use Rattle.pg_message.specs.declared.message.Message.{Message};
-ghost use Rattle.pg_message.specs.declared.message.Message.TheVariants as messages;
-ghost use Rattle.pg_message.specs.declared.packet.Packet.{Packet};
-ghost use Rattle.pg_message.specs.declared.packet.TheConstants.{MAX_STAMP};
-ghost use Rattle.pg_message.specs.Writing.{is_sayable};
+ghost use Rattle.pg_opens.specs.PgMessage.declared.message.Message.{Message};
+ghost use Rattle.pg_opens.specs.PgMessage.declared.message.Message.TheVariants as messages;
+ghost use Rattle.pg_opens.specs.PgMessage.declared.packet.Packet.{Packet};
+ghost use Rattle.pg_opens.specs.PgMessage.declared.packet.TheConstants.{MAX_STAMP};
+ghost use Rattle.pg_opens.specs.PgMessage.Writing.{is_sayable};
 ghost use Rattle.pg_writer.specs.Told.{asked_for};
 ghost use Rattle.pg_sends.specs.Frames.{IsAppended, IsFrame};
 ghost use Rattle.pg_sends.specs.Marked.{marks_of, sent_below};
@@ -16,8 +16,7 @@ use crate::goes::Goes;
 use crate::orders::{Numbered, Order};
 use crate::outgoing::Outgoing;
 use bytes::BytesMut;
-use pg_message::Said;
-use pg_multicall::Places;
+use pg_opens::{Places, Said};
 use pg_term::{Pid, Reference, Term};
 use pg_writer::{Asked, write_call_into, write_del_lock_into, write_down_into, write_reply_into};
 use std::alloc::{AllocError, Global};

@@ -1,6 +1,6 @@
 //! To which peers a frame goes.
 
-use pg_multicall::Places;
+use pg_opens::Places;
 
 /// The peers that a frame goes to, by their places among the peers.
 #[derive(Clone, Copy, Debug)]

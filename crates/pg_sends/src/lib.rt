@@ -34,5 +34,6 @@ pub use held::Held;
 pub use orders::{Numbered, Order, own_under};
 pub use outgoing::Outgoing;
 pub use own::{apply_own, ask_own, free_own, give_up_own};
+pub use pg_writer::{MAX_SMALL_LEN, packet_len, write_packet_into};
 pub use sends::to_live;
 pub use served::{change_for_peer, forget_node, lock_for_peer};

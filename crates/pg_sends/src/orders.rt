@@ -2,14 +2,11 @@
 
 ghost use Rattle.std.specs.Prelude.{◌≡◌, IfOk};
 ghost use Rattle.pg_opens.specs.Opens.{live_of};
-ghost use Rattle.pg_step.specs.Attempts.{own_reference};
+ghost use Rattle.pg_opens.specs.PgStep.Attempts.{own_reference};
 ghost use Rattle.pg_writer.specs.Told.{reference_lent};
 ghost use Rattle.pg_sends.specs.Orders.{message_of, reference_in};
 
-use pg_group::Update;
-use pg_message::{Message, Request, Said};
-use pg_opens::Opens;
-use pg_refs::{reference_of, words_of};
+use pg_opens::{Message, Opens, Request, Said, Update, reference_of, words_of};
 use pg_term::{Atom, Pid, Reference, Term};
 use pg_writer::Mark;
 use std::alloc::{AllocError, Global};

@@ -1,16 +1,16 @@
 //! The forms in which an event sends packets.
 
 ghost use Rattle.std.specs.Prelude.{◌≡◌, ◌≤◌, ℕ, List, [], ◌∷◌, length, true, false, IfOk, IsOk};
-ghost use Rattle.pg_message.specs.declared.packet.Packet.{Packet};
-ghost use Rattle.pg_message.specs.declared.packet.TheConstants.{MAX_STAMP};
-ghost use Rattle.pg_message.specs.Writing.{is_sayable};
-ghost use Rattle.pg_multicall.specs.Places.{has_of};
+ghost use Rattle.pg_opens.specs.PgMessage.declared.packet.Packet.{Packet};
+ghost use Rattle.pg_opens.specs.PgMessage.declared.packet.TheConstants.{MAX_STAMP};
+ghost use Rattle.pg_opens.specs.PgMessage.Writing.{is_sayable};
+ghost use Rattle.pg_opens.specs.PgMulticall.Places.{has_of};
 ghost use Rattle.pg_sends.specs.Marked.{marks_of, sent_below};
 ghost use Rattle.pg_sends.specs.Orders.{message_of, ordered};
 
 use crate::orders::Order;
 use bytes::BytesMut;
-use pg_multicall::Places;
+use pg_opens::Places;
 use std::alloc::{AllocError, Global};
 
 /// What an event sends, in the form that its caller asks for: a list of packets, or a frame that is written straight

@@ -1,16 +1,14 @@
 //! What an own command does to the node's own lock and table.
 
 ghost use Rattle.std.specs.Prelude.{◌≡◌, ◌&&◌, ◌⊎◌, true, false, IsOk, OnOk, OnErr};
-ghost use Rattle.pg_group.specs.Ended.{ended_of};
-ghost use Rattle.pg_group.specs.Table.{Adds, HasRoom, Overfills, changed};
-ghost use Rattle.pg_group.specs.Value.{name_of};
-ghost use Rattle.pg_lock.specs.Locks.{locks_of, grants, after_ask, given_up, is_holder};
+ghost use Rattle.pg_opens.specs.PgGroup.Ended.{ended_of};
+ghost use Rattle.pg_opens.specs.PgGroup.Table.{Adds, HasRoom, Overfills, changed};
+ghost use Rattle.pg_opens.specs.PgGroup.Value.{name_of};
+ghost use Rattle.pg_opens.specs.PgLock.Locks.{locks_of, grants, after_ask, given_up, is_holder};
 ghost use Rattle.pg_sends.specs.Orders.{reference_in};
 
 use crate::orders::Numbered;
-use pg_group::{Ended, GroupTable, Update};
-use pg_lock::LockTable;
-use pg_refs::words_of;
+use pg_opens::{Ended, GroupTable, LockTable, Update, words_of};
 use pg_term::{Term, equality};
 use std::alloc::AllocError;
 

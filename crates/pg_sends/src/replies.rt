@@ -1,14 +1,14 @@
 //! What a node answers a peer.
 
 ghost use Rattle.std.specs.Prelude.{◌≡◌, ◌≤◌, ◌<◌, ◌+◌, List, None, IfOk, length};
-ghost use Rattle.pg_step.specs.Nodes.{Node, to_one};
-ghost use Rattle.pg_machine.specs.Clocked.{stamped};
-ghost use Rattle.pg_message.specs.declared.message.Message.TheVariants as messages;
+ghost use Rattle.pg_opens.specs.PgStep.Nodes.{Node, to_one};
+ghost use Rattle.pg_opens.specs.PgMachine.Clocked.{stamped};
+ghost use Rattle.pg_opens.specs.PgMessage.declared.message.Message.TheVariants as messages;
 ghost use Rattle.pg_opens.specs.Places.{name_at};
 ghost use Rattle.pg_sends.specs.Sent.{sends_in};
 ghost use Rattle.pg_sends.specs.Sendable.{AreSendable};
-ghost use Rattle.pg_step.specs.Peers.{verdict};
-ghost use Rattle.pg_message.specs.declared.packet.TheConstants.{MAX_STAMP};
+ghost use Rattle.pg_opens.specs.PgStep.Peers.{verdict};
+ghost use Rattle.pg_opens.specs.PgMessage.declared.packet.TheConstants.{MAX_STAMP};
 
 use crate::calls::done_with;
 use crate::done::Done;
@@ -16,7 +16,7 @@ use crate::orders::Order;
 use crate::outgoing::Outgoing;
 use crate::sends::send_one;
 use bytes::BytesMut;
-use pg_message::Said;
+use pg_opens::Said;
 use pg_term::Reference;
 use std::alloc::{AllocError, Global};
 

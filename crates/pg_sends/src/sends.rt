@@ -3,14 +3,14 @@
 ghost use Rattle.std.specs.Prelude.{◌≡◌, ◌≤◌, ◌<◌, ◌+◌, ◌&&◌, ℕ, List, [], ◌∷◌, true, false, cond, length, IfOk, IsOk};
 ghost use Rattle.std.specs.List.{IsDistinct};
 ghost use Rattle.pg_term.specs.Same.{same_atom};
-ghost use Rattle.pg_group.specs.declared.update.Update.{Update};
-ghost use Rattle.pg_machine.specs.Clocked.{stamped};
-ghost use Rattle.pg_multicall.specs.Places.{has_of};
-ghost use Rattle.pg_step.specs.declared.command.OpId.{OpId};
-ghost use Rattle.pg_step.specs.Nodes.{Node, is_peer, to_one, to_peers};
-ghost use Rattle.pg_step.specs.State.{Status};
-ghost use Rattle.pg_step.specs.State.Use.{Locking};
-ghost use Rattle.pg_step.specs.Attempts.{asks, is_yes};
+ghost use Rattle.pg_opens.specs.PgGroup.declared.update.Update.{Update};
+ghost use Rattle.pg_opens.specs.PgMachine.Clocked.{stamped};
+ghost use Rattle.pg_opens.specs.PgMulticall.Places.{has_of};
+ghost use Rattle.pg_opens.specs.PgStep.declared.command.OpId.{OpId};
+ghost use Rattle.pg_opens.specs.PgStep.Nodes.{Node, is_peer, to_one, to_peers};
+ghost use Rattle.pg_opens.specs.PgStep.State.{Status};
+ghost use Rattle.pg_opens.specs.PgStep.State.Use.{Locking};
+ghost use Rattle.pg_opens.specs.PgStep.Attempts.{asks, is_yes};
 ghost use Rattle.pg_opens.specs.Opens.{names_of, live_of, uses_of};
 ghost use Rattle.pg_opens.specs.Places.{name_at};
 ghost use Rattle.pg_opens.specs.Readings.{is_locking};
@@ -19,16 +19,13 @@ ghost use Rattle.pg_sends.specs.Opening.{GoToPeers};
 ghost use Rattle.pg_sends.specs.Orders.{message_of};
 ghost use Rattle.pg_sends.specs.Sent.{sends_in};
 ghost use Rattle.pg_sends.specs.Sendable.{AreSendable};
-ghost use Rattle.pg_message.specs.Writing.{is_sayable};
-ghost use Rattle.pg_message.specs.declared.packet.TheConstants.{MAX_STAMP};
+ghost use Rattle.pg_opens.specs.PgMessage.Writing.{is_sayable};
+ghost use Rattle.pg_opens.specs.PgMessage.declared.packet.TheConstants.{MAX_STAMP};
 
 use crate::orders::Order;
 use crate::outgoing::Outgoing;
 use bytes::BytesMut;
-use pg_marks::Asked;
-use pg_message::Packet;
-use pg_multicall::Places;
-use pg_opens::Opens;
+use pg_opens::{Asked, Opens, Packet, Places};
 use std::alloc::{AllocError, Global};
 
 /// An order to each live peer. Its cost grows with the peers and the names.

@@ -1,17 +1,17 @@
 //! What a node does with its own lock and table for a peer, and what the peer is told.
 
 ghost use Rattle.std.specs.Prelude.{◌≡◌, ◌≤◌, ◌<◌, ◌+◌, List, None, IfOk, OnOk, OnErr, length};
-ghost use Rattle.pg_group.specs.Ended.{ended_of, ended_with};
-ghost use Rattle.pg_group.specs.Table.{HasRoom, changed, without_node as table_without};
-ghost use Rattle.pg_lock.specs.Locks.{locks_of, grants, after_ask, without_node as locks_without};
-ghost use Rattle.pg_machine.specs.Clocked.{stamped};
-ghost use Rattle.pg_message.specs.declared.message.Message.TheVariants as messages;
-ghost use Rattle.pg_message.specs.declared.message.Said.TheVariants as answers;
-ghost use Rattle.pg_message.specs.declared.packet.TheConstants.{MAX_STAMP};
+ghost use Rattle.pg_opens.specs.PgGroup.Ended.{ended_of, ended_with};
+ghost use Rattle.pg_opens.specs.PgGroup.Table.{HasRoom, changed, without_node as table_without};
+ghost use Rattle.pg_opens.specs.PgLock.Locks.{locks_of, grants, after_ask, without_node as locks_without};
+ghost use Rattle.pg_opens.specs.PgMachine.Clocked.{stamped};
+ghost use Rattle.pg_opens.specs.PgMessage.declared.message.Message.TheVariants as messages;
+ghost use Rattle.pg_opens.specs.PgMessage.declared.message.Said.TheVariants as answers;
+ghost use Rattle.pg_opens.specs.PgMessage.declared.packet.TheConstants.{MAX_STAMP};
 ghost use Rattle.pg_opens.specs.Opens.{names_of};
 ghost use Rattle.pg_opens.specs.Places.{name_at};
-ghost use Rattle.pg_step.specs.Nodes.{Node, to_one};
-ghost use Rattle.pg_step.specs.Peers.{verdict};
+ghost use Rattle.pg_opens.specs.PgStep.Nodes.{Node, to_one};
+ghost use Rattle.pg_opens.specs.PgStep.Peers.{verdict};
 ghost use Rattle.pg_sends.specs.Sent.{sends_in};
 ghost use Rattle.pg_sends.specs.Sendable.{AreSendable};
 
@@ -19,10 +19,7 @@ use crate::done::Done;
 use crate::outgoing::Outgoing;
 use crate::replies::{reply, verdict};
 use bytes::BytesMut;
-use pg_group::{Ended, GroupTable, Update};
-use pg_lock::LockTable;
-use pg_message::Said;
-use pg_opens::Opens;
+use pg_opens::{Ended, GroupTable, LockTable, Opens, Said, Update};
 use pg_term::{Reference, Term};
 use std::alloc::{AllocError, Global};
 

@@ -11,12 +11,12 @@ use Rattle.pg_term.specs.declared.fault.TermFault.TheVariants.{Truncated}
 use Rattle.pg_term.specs.declared.pid.Pid.{Pid}
 use Rattle.pg_term.specs.declared.term.Term.{Term, the_lemmas}
 use Rattle.pg_term.specs.declared.term.Term.TheVariants.{Pid as Process}
-use Rattle.pg_term_io.specs.Reading.{Read, ◌>>=◌, number_at, named_at, utf8_atom, atom_behind, atom_at}
-use Rattle.pg_term_io.specs.Reading.{pid_at, as_term, readers, item_behind, leaf_behind, item_at}
+use Rattle.pg_message.specs.PgTermIo.Reading.{Read, ◌>>=◌, number_at, named_at, utf8_atom, atom_behind, atom_at}
+use Rattle.pg_message.specs.PgTermIo.Reading.{pid_at, as_term, readers, item_behind, leaf_behind, item_at}
 use Rattle.pg_message.specs.Parts.{pid_of}
 use Rattle.pg_shape.specs.Alike.{Heads}
 use Rattle.pg_shape.specs.Lists.{EndsAlike}
-use Rattle.pg_term_io.proofs.Lists.{goes_on}
+use Rattle.pg_message.proofs.PgTermIo.Lists.{goes_on}
 use Rattle.pg_shape.proofs.ListShapes.{behind_first}
 
 pub pid_is : (p : Pid) → pid_of (Process p) ≡ Some p

@@ -8,9 +8,9 @@ use Rattle.pg_term.specs.declared.term.Term.{Term, out-Term}
 use Rattle.pg_term.specs.declared.term.Term.TheOpen.{Term-F}
 use Rattle.pg_term.specs.Order.{kind_step, kind_of}
 use Rattle.pg_term.specs.Same.{term_cmp}
-use Rattle.pg_term_io.specs.Lists.{list_from, ListGoesOn}
-use Rattle.pg_term_io.specs.Reading.{item_at}
-use Rattle.pg_term_io.proofs.Lists.{is_list}
+use Rattle.pg_message.specs.PgTermIo.Lists.{list_from, ListGoesOn}
+use Rattle.pg_message.specs.PgTermIo.Reading.{item_at}
+use Rattle.pg_message.proofs.PgTermIo.Lists.{is_list}
 use Rattle.pg_message.specs.Groups.{IsNamed}
 use Rattle.pg_message.specs.Parts.{list_in, items_of}
 use Rattle.pg_message.specs.Reading.{Groups, read_each, group_of, groups_of, is_named_once, named_once}

@@ -11,15 +11,15 @@ use Rattle.pg_term.specs.declared.term.Term.TheVariants.{Int, Atom, Ref, Pid as 
 use Rattle.pg_term.specs.RefParts.{RefParts}
 use Rattle.pg_term.specs.Depth.{depth}
 use Rattle.pg_term.specs.Order.{kind_of}
-use Rattle.pg_term_io.specs.Reading.{Read, item_at}
-use Rattle.pg_term_io.specs.Spelling.{IsAtom, Item}
-use Rattle.pg_term_io.specs.Spelling as s
-use Rattle.pg_term_io.specs.Writing.{item_bytes, written, tagged_text, atom_bytes}
+use Rattle.pg_message.specs.PgTermIo.Reading.{Read, item_at}
+use Rattle.pg_message.specs.PgTermIo.Spelling.{IsAtom, Item}
+use Rattle.pg_message.specs.PgTermIo.Spelling as s
+use Rattle.pg_message.specs.PgTermIo.Writing.{item_bytes, written, tagged_text, atom_bytes}
 use Rattle.pg_term.proofs.Texts.{length_encodes}
-use Rattle.pg_term_io.specs.Faults.{BreaksItem}
-use Rattle.pg_term_io.specs.Numbers.{big_value}
-use Rattle.pg_term_io.proofs.Items.{levels}
-use Rattle.pg_term_io.proofs.Outcomes.{EachByte, Right, Took}
+use Rattle.pg_message.specs.PgTermIo.Faults.{BreaksItem}
+use Rattle.pg_message.specs.PgTermIo.Numbers.{big_value}
+use Rattle.pg_message.proofs.PgTermIo.Items.{levels}
+use Rattle.pg_message.proofs.PgTermIo.Outcomes.{EachByte, Right, Took}
 use Rattle.pg_message.specs.Name.{is_name}
 
 few_characters : (a b : List ℕ) → IsAtom a b → length a ≤ 255

@@ -8,13 +8,13 @@ use Rattle.pg_term.specs.declared.pid.Pid.{Pid}
 use Rattle.pg_term.specs.declared.term.Term.{Term, out-Term, the_lemmas}
 use Rattle.pg_term.specs.declared.term.Term.TheOpen.{Term-F}
 use Rattle.pg_term.specs.Order.{kind_step, kind_of}
-use Rattle.pg_term_io.specs.declared.element.NextElement.{NextElement}
-use Rattle.pg_term_io.specs.declared.element.NextElement.TheVariants.{End, Item, NoItem}
-use Rattle.pg_term_io.specs.Lists.{list_from, ListGoesOn, IsText, Continues}
-use Rattle.pg_term_io.specs.Numbers.{int_of}
-use Rattle.pg_term_io.specs.Reading.{Read, item_at}
-use Rattle.pg_term_io.specs.Scanning.{past}
-use Rattle.pg_term_io.proofs.Lists.{is_list}
+use Rattle.pg_message.specs.PgTermIo.declared.element.NextElement.{NextElement}
+use Rattle.pg_message.specs.PgTermIo.declared.element.NextElement.TheVariants.{End, Item, NoItem}
+use Rattle.pg_message.specs.PgTermIo.Lists.{list_from, ListGoesOn, IsText, Continues}
+use Rattle.pg_message.specs.PgTermIo.Numbers.{int_of}
+use Rattle.pg_message.specs.PgTermIo.Reading.{Read, item_at}
+use Rattle.pg_message.specs.PgTermIo.Scanning.{past}
+use Rattle.pg_message.proofs.PgTermIo.Lists.{is_list}
 use Rattle.pg_message.specs.Groups.{IsNamed}
 use Rattle.pg_message.specs.Name.{is_name}
 use Rattle.pg_message.specs.Parts.{items_of, pid_in, pid_of}

@@ -9,15 +9,15 @@ use Rattle.pg_term.specs.declared.pid.Pid.{Pid}
 use Rattle.pg_term.specs.declared.term.Term.{Term, Tuple, out-Term}
 use Rattle.pg_term.specs.declared.term.Term.TheOpen.{Term-F}
 use Rattle.pg_term.specs.Order.{kind_step, kind_of}
-use Rattle.pg_term_io.specs.Reading.{Read, ◌>>=◌, items_at, item_at, as_term, term_of}
-use Rattle.pg_term_io.specs.Scanning.{past}
+use Rattle.pg_message.specs.PgTermIo.Reading.{Read, ◌>>=◌, items_at, item_at, as_term, term_of}
+use Rattle.pg_message.specs.PgTermIo.Scanning.{past}
 use Rattle.pg_message.specs.Name.{is_name}
 use Rattle.pg_message.specs.Parts.{tuple_in, elements_of, list_in, items_of, text_in, is_word}
 use Rattle.pg_message.specs.Parts.{atom_in, atom_of, reference_in, reference_of, pid_in, pid_of}
 use Rattle.pg_message.specs.Reading.{request_on, membership_of, request_in, request_of, said_of}
 use Rattle.pg_message.specs.Reading.{groups_of, freed, read_exchange, cast_in, cast_of, referred}
 use Rattle.pg_message.specs.Reading.{message_in, message_of, stamp_in, stamp_of, stamped_message, packet_in}
-use Rattle.pg_group.specs.declared.update.Update.TheVariants.{Create, Delete, Join, Leave}
+use Rattle.pg_message.specs.PgGroup.declared.update.Update.TheVariants.{Create, Delete, Join, Leave}
 use Rattle.pg_message.specs.declared.message.Message.{Message}
 use Rattle.pg_message.specs.declared.message.Message.TheVariants.{Call, Reply, DelLock, Exchange, Down}
 use Rattle.pg_message.specs.declared.message.Request.TheVariants.{SetLock, Change}

@@ -1,7 +1,7 @@
 -- What is left of a list, each element of which has to be something.
 use Rattle.std.specs.Prelude.{◌≡◌, ℕ, List, Option, Ok, is_some}
 use Rattle.pg_term.specs.declared.term.Term.{Term}
-use Rattle.pg_term_io.specs.Lists.{list_from}
+use Rattle.pg_message.specs.PgTermIo.Lists.{list_from}
 use Rattle.pg_message.specs.Reading.{read_each}
 
 -- the whole list is something exactly where what is left of it is

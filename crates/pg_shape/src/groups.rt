@@ -6,8 +6,8 @@ ghost use Rattle.std.specs.Prelude.{◌≡◌, ◌≢◌, ◌<◌, ◌≤◌, �
 ghost use Rattle.std.specs.Prelude.{false, is_some, Ok, Some, None, IfOk, IfSome, MatchOption};
 ghost use Rattle.pg_term.specs.declared.term.Term.{Term};
 ghost use Rattle.pg_term.specs.Order.{kind_of};
-ghost use Rattle.pg_term_io.specs.Lists.{list_from};
-ghost use Rattle.pg_term_io.specs.Reading.{item_at};
+ghost use Rattle.pg_message.specs.PgTermIo.Lists.{list_from};
+ghost use Rattle.pg_message.specs.PgTermIo.Reading.{item_at};
 ghost use Rattle.pg_message.specs.Name.{is_name};
 ghost use Rattle.pg_message.specs.Reading.{group_in, group_of, groups_of};
 ghost use Rattle.pg_shape.specs.Shape.{listed_of};
@@ -16,7 +16,7 @@ mod names;
 
 use crate::groups::names::{Name, are_apart, checked_name};
 use crate::pids::past_pids;
-use pg_term_io::{Kind, NextElement, kind_at, next_element};
+use pg_message::{Kind, NextElement, kind_at, next_element};
 use std::alloc::{AllocError, Global};
 
 /// Whether a part may be a list of groups, none of them named twice.

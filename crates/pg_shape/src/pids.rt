@@ -5,15 +5,15 @@ ghost use Rattle.std.specs.Prelude.{true, false, is_some, Ok, None, IfSome, IfNo
 ghost use Rattle.pg_term.specs.declared.pid.Pid.{Pid};
 ghost use Rattle.pg_term.specs.declared.term.Term.{Term};
 ghost use Rattle.pg_term.specs.Order.{kind_of};
-ghost use Rattle.pg_term_io.specs.Reading.{item_at};
-ghost use Rattle.pg_term_io.specs.Scanning.{past};
+ghost use Rattle.pg_message.specs.PgTermIo.Reading.{item_at};
+ghost use Rattle.pg_message.specs.PgTermIo.Scanning.{past};
 ghost use Rattle.pg_message.specs.Parts.{pid_of};
 ghost use Rattle.pg_shape.specs.Alike.{Heads};
 ghost use Rattle.pg_shape.specs.Lists.{EndsAlike};
 ghost use Rattle.pg_shape.specs.Shape.{members_of};
 
 use crate::groups::is_list;
-use pg_term_io::{Kind, NextElement, kind_at, next_element, skip_item};
+use pg_message::{Kind, NextElement, kind_at, next_element, skip_item};
 
 /// How many bytes the numbers of a pid take: an id, a serial and a creation.
 const NUMBERS: usize = 12;

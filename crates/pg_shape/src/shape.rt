@@ -6,8 +6,8 @@ ghost use Rattle.std.specs.Prelude.{◌≡◌, ◌<◌, ◌≤◌, ℕ, List, []
 ghost use Rattle.std.specs.Prelude.{is_some, nat_eq, IfSome, IfNone, Ok, Err, Some, None};
 ghost use Rattle.pg_term.specs.declared.term.Term.{Term};
 ghost use Rattle.pg_term.specs.Order.{kind_of};
-ghost use Rattle.pg_term_io.specs.Reading.{item_at, term_of};
-ghost use Rattle.pg_term_io.specs.Scanning.{past};
+ghost use Rattle.pg_message.specs.PgTermIo.Reading.{item_at, term_of};
+ghost use Rattle.pg_message.specs.PgTermIo.Scanning.{past};
 ghost use Rattle.pg_message.specs.Name.{is_name};
 ghost use Rattle.pg_message.specs.Parts.{elements_of};
 ghost use Rattle.pg_message.specs.Reading.{message_in, cast_in, cast_of, groups_of};
@@ -16,8 +16,7 @@ ghost use Rattle.pg_shape.specs.Shape.{is_small, listed_of, request_shape, cast_
 ghost use Rattle.pg_shape.specs.Shape.{message_shape, packet_shape, has_shape};
 
 use crate::groups::may_be_groups;
-use pg_message::{MAX_NAME_LEN, MessageFault};
-use pg_term_io::{Kind, kind_at, skip_item, tuple_at};
+use pg_message::{Kind, MAX_NAME_LEN, MessageFault, kind_at, skip_item, tuple_at};
 use std::alloc::{AllocError, Global};
 
 /// How many bytes a name takes at most, however it is spelled: 400 times as many as it is written in.

@@ -1,10 +1,8 @@
 //! The updates that are answered stand in the history, each once.
 
 use crate::scene::{GROUPS, History, Scene, entry_at, len_of, state_of};
-use pg_group::Update;
-use pg_step::{Answer, Command, Reply};
 use pg_term::Term;
-use pg_world::{FrameStep, Step};
+use pg_world::{Answer, Command, FrameStep, Reply, Step, Update};
 
 // The command of this number of a node, if these steps ask for as many.
 fn command_of(steps: &[Step], place: usize, number: u32) -> Option<&Command> {

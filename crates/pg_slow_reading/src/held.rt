@@ -1,8 +1,7 @@
 //! A group, as far as one process goes.
 
-use pg_group::Update;
-use pg_step::Start;
 use pg_term::{Pid, Term};
+use pg_world::{Start, Update};
 
 /// Whether a group is there, and how often a process is in it.
 #[derive(Clone, Copy)]

@@ -2,9 +2,8 @@
 
 use crate::held::Held;
 use crate::scene::{History, Scene, State, entry_at, len_of, state_of};
-use pg_step::Answer;
 use pg_term::{Pid, Reference};
-use pg_world::Entry;
+use pg_world::{Answer, Entry};
 
 /// What a node leaves out of a history.
 #[derive(Clone, Copy)]

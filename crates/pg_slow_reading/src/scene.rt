@@ -2,12 +2,8 @@
 
 use crate::held::{Held, count_in};
 use crate::kept::{LeftOut, lost_to};
-use pg_group::{GroupTable, Scope};
-use pg_index::IndexTable;
-use pg_node::NodeState;
-use pg_step::Start;
 use pg_term::{Pid, Term};
-use pg_world::Entry;
+use pg_world::{Entry, GroupTable, IndexTable, NodeState, Scope, Start};
 use std::alloc::{AllocError, Global};
 
 /// A world over bytes, and a node of one.

@@ -12,27 +12,27 @@ use Rattle.std.proofs.lemmas.Option.{slice_get-map, slice_get-get_or, unwrap_or-
 use Rattle.pg_term.specs.Same.{same_atom, same_term}
 use Rattle.pg_term.specs.declared.pid.Pid.{Pid}
 use Rattle.pg_term.specs.declared.term.Term.{Term}
-use Rattle.pg_group.specs.Value.{count_in}
-use Rattle.pg_group.specs.Table.{Table}
-use Rattle.pg_step.specs.State.{new_state}
-use Rattle.pg_group.specs.declared.table.GroupTable.{Ghosts}
-use Rattle.pg_exchange.specs.GroupList.{GroupList, IsSnapshot, announced_names}
-use Rattle.pg_message.specs.declared.message.Message.{Message}
-use Rattle.pg_message.specs.declared.message.Message.TheVariants.{Exchange}
-use Rattle.pg_message.specs.Members.{HasFewMembers}
-use Rattle.pg_machine.specs.Places.{is_pair}
-use Rattle.pg_machine.specs.Machine.{start_of}
-use Rattle.pg_machine.specs.Clocked.{Stamped, stamped}
-use Rattle.pg_step.specs.declared.start.Start.{Start}
-use Rattle.pg_step.specs.Nodes.{Node}
-use Rattle.pg_step.specs.Config.{Config, names_of, name_at, groups_at, made_at, ports_at, first_table}
-use Rattle.pg_step.specs.FrameMachine.{frame_machine}
-use Rattle.pg_opens.specs.Places.{name_at as place_name}
-use Rattle.pg_opens.proofs.Named.{names_differ}
+use Rattle.pg_node_state.specs.PgGroup.Value.{count_in}
+use Rattle.pg_node_state.specs.PgGroup.Table.{Table}
+use Rattle.pg_node_state.specs.PgStep.State.{new_state}
+use Rattle.pg_node_state.specs.PgGroup.declared.table.GroupTable.{Ghosts}
+use Rattle.pg_node_state.specs.PgExchange.GroupList.{GroupList, IsSnapshot, announced_names}
+use Rattle.pg_node_state.specs.PgMessage.declared.message.Message.{Message}
+use Rattle.pg_node_state.specs.PgMessage.declared.message.Message.TheVariants.{Exchange}
+use Rattle.pg_node_state.specs.PgMessage.Members.{HasFewMembers}
+use Rattle.pg_node_state.specs.PgMachine.Places.{is_pair}
+use Rattle.pg_node_state.specs.PgMachine.Machine.{start_of}
+use Rattle.pg_node_state.specs.PgMachine.Clocked.{Stamped, stamped}
+use Rattle.pg_node_state.specs.PgStep.declared.start.Start.{Start}
+use Rattle.pg_node_state.specs.PgStep.Nodes.{Node}
+use Rattle.pg_node_state.specs.PgStep.Config.{Config, names_of, name_at, groups_at, made_at, ports_at, first_table}
+use Rattle.pg_node_state.specs.PgStep.FrameMachine.{frame_machine}
+use Rattle.pg_node_state.specs.PgOpens.Places.{name_at as place_name}
+use Rattle.pg_node_state.proofs.PgOpens.Named.{names_differ}
 use Rattle.pg_node_state.specs.declared.state.NodeState.{NodeState}
 use Rattle.pg_node_state.specs.Issued.{ports_of}
 use Rattle.pg_node_state.specs.States.{kept_by, state_of, answers_of, names_of as known_names}
-use Rattle.pg_sends.specs.Sent.{stamped_of}
+use Rattle.pg_node_state.specs.PgSends.Sent.{stamped_of}
 use Rattle.pg_node_state.proofs.Counts.{few_merged}
 use Rattle.pg_node_state.proofs.Apart.{few_in_none}
 use Rattle.pg_starts.specs.Seen.{Seen, seen_of}

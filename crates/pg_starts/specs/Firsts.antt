@@ -1,8 +1,8 @@
 -- The nodes of a configuration as they start.
 use Rattle.std.specs.Prelude.{ℕ, zero, suc, List, [], ◌∷◌, ◌++◌}
-use Rattle.pg_step.specs.Config.{Config, nodes_at, groups_at, made_at, ports_at, first_table}
-use Rattle.pg_step.specs.Nodes.{all_of}
-use Rattle.pg_step.specs.State.{new_state}
+use Rattle.pg_node_state.specs.PgStep.Config.{Config, nodes_at, groups_at, made_at, ports_at, first_table}
+use Rattle.pg_node_state.specs.PgStep.Nodes.{all_of}
+use Rattle.pg_node_state.specs.PgStep.State.{new_state}
 use Rattle.pg_starts.specs.Seen.{Seen}
 
 -- node i of a configuration as it starts: its clock is at 0, and it has taken nothing

@@ -1,10 +1,10 @@
 -- What a node is seen as.
 use Rattle.std.specs.Prelude.{ℕ, List}
-use Rattle.pg_group.specs.declared.table.GroupTable.{Ghosts}
-use Rattle.pg_machine.specs.Clocked.{Timed}
-use Rattle.pg_step.specs.declared.answer.Answer.{Answer}
-use Rattle.pg_step.specs.Nodes.{Node}
-use Rattle.pg_step.specs.State.{State}
+use Rattle.pg_node_state.specs.PgGroup.declared.table.GroupTable.{Ghosts}
+use Rattle.pg_node_state.specs.PgMachine.Clocked.{Timed}
+use Rattle.pg_node_state.specs.PgStep.declared.answer.Answer.{Answer}
+use Rattle.pg_node_state.specs.PgStep.Nodes.{Node}
+use Rattle.pg_node_state.specs.PgStep.State.{State}
 use Rattle.pg_node_state.specs.declared.state.NodeState.{NodeState}
 use Rattle.pg_node_state.specs.Issued.{ports_of}
 use Rattle.pg_node_state.specs.States.{names_of, state_of, answers_of}

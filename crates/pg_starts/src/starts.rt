@@ -3,17 +3,15 @@
 ghost use Rattle.std.specs.Prelude.{◌≡◌, ◌≤◌, ◌<◌, ◌^◌, ℕ, false, IfOk, length, map};
 ghost use Rattle.std.specs.List.{IsDistinct};
 ghost use Rattle.pg_term.specs.Same.{same_atom};
-ghost use Rattle.pg_ends.specs.declared.processes.TheConstants.{MAX_PROCESSES};
-ghost use Rattle.pg_exchange.specs.GroupList.{all_merged};
-ghost use Rattle.pg_message.specs.Members.{HasFewMembers};
-ghost use Rattle.pg_step.specs.Config.{names_of, groups_at, made_at};
+ghost use Rattle.pg_node_state.specs.PgEnds.declared.processes.TheConstants.{MAX_PROCESSES};
+ghost use Rattle.pg_node_state.specs.PgExchange.GroupList.{all_merged};
+ghost use Rattle.pg_node_state.specs.PgMessage.Members.{HasFewMembers};
+ghost use Rattle.pg_node_state.specs.PgStep.Config.{names_of, groups_at, made_at};
 ghost use Rattle.pg_starts.specs.Firsts.{seen_first, firsts};
 ghost use Rattle.pg_starts.specs.Seen.{seen_of};
 
-use pg_group::{Ended, GroupTable};
 use pg_index::IndexTable;
-use pg_node_state::{NodeConfig, NodeState};
-use pg_step::Start;
+use pg_node_state::{Ended, GroupTable, NodeConfig, NodeState, Start};
 use pg_term::{Atom, Items, Pid, Term};
 use std::alloc::{AllocError, Global};
 

@@ -2,7 +2,7 @@
 use Rattle.std.proofs.Common.{◌≡◌, subst, false, List, [], ◌∷◌, sym}
 use Rattle.std.specs.List.{IsDistinct}
 use Rattle.pg_term.specs.Same.{same_atom}
-use Rattle.pg_step.specs.Nodes.{Node}
+use Rattle.pg_opens.specs.PgStep.Nodes.{Node}
 
 -- a list of three names, each of which differs from the others, names none twice
 pub three_apart : (names : List Node) (a b c : Node) → names ≡ a ∷ b ∷ c ∷ [] → same_atom a b ≡ false → same_atom a c ≡ false → same_atom b c ≡ false → IsDistinct same_atom names

@@ -1,7 +1,7 @@
 //! Answers: that they are copied where there is memory. The test passes wherever an allocation is refused.
 
 use crate::samples::{atom, row_holds};
-use pg_step::{Answer, Reply};
+use pg_opens::{Answer, Reply};
 use pg_term::{Items, Pid, Term};
 use std::alloc::{AllocError, Global};
 use std::process::Abort;

@@ -1,7 +1,7 @@
 //! The locks of a node, and the rounds of an attempt.
 
 use crate::samples::{at_row, reference, row_holds};
-use pg_lock::{Attempt, LockTable};
+use pg_opens::{Attempt, LockTable};
 use pg_term::{Reference, Term};
 use std::alloc::AllocError;
 use std::process::Abort;

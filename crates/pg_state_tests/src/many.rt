@@ -3,8 +3,7 @@
 use crate::locks::{ask, give_up, is_held};
 use crate::references::next_has;
 use crate::samples::{atom, reference};
-use pg_lock::LockTable;
-use pg_refs::RefSource;
+use pg_opens::{LockTable, RefSource};
 use pg_term::Reference;
 use std::process::Abort;
 

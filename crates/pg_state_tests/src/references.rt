@@ -1,7 +1,7 @@
 //! Fresh references, and their numbers. Each test passes wherever an allocation is refused.
 
 use crate::samples::{atom, row_holds};
-use pg_refs::{RefSource, number_of, reference_of, words_of};
+use pg_opens::{RefSource, number_of, reference_of, words_of};
 use pg_term::{Atom, Reference, TermFault};
 use std::process::Abort;
 

@@ -2,8 +2,8 @@
 
 use crate::samples::row_holds;
 use Step::*;
-use pg_multicall::Taken::{self, *};
-use pg_multicall::{Gather, MAX_PLACES, Places};
+use pg_opens::Taken::{self, *};
+use pg_opens::{Gather, MAX_PLACES, Places};
 use std::process::Abort;
 
 /// What becomes of a node: of the place 0, 1 or 15.

@@ -1,8 +1,8 @@
 -- What is gathered goes on by the rule of a gathered call.
 use Rattle.std.proofs.Common.{◌≡◌, ℕ, Bool, true, false, cond, Option, Some, None, refl, ap, sym, ◌∙◌}
 use Rattle.pg_term.specs.Same.{same_atom}
-use Rattle.pg_group.specs.declared.update.Update.{Update}
-use Rattle.pg_group.specs.Functions.{upd}
+use Rattle.pg_message.specs.PgGroup.declared.update.Update.{Update}
+use Rattle.pg_message.specs.PgGroup.Functions.{upd}
 use Rattle.pg_message.specs.declared.message.Said.{Said}
 use Rattle.pg_message.specs.declared.message.Said.TheVariants.{Granted, Denied, Applied}
 use Rattle.pg_multicall.specs.Gathered.{with_reply}

@@ -6,8 +6,8 @@ use Rattle.pg_term.specs.declared.pid.Pid.{Pid}
 use Rattle.pg_term.specs.declared.term.Term.{Term}
 use Rattle.pg_term.specs.RefParts.{RefParts}
 use Rattle.pg_term.specs.Same.{same_atom}
-use Rattle.pg_group.specs.Functions.{upd}
-use Rattle.pg_group.specs.Value.{Value, count_in, less}
+use Rattle.pg_message.specs.PgGroup.Functions.{upd}
+use Rattle.pg_message.specs.PgGroup.Value.{Value, count_in, less}
 use Rattle.pg_lock.specs.Locks.{freed_of}
 use Rattle.pg_message.specs.declared.message.Message.{Message}
 use Rattle.pg_machine.specs.Places.{is_place, is_pair, set_at}

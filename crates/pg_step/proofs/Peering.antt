@@ -6,11 +6,11 @@ use Rattle.pg_term.specs.declared.term.Term.{Term}
 use Rattle.pg_term.specs.RefParts.{RefParts}
 use Rattle.pg_term.specs.Same.{same_atom, same_pid, same_term}
 use Rattle.pg_term.specs.contracts.term.TermEq.TheImpl.Laws.{laws-law}
-use Rattle.pg_group.specs.declared.update.Update.{Update}
-use Rattle.pg_group.specs.declared.update.Update.TheVariants.{Join}
-use Rattle.pg_group.specs.Functions.{upd}
-use Rattle.pg_group.specs.Table.{Table, applied, changed}
-use Rattle.pg_group.specs.Value.{Value, apply, count_in, less}
+use Rattle.pg_message.specs.PgGroup.declared.update.Update.{Update}
+use Rattle.pg_message.specs.PgGroup.declared.update.Update.TheVariants.{Join}
+use Rattle.pg_message.specs.PgGroup.Functions.{upd}
+use Rattle.pg_message.specs.PgGroup.Table.{Table, applied, changed}
+use Rattle.pg_message.specs.PgGroup.Value.{Value, apply, count_in, less}
 use Rattle.pg_multicall.specs.declared.gather.Taken.TheVariants as what
 use Rattle.pg_term.specs.contracts.pid.PidEq.TheImpl.Laws.{laws-law as pid_laws}
 use Rattle.pg_lock.specs.Locks.{Locks, held, after_ask, given_up, is_free, is_holder}

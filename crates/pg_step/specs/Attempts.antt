@@ -7,10 +7,10 @@ use Rattle.std.specs.Prelude.{nat_eq, Option, Some, None, Result, Ok, Err}
 use Rattle.pg_term.specs.RefParts.{RefParts, ref_eq}
 use Rattle.pg_term.specs.Same.{same_atom}
 use Rattle.pg_refs.specs.Numbered.{numbered, number_in}
-use Rattle.pg_group.specs.declared.update.Update.{Update}
-use Rattle.pg_group.specs.Functions.{upd}
-use Rattle.pg_group.specs.Value.{name_of}
-use Rattle.pg_group.specs.Table.{changed}
+use Rattle.pg_message.specs.PgGroup.declared.update.Update.{Update}
+use Rattle.pg_message.specs.PgGroup.Functions.{upd}
+use Rattle.pg_message.specs.PgGroup.Value.{name_of}
+use Rattle.pg_message.specs.PgGroup.Table.{changed}
 use Rattle.pg_lock.specs.Attempts.{after_round, does_wait}
 use Rattle.pg_lock.specs.declared.attempt.Attempt.{Attempt}
 use Rattle.pg_lock.specs.declared.attempt.Attempt.TheVariants.{AskingFirst, AskingRest}

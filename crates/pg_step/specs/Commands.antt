@@ -6,13 +6,13 @@ use Rattle.std.specs.List.Sorted.{IsSorted}
 use Rattle.pg_term.specs.declared.pid.Pid.{Pid}
 use Rattle.pg_term.specs.declared.term.Term.{Term}
 use Rattle.pg_term.specs.Same.{same_atom, term_cmp}
-use Rattle.pg_group.specs.declared.update.Update.{Update}
-use Rattle.pg_group.specs.declared.update.Update.TheVariants as update
-use Rattle.pg_group.specs.Functions.{upd}
-use Rattle.pg_group.specs.Value.{Value, name_of}
-use Rattle.pg_group.specs.Scope.{anywhere, at_node}
-use Rattle.pg_group.specs.Members.{IsMemberList}
-use Rattle.pg_group.specs.Table.{Table, AreNames}
+use Rattle.pg_message.specs.PgGroup.declared.update.Update.{Update}
+use Rattle.pg_message.specs.PgGroup.declared.update.Update.TheVariants as update
+use Rattle.pg_message.specs.PgGroup.Functions.{upd}
+use Rattle.pg_message.specs.PgGroup.Value.{Value, name_of}
+use Rattle.pg_message.specs.PgGroup.Scope.{anywhere, at_node}
+use Rattle.pg_message.specs.PgGroup.Members.{IsMemberList}
+use Rattle.pg_message.specs.PgGroup.Table.{Table, AreNames}
 use Rattle.pg_query.specs.Closest.{IsClosest}
 use Rattle.pg_ends.specs.declared.processes.TheConstants.{MAX_PROCESSES}
 use Rattle.pg_ends.specs.Numbers.{pid_of, is_among}

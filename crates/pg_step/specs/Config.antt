@@ -3,7 +3,7 @@ use Rattle.std.specs.Prelude.{◌≡◌, ℕ, ◌≤◌, Bool, true, false, ◌&
 use Rattle.std.specs.List.{AllByRecursion, IsDistinct, remove, list_any}
 use Rattle.pg_term.specs.declared.pid.Pid.{Pid}
 use Rattle.pg_term.specs.Same.{same_atom, same_term}
-use Rattle.pg_group.specs.Table.{Table}
+use Rattle.pg_message.specs.PgGroup.Table.{Table}
 use Rattle.pg_ends.specs.Numbers.{is_among}
 use Rattle.pg_exchange.specs.GroupList.{GroupList, all_merged, announced_names}
 use Rattle.pg_message.specs.Name.{is_name}

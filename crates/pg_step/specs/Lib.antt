@@ -14,11 +14,21 @@ pub mod Step
 pub mod StepLaws
 pub mod Turns
 pub use Rattle.pg_exchange.specs.GroupList
-pub use Rattle.pg_group.specs.Functions
-pub use Rattle.pg_group.specs.Table
+pub use Rattle.pg_message.specs.PgGroup.Functions
+pub use Rattle.pg_message.specs.PgGroup.Table
 pub use Rattle.pg_lock.specs.Locks
 pub use Rattle.pg_machine.specs.Machine
 pub use Rattle.pg_multicall.specs.Gathered
 pub use Rattle.pg_refs.specs.Numbered
 pub use Rattle.pg_term.specs.RefParts
 pub use Rattle.pg_term.specs.Same
+pub use Rattle.pg_ends.specs as PgEnds
+pub use Rattle.pg_exchange.specs as PgExchange
+pub use Rattle.pg_message.specs.PgGroup
+pub use Rattle.pg_lock.specs as PgLock
+pub use Rattle.pg_machine.specs as PgMachine
+pub use Rattle.pg_message.specs as PgMessage
+pub use Rattle.pg_multicall.specs as PgMulticall
+pub use Rattle.pg_query.specs as PgQuery
+pub use Rattle.pg_refs.specs as PgRefs
+pub use Rattle.pg_message.specs.PgTermIo

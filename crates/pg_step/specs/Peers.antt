@@ -6,9 +6,9 @@ use Rattle.pg_term.specs.declared.pid.Pid.{Pid}
 use Rattle.pg_term.specs.declared.term.Term.{Term}
 use Rattle.pg_term.specs.RefParts.{RefParts}
 use Rattle.pg_term.specs.Same.{same_atom, same_pid}
-use Rattle.pg_group.specs.declared.update.Update.{Update}
-use Rattle.pg_group.specs.Functions.{upd}
-use Rattle.pg_group.specs.Table.{changed, without}
+use Rattle.pg_message.specs.PgGroup.declared.update.Update.{Update}
+use Rattle.pg_message.specs.PgGroup.Functions.{upd}
+use Rattle.pg_message.specs.PgGroup.Table.{changed, without}
 use Rattle.pg_lock.specs.Locks.{grants, after_ask, given_up, is_holder}
 use Rattle.pg_message.specs.declared.message.Message.TheVariants.{Reply}
 use Rattle.pg_message.specs.declared.message.Said.{Said}

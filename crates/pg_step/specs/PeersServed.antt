@@ -3,10 +3,10 @@ use Rattle.std.specs.Prelude.{◌≡◌, ℕ, true, false, [], ◌∷◌, Some, 
 use Rattle.pg_term.specs.declared.pid.Pid.{Pid}
 use Rattle.pg_term.specs.declared.term.Term.{Term}
 use Rattle.pg_term.specs.RefParts.{RefParts}
-use Rattle.pg_group.specs.declared.update.Update.{Update}
-use Rattle.pg_group.specs.declared.update.Update.TheVariants.{Join}
-use Rattle.pg_group.specs.Table.{changed}
-use Rattle.pg_group.specs.Value.{count_in, name_of}
+use Rattle.pg_message.specs.PgGroup.declared.update.Update.{Update}
+use Rattle.pg_message.specs.PgGroup.declared.update.Update.TheVariants.{Join}
+use Rattle.pg_message.specs.PgGroup.Table.{changed}
+use Rattle.pg_message.specs.PgGroup.Value.{count_in, name_of}
 use Rattle.pg_lock.specs.Locks.{is_holder}
 use Rattle.pg_message.specs.declared.message.Message.TheVariants.{Reply}
 use Rattle.pg_message.specs.declared.message.Said.{Said}

@@ -1,7 +1,7 @@
 -- Words for the laws of a node's step.
 use Rattle.std.specs.Prelude.{◌≡◌, ◌≢◌, ℕ, ◌+◌, ◌≤◌, Bool, true, false, not, ◌&&◌, cond, nat_eq}
 use Rattle.std.specs.Prelude.{nat_le, length, List, [], ◌∷◌, ◌++◌, Option, Some, None, Result, Ok, Err}
-use Rattle.pg_group.specs.Functions.{upd}
+use Rattle.pg_message.specs.PgGroup.Functions.{upd}
 use Rattle.pg_message.specs.declared.message.Message.{Message}
 use Rattle.pg_message.specs.declared.message.Message.TheVariants.{Reply, Exchange}
 use Rattle.pg_message.specs.declared.message.Said.{Said}

@@ -1,6 +1,6 @@
 -- What a node does at once, and how two such turns make one.
 use Rattle.std.specs.Prelude.{List, ◌++◌, Option, Some, None}
-use Rattle.pg_group.specs.declared.update.Update.{Update}
+use Rattle.pg_message.specs.PgGroup.declared.update.Update.{Update}
 use Rattle.pg_message.specs.declared.message.Message.{Message}
 use Rattle.pg_step.specs.declared.command.OpId.{OpId}
 use Rattle.pg_step.specs.declared.answer.Odd.{Odd}

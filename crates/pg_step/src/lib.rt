@@ -20,6 +20,18 @@ pub use command_fault::CommandFault;
 pub use losses::{
     losing_nodes_keep_time, losses_are_seen, losses_refused_in_order, without_losses,
 };
+pub use pg_ends::{EndFault, MAX_PROCESSES, Processes, numbered_from_one, take_end};
+pub use pg_exchange::{ExchangeFault, Formation, snapshot};
+pub use pg_lock::{Attempt, LockTable};
+pub use pg_message::{
+    Ended, GroupTable, MAX_STAMP, Message, MessageFault, Packet, Request, Said, Scope, Update,
+    are_told_once, check_name, decode, encode, encode_into,
+};
+pub use pg_multicall::{Gather, MAX_PLACES, Places, Taken};
+pub use pg_query::{
+    QueryFault, closest, local_members, members, same_group, same_groups, which_groups,
+};
+pub use pg_refs::{RefFault, RefSource, number_of, reference_of, words_of};
 pub use refusal::Refusal;
 pub use served::peers_are_served;
 pub use start::Start;

@@ -2,7 +2,7 @@ ghost use Rattle.std.specs.Prelude.{◌≡◌, ℕ};
 ghost use Rattle.pg_term.specs.declared.pid.Pid.{Pid};
 ghost use Rattle.pg_term.specs.declared.term.Term.{Term};
 ghost use Rattle.pg_term.specs.RefParts.{RefParts};
-ghost use Rattle.pg_group.specs.declared.update.Update.{Update};
+ghost use Rattle.pg_message.specs.PgGroup.declared.update.Update.{Update};
 ghost use Rattle.pg_exchange.specs.GroupList.{GroupList};
 ghost use Rattle.pg_message.specs.declared.message.Said.{Said};
 ghost use Rattle.pg_step.specs.Nodes.{Node, Nodes};

@@ -3,8 +3,8 @@ use Rattle.std.proofs.Common.{◌≡◌, ◌<◌, ℕ, ◌+◌, List, [], ◌∷
 use Rattle.std.proofs.Common.{fold, length, get_or, map, take, sym, ap, ◌∙◌}
 use Rattle.std.proofs.lemmas.List.{map_push, take_more}
 use Rattle.std.proofs.lemmas.List.Sums.{fold-append}
-use Rattle.pg_account.specs.declared.entry.Entry.{Entry}
-use Rattle.pg_account.specs.Histories.{as_entry}
+use Rattle.pg_script.specs.PgAccount.declared.entry.Entry.{Entry}
+use Rattle.pg_script.specs.PgAccount.Histories.{as_entry}
 use Rattle.pg_survey.specs.declared.pen.Pen.{Pen}
 use Rattle.pg_survey.specs.declared.scenario.Scenario.{Scenario}
 use Rattle.pg_survey.specs.Texts.{EndsAs, with_entry, written}

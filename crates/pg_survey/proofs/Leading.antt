@@ -7,8 +7,8 @@ use Rattle.std.proofs.lemmas.Bool.{cases_lt}
 use Rattle.std.proofs.lemmas.List.{drop_more, get_or-map, get_or_append_left, get_or_at}
 use Rattle.std.proofs.lemmas.List.{length-map, length_push, map_push, take_more}
 use Rattle.std.proofs.lemmas.Option.{get_or_from_slice_get, slice_get-get_or, slice_get_within}
-use Rattle.pg_diagram.specs.declared.graph.Link.{Link}
-use Rattle.pg_diagram.specs.declared.graph.Spot.{Spot}
+use Rattle.pg_script.specs.PgDiagram.declared.graph.Link.{Link}
+use Rattle.pg_script.specs.PgDiagram.declared.graph.Spot.{Spot}
 use Rattle.pg_explore.specs.declared.visitor.Led.{Led}
 use Rattle.pg_tally.specs.declared.ways.Way.{Way}
 use Rattle.pg_survey.specs.declared.findings.Findings.{Findings}

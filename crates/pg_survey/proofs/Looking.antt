@@ -8,11 +8,11 @@ use Rattle.std.proofs.Math.Nat.{eq-or-lt_of_le}
 use Rattle.std.proofs.lemmas.Bool.{cases_lt}
 use Rattle.std.proofs.lemmas.List.Elements.{Contains-push_cases}
 use Rattle.pg_term.specs.declared.term.Term.{Term}
-use Rattle.pg_account.specs.Losses.{is_lost}
-use Rattle.pg_starts.specs.Seen.{Seen}
+use Rattle.pg_script.specs.PgAccount.Losses.{is_lost}
+use Rattle.pg_script.specs.PgStarts.Seen.{Seen}
 use Rattle.pg_survey.specs.Differing.{DifferOn, IsApartOrSame, IsLive, IsLiveAt, IsOtherOrSame, IsSameAt}
 use Rattle.pg_survey.specs.Differing.{IsSomeLive, LiveOf, SeesAt, Decides, is_held_at}
-use Rattle.pg_frame_world.specs.Losing.{is_formed}
+use Rattle.pg_script.specs.PgFrameWorld.Losing.{is_formed}
 
 -- ---- places and names
 

@@ -5,7 +5,7 @@ use Rattle.std.specs.Prelude.{slice_get, slice_set, nat_eq, if◌then◌else◌}
 use Rattle.std.proofs.Math.Nat.{eq-or-lt_of_le}
 use Rattle.std.proofs.lemmas.Bool.{cases_lt}
 use Rattle.std.proofs.lemmas.Bool.Decides.{nat_tests}
-use Rattle.pg_frame_world.proofs.Turning.{set_here, set_other}
+use Rattle.pg_script.proofs.PgFrameWorld.Turning.{set_here, set_other}
 use Rattle.std.proofs.Math.ListN.{set}
 use Rattle.std.proofs.lemmas.List.{append-nil, get_or_append_left, get_or_at, length-set, length_push, map_push}
 use Rattle.std.proofs.lemmas.List.FromFn.{map-range_with_len_more}

@@ -3,10 +3,10 @@ use Rattle.std.specs.Prelude.{◌≡◌, ◌≢◌, ◌<◌, ℕ, Bool, true, fa
 use Rattle.std.specs.List.{Contains}
 use Rattle.std.specs.Option.{option_map_or}
 use Rattle.pg_term.specs.declared.term.Term.{Term}
-use Rattle.pg_account.specs.Losses.{is_lost}
-use Rattle.pg_frame_world.specs.Losing.{is_formed}
-use Rattle.pg_frame_world.specs.Pending.{pending_of}
-use Rattle.pg_starts.specs.Seen.{Seen}
+use Rattle.pg_script.specs.PgAccount.Losses.{is_lost}
+use Rattle.pg_script.specs.PgFrameWorld.Losing.{is_formed}
+use Rattle.pg_script.specs.PgFrameWorld.Pending.{pending_of}
+use Rattle.pg_script.specs.PgStarts.Seen.{Seen}
 
 -- a test says whether a fact holds
 abbrev pub Decides : Type 0 → Bool → Type 0

@@ -4,11 +4,11 @@ use Rattle.std.specs.Prelude.{IsTrue, cond, length, get_or, map, nat_eq, slice_g
 use Rattle.std.specs.List.{Contains, count_by}
 use Rattle.std.specs.Global.{Vec}
 use Rattle.std.specs.Option.{option_map_or}
-use Rattle.pg_diagram.specs.declared.graph.Graph.{Graph}
-use Rattle.pg_diagram.specs.declared.graph.Link.{Link}
-use Rattle.pg_diagram.specs.declared.graph.LinkKind.{LinkKind}
-use Rattle.pg_diagram.specs.declared.graph.LinkKind.TheVariants as kinds
-use Rattle.pg_diagram.specs.declared.graph.Spot.{Spot}
+use Rattle.pg_script.specs.PgDiagram.declared.graph.Graph.{Graph}
+use Rattle.pg_script.specs.PgDiagram.declared.graph.Link.{Link}
+use Rattle.pg_script.specs.PgDiagram.declared.graph.LinkKind.{LinkKind}
+use Rattle.pg_script.specs.PgDiagram.declared.graph.LinkKind.TheVariants as kinds
+use Rattle.pg_script.specs.PgDiagram.declared.graph.Spot.{Spot}
 use Rattle.pg_explore.specs.declared.explored.Met.{Met}
 use Rattle.pg_explore.specs.declared.moment.Moment.{Moment}
 use Rattle.pg_explore.specs.declared.moves.Move.{Move}
@@ -22,8 +22,8 @@ use Rattle.pg_tally.specs.Pages.{page_of}
 use Rattle.pg_tally.specs.Takes.{IsTaken, IsInBounds, widened_to}
 use Rattle.pg_tally.specs.Walks.{IsWalk, takes_of}
 use Rattle.pg_term.specs.declared.term.Term.{Term}
-use Rattle.pg_frame_world.specs.FrameWorlds.{lost_of, traffic_of}
-use Rattle.pg_starts.specs.Seen.{Seen}
+use Rattle.pg_script.specs.PgFrameWorld.FrameWorlds.{lost_of, traffic_of}
+use Rattle.pg_script.specs.PgStarts.Seen.{Seen}
 use Rattle.pg_survey.specs.declared.findings.Findings.{Findings}
 use Rattle.pg_survey.specs.Names.{AddsNames, changed_in, known_in}
 use Rattle.pg_survey.specs.Differing.{Differ, DifferFree, SeesOne, Decides}

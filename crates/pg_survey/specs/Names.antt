@@ -3,10 +3,10 @@ use Rattle.std.specs.Prelude.{◌↔◌, ◌⊎◌, List, [], ◌∷◌, Option,
 use Rattle.std.specs.List.{Contains, flat_map}
 use Rattle.pg_term.specs.declared.pid.Pid.{Pid}
 use Rattle.pg_term.specs.declared.term.Term.{Term}
-use Rattle.pg_step.specs.declared.command.Command.{Command}
-use Rattle.pg_step.specs.declared.command.Command.TheVariants.{Create, Delete, Join, Leave}
-use Rattle.pg_step.specs.declared.start.Start.{Start}
-use Rattle.pg_frame_world.specs.declared.step.FrameStep.TheVariants as events
+use Rattle.pg_script.specs.PgStep.declared.command.Command.{Command}
+use Rattle.pg_script.specs.PgStep.declared.command.Command.TheVariants.{Create, Delete, Join, Leave}
+use Rattle.pg_script.specs.PgStep.declared.start.Start.{Start}
+use Rattle.pg_script.specs.PgFrameWorld.declared.step.FrameStep.TheVariants as events
 use Rattle.pg_explore.specs.declared.plan.Plan.{Plan}
 use Rattle.pg_explore.specs.declared.plan.Planned.{Planned}
 use Rattle.pg_explore.specs.declared.plan.Planned.TheVariants as planned

@@ -4,15 +4,15 @@ use Rattle.std.specs.Prelude.{nat_le, nat_eq, slice_get, Option, Some, None, Res
 use Rattle.std.specs.Borrow.{Bor}
 use Rattle.std.specs.Global.{Vec}
 use Rattle.std.specs.List.{range_with_len}
-use Rattle.pg_lines.specs.declared.line.Line.{Line}
-use Rattle.pg_lines.specs.declared.line.Line.TheVariants.{Ring, Node, Has, Pair, At, Settle, History}
-use Rattle.pg_lines.specs.declared.line.NodeForm.{NodeForm}
-use Rattle.pg_lines.specs.declared.line.NodeForm.TheVariants as node
-use Rattle.pg_lines.specs.Forms.{line_of}
-use Rattle.pg_frame_world.specs.declared.step.FrameStep.{FrameStep}
-use Rattle.pg_frame_world.specs.declared.step.FrameStep.TheVariants as events
-use Rattle.pg_world.specs.declared.step.Step.{Step}
-use Rattle.pg_world.specs.declared.step.Step.TheVariants as steps
+use Rattle.pg_script.specs.PgLines.declared.line.Line.{Line}
+use Rattle.pg_script.specs.PgLines.declared.line.Line.TheVariants.{Ring, Node, Has, Pair, At, Settle, History}
+use Rattle.pg_script.specs.PgLines.declared.line.NodeForm.{NodeForm}
+use Rattle.pg_script.specs.PgLines.declared.line.NodeForm.TheVariants as node
+use Rattle.pg_script.specs.PgLines.Forms.{line_of}
+use Rattle.pg_script.specs.PgFrameWorld.declared.step.FrameStep.{FrameStep}
+use Rattle.pg_script.specs.PgFrameWorld.declared.step.FrameStep.TheVariants as events
+use Rattle.pg_script.specs.PgWorld.declared.step.Step.{Step}
+use Rattle.pg_script.specs.PgWorld.declared.step.Step.TheVariants as steps
 use Rattle.pg_explore.specs.declared.plan.Plan.{Plan}
 use Rattle.pg_explore.specs.declared.plan.Planned.{Planned}
 use Rattle.pg_explore.specs.declared.plan.Planned.TheVariants as planned

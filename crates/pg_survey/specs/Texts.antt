@@ -6,12 +6,12 @@ use Rattle.std.specs.List.{count_by, flat_map, range_with_len}
 use Rattle.std.specs.Option.{option_map_or}
 use Rattle.std.specs.Str.{bytes_eq}
 use Rattle.pg_term.specs.declared.term.Term.{Term}
-use Rattle.pg_text.specs.Writing.{term_text}
-use Rattle.pg_step.specs.declared.answer.Answer.{Answer}
-use Rattle.pg_lines.specs.Printing.{reply_text}
-use Rattle.pg_history.specs.History as history
-use Rattle.pg_frame_world.specs.FrameWorlds.{traffic_of, view_of}
-use Rattle.pg_starts.specs.Seen.{Seen}
+use Rattle.pg_script.specs.PgText.Writing.{term_text}
+use Rattle.pg_script.specs.PgStep.declared.answer.Answer.{Answer}
+use Rattle.pg_script.specs.PgLines.Printing.{reply_text}
+use Rattle.pg_script.specs.PgHistory.History as history
+use Rattle.pg_script.specs.PgFrameWorld.FrameWorlds.{traffic_of, view_of}
+use Rattle.pg_script.specs.PgStarts.Seen.{Seen}
 use Rattle.pg_explore.specs.declared.explored.Met.{Met}
 use Rattle.pg_tally.specs.declared.counts.Counted.{Counted}
 use Rattle.pg_tally.specs.declared.report.Section.{Section}

@@ -3,7 +3,7 @@
 ghost use Rattle.std.specs.Prelude.{◌≡◌, ◌++◌, List, ℕ, IfOk, OnOk, map, length, string_bytes};
 ghost use Rattle.std.specs.List.{flat_map, range_with_len};
 ghost use Rattle.std.specs.Option.{option_copied};
-ghost use Rattle.pg_frame_world.specs.FrameWorlds.{traffic_of};
+ghost use Rattle.pg_script.specs.PgFrameWorld.FrameWorlds.{traffic_of};
 ghost use Rattle.pg_survey.specs.Texts.{AddSections, AddTexts, IsSection, answer_counting, answer_countings};
 ghost use Rattle.pg_survey.specs.Texts.{answer_text, answer_title, answer_to, answers_at, told_text, text_at};
 
@@ -11,10 +11,8 @@ use crate::pen::Pen;
 use crate::scenario::Scenario;
 use crate::tally::met_at;
 use pg_explore::Met;
-use pg_index::IndexTable;
-use pg_step::Answer;
+use pg_script::{Answer, FrameWorld, IndexTable};
 use pg_tally::{Counts, Section};
-use pg_world::FrameWorld;
 use std::alloc::{AllocError, Global};
 
 /// Adds a section for each command of each node: what it is answered at ends, and at how many.

@@ -7,9 +7,8 @@ ghost use Rattle.pg_survey.specs.Names.{AddsNames, changed_by, changed_in, comma
 
 use crate::scenario::Scenario;
 use pg_explore::{Plan, Planned};
-use pg_step::{Command, Start};
+use pg_script::{Command, FrameStep, Start};
 use pg_term::{Items, Pid, Term};
-use pg_world::FrameStep;
 use std::alloc::{AllocError, Global};
 
 /// The groups that commands change, each once.

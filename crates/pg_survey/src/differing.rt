@@ -2,17 +2,14 @@
 
 ghost use Rattle.std.specs.Prelude.{◌≡◌, false, true, IfOk, option_map};
 ghost use Rattle.std.specs.Option.{option_copied};
-ghost use Rattle.pg_frame_world.specs.FrameWorlds.{lost_of, traffic_of};
-ghost use Rattle.pg_starts.specs.Seen.{seen_of};
+ghost use Rattle.pg_script.specs.PgFrameWorld.FrameWorlds.{lost_of, traffic_of};
+ghost use Rattle.pg_script.specs.PgStarts.Seen.{seen_of};
 ghost use Rattle.pg_survey.specs.Differing.{Differ, DifferFree, DifferFreeOn, DifferOn};
 ghost use Rattle.pg_survey.specs.Differing.{IsApartOrSame, IsLiveAt, IsOtherOrSame, IsSomeLive};
 ghost use Rattle.pg_survey.specs.Differing.{LiveOf, Sees, SeesAt, SeesOne, Decides, is_held_at};
 
-use pg_index::IndexTable;
-use pg_node::NodeState;
-use pg_query::same_group;
+use pg_script::{FrameWorld, IndexTable, NodeState, same_group};
 use pg_term::Term;
-use pg_world::FrameWorld;
 use std::alloc::{AllocError, Global};
 
 /// Whether two of the first nodes, so many, that are formed and not lost have not the same of one of some groups.

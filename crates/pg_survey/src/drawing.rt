@@ -5,8 +5,8 @@ ghost use Rattle.pg_survey.specs.Findings.{AreSpots, IsDrawn, is_end_at, link_ki
 
 use crate::findings::Findings;
 use crate::tally::mark_at;
-use pg_diagram::{Graph, Link, LinkKind, Spot};
 use pg_explore::{Led, Met, Move};
+use pg_script::{Graph, Link, LinkKind, Spot};
 use pg_tally::Way;
 use std::alloc::{AllocError, Global};
 

@@ -1,12 +1,11 @@
 //! Which lines a scenario has.
 
 ghost use Rattle.std.specs.Prelude.{◌≡◌, ◌∷◌, IfOk, Ok, option_map};
-ghost use Rattle.pg_lines.specs.Forms.{line_of};
+ghost use Rattle.pg_script.specs.PgLines.Forms.{line_of};
 ghost use Rattle.pg_script.specs.Scripts.{is_skipped, lines_in, lines_of_rest};
 ghost use Rattle.pg_survey.specs.Scenarios.{is_other, is_other_form, is_planned, other_in, texts_of};
 
-use pg_lines::{Line, NodeForm, read_line};
-use pg_text::TextFault;
+use pg_script::{Line, NodeForm, TextFault, read_line};
 use std::alloc::{AllocError, Global};
 
 /// The number of the first line of a text, from 1 on, that has a form, but none of a declaration, a command or a

@@ -2,8 +2,8 @@
 
 ghost use Rattle.std.specs.Prelude.{◌≡◌, ◌++◌, [], List, ℕ, IfOk, OnOk, fold, map, string_bytes};
 ghost use Rattle.std.specs.Option.{option_copied};
-ghost use Rattle.pg_account.specs.Histories.{as_entry, last_entries};
-ghost use Rattle.pg_frame_world.specs.FrameWorlds.{view_of};
+ghost use Rattle.pg_script.specs.PgAccount.Histories.{as_entry, last_entries};
+ghost use Rattle.pg_script.specs.PgFrameWorld.FrameWorlds.{view_of};
 ghost use Rattle.pg_survey.specs.Texts.{AddSections, AddTexts, EndsAs, IsSection, history_counting};
 ghost use Rattle.pg_survey.specs.Texts.{history_text, history_title, or_nothing, text_at, with_entry, written};
 
@@ -11,10 +11,9 @@ use crate::pen::Pen;
 use crate::scenario::Scenario;
 use crate::tally::met_at;
 use pg_explore::Met;
-use pg_index::IndexTable;
+use pg_script::{Entry, FrameWorld, IndexTable};
 use pg_tally::{Counts, Section};
 use pg_term::Term;
-use pg_world::{Entry, FrameWorld};
 use std::alloc::{AllocError, Global};
 
 /// Adds a section for each group: the commands of its history at ends, and at how many.

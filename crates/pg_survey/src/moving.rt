@@ -2,8 +2,7 @@
 
 use crate::hops::Stride;
 use pg_explore::Move;
-use pg_message::Packet;
-use pg_writer::packet_len;
+use pg_script::{Packet, packet_len};
 use std::alloc::{AllocError, Global};
 use std::collections::VecDeque;
 

@@ -1,9 +1,7 @@
 //! The pen that writes texts.
 
-use pg_lines::print_reply;
-use pg_step::Reply;
+use pg_script::{Reply, print_reply, write_atom, write_term};
 use pg_term::{Atom, Term};
-use pg_text::{write_atom, write_term};
 use std::alloc::{AllocError, Global};
 use std::fmt::Display;
 
@@ -17,8 +15,8 @@ pub(crate) struct Pen {
 impl Pen {
     ghost use Rattle.std.specs.Prelude.{◌≡◌, false, true, [], IfOk, IfSome, encode_utf8_all};
     ghost use Rattle.std.specs.Prelude.{is_ok, nat_eq, length, string_bytes};
-    ghost use Rattle.pg_text.specs.Writing.{atom_text, term_text};
-    ghost use Rattle.pg_lines.specs.Printing.{reply_text};
+    ghost use Rattle.pg_script.specs.PgText.Writing.{atom_text, term_text};
+    ghost use Rattle.pg_script.specs.PgLines.Printing.{reply_text};
     ghost use Rattle.pg_survey.specs.Texts.{Writes, written};
 
     /// Nothing is written yet.

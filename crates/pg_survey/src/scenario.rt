@@ -9,8 +9,9 @@ ghost use Rattle.pg_survey.specs.Scenarios.{planned_of, planned_step, scenario_o
 
 use crate::forms::{lines_of, other_line};
 use pg_explore::{Plan, Planned};
-use pg_script::{Act, LineFault, Script, ScriptFault, ScriptLine, read_script};
-use pg_world::{Config, FrameStep, Step};
+use pg_script::{
+    Act, Config, FrameStep, LineFault, Script, ScriptFault, ScriptLine, Step, read_script,
+};
 use std::alloc::{AllocError, Global};
 
 /// A configuration, and what is planned of each of its nodes, by their places.

@@ -8,7 +8,7 @@ use crate::hops::Stride;
 use crate::moving::{Come, frame_len, frames_len, lost_in};
 use crate::pen::Pen;
 use pg_explore::{Moment, Move};
-use pg_message::Packet;
+use pg_script::Packet;
 use std::alloc::AllocError;
 use std::collections::VecDeque;
 

@@ -6,15 +6,15 @@ use Rattle.std.specs.Prelude.{◌||◌, ⊤}
 use Rattle.std.specs.Io.KnownBytes.{Consumes, IsAtEnd}
 use Rattle.std.proofs.KnownBytes.{Consumes-nil, Consumes-trans}
 use lib.Seq.{take-append-add}
-use Rattle.pg_faults.specs.declared.TheConstants.{OUT_OF_MEMORY, READ_FAULT, TOO_LONG, TRUNCATED}
-use Rattle.pg_frame.proofs.Readings.{front_is_first, front_is_frame, pieces_continue}
-use Rattle.pg_frame.proofs.Readings.{taking_leaves_others, written_is_read}
-use Rattle.pg_frame.specs.declared.fault.TooLong.{TooLong}
-use Rattle.pg_frame.specs.Frames.{after_front, bodies_of, front_of, rest_of}
+use Rattle.pg_term.specs.PgFaults.declared.TheConstants.{OUT_OF_MEMORY, READ_FAULT, TOO_LONG, TRUNCATED}
+use Rattle.pg_cluster.proofs.PgFrame.Readings.{front_is_first, front_is_frame, pieces_continue}
+use Rattle.pg_cluster.proofs.PgFrame.Readings.{taking_leaves_others, written_is_read}
+use Rattle.pg_cluster.specs.PgFrame.declared.fault.TooLong.{TooLong}
+use Rattle.pg_cluster.specs.PgFrame.Frames.{after_front, bodies_of, front_of, rest_of}
 use Rattle.pg_term.specs.Fault.{number_of}
 use Rattle.pg_term.specs.declared.fault.TermFault.{TermFault}
 use Rattle.pg_term.specs.declared.term.Term.{Term}
-use Rattle.pg_term_io.specs.Reading.{term_of}
+use Rattle.pg_cluster.specs.PgTermIo.Reading.{term_of}
 use Rattle.pg_requests.specs.declared.input.Input.{Input}
 use Rattle.pg_requests.specs.declared.input.Input.TheVariants as forms
 use Rattle.pg_requests.specs.declared.layout.NodePorts.{NodePorts}

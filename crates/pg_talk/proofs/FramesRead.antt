@@ -3,11 +3,11 @@ use Rattle.std.proofs.Common.{◌≡◌, ◌<◌, ◌-◌, ℕ, List, [], ◌∷
 use Rattle.std.specs.List.{AllByRecursion, flat_map}
 use Rattle.std.proofs.lemmas.List.Folds.{flat_map-map}
 use Rattle.std.proofs.lemmas.List.Sums.{sum_by-cons}
-use Rattle.pg_frame.proofs.Fronts.{front_of-open}
-use Rattle.pg_frame.proofs.Readings.{front_is_first, front_is_frame, written_is_read}
-use Rattle.pg_frame.specs.Frames.{IsBody, bodies_of, frame, front_of, rest_of}
+use Rattle.pg_cluster.proofs.PgFrame.Fronts.{front_of-open}
+use Rattle.pg_cluster.proofs.PgFrame.Readings.{front_is_first, front_is_frame, written_is_read}
+use Rattle.pg_cluster.specs.PgFrame.Frames.{IsBody, bodies_of, frame, front_of, rest_of}
 use Rattle.pg_term.specs.declared.term.Term.{Term}
-use Rattle.pg_term_io.specs.Writing.{written}
+use Rattle.pg_cluster.specs.PgTermIo.Writing.{written}
 use Rattle.pg_requests.specs.declared.input.Input.{Input}
 use Rattle.pg_requests.specs.declared.layout.NodePorts.{NodePorts}
 use Rattle.pg_requests.specs.Requests.{input_of}

@@ -1,7 +1,7 @@
 -- A term's input does not end the input.
 use Rattle.std.proofs.Common.{◌≡◌, ℕ, Bool, true, false, List, [], ◌∷◌, Some, None, Option, refl}
 use Rattle.std.specs.Prelude.{cond}
-use Rattle.pg_step.specs.declared.command.Command.{Command}
+use Rattle.pg_cluster.specs.PgStep.declared.command.Command.{Command}
 use Rattle.pg_term.specs.declared.term.Term.{Term}
 use Rattle.pg_requests.specs.declared.input.Input.{Input}
 use Rattle.pg_requests.specs.declared.layout.NodePorts.{NodePorts}

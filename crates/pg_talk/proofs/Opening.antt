@@ -4,7 +4,7 @@ use Rattle.std.proofs.Common.{map, take, refl, sym, ap, subst, ◌∙◌, arith,
 use Rattle.std.proofs.lemmas.List.{append-nil, length-take, map-append, take_more}
 use Rattle.std.proofs.lemmas.List.Elements.{All-append, All-cons, All-nil}
 use Rattle.std.specs.List.{All}
-use Rattle.pg_step.specs.declared.start.Start.{Start}
+use Rattle.pg_cluster.specs.PgStep.declared.start.Start.{Start}
 use Rattle.pg_talk.specs.declared.service.desk.Desk.{Desk}
 use Rattle.pg_talk.specs.Servings.{IsNew, port_at, ports_of}
 use Rattle.pg_talk.specs.Written.{PortName, ports_from, ports_in}

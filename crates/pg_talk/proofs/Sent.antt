@@ -5,7 +5,7 @@ use denote.RattleType.{RattleType}
 use Rattle.std.proofs.Crossing.{crosses, send as heap_send, sync as heap_sync, frees}
 use Rattle.bytes.proofs.unique.BytesMut.TheSendSync.{the_send as bytes_send}
 use Rattle.rtrb.proofs.end.End.TheSendSync.{the_send as end_send}
-use Rattle.pg_frame.specs.contracts.deframer.Deframer as Deframer
+use Rattle.pg_cluster.specs.PgFrame.contracts.deframer.Deframer as Deframer
 use Rattle.pg_cluster.proofs.TermsSent.{atom_send}
 use Rattle.pg_cluster.proofs.PartsSent.{command_send}
 use Rattle.pg_requests.specs.contracts.input.Input as Input

@@ -12,13 +12,13 @@ use Rattle.std.proofs.lemmas.List.{append-nil, get_or-map, get_or-set_same, get_
 use Rattle.std.proofs.lemmas.List.{length-map, length-set, map-set, set-set}
 use Rattle.std.proofs.lemmas.List.Concat.{flat_map-append}
 use Rattle.std.proofs.lemmas.List.Elements.{All-append, All-cons, All-nil}
-use Rattle.pg_replica.proofs.Streams.{appends_then}
-use Rattle.pg_run.specs.Ports.{polled, polled_count, submitted}
-use Rattle.pg_run.specs.declared.port.Asked.{Asked}
-use Rattle.pg_run.specs.declared.port.Client.{Client}
-use Rattle.pg_step.specs.Config.{Config}
-use Rattle.pg_step.specs.declared.answer.Answer.{Answer}
-use Rattle.pg_step.specs.declared.command.Command.{Command}
+use Rattle.pg_cluster.proofs.PgReplica.Streams.{appends_then}
+use Rattle.pg_cluster.specs.PgRun.Ports.{polled, polled_count, submitted}
+use Rattle.pg_cluster.specs.PgRun.declared.port.Asked.{Asked}
+use Rattle.pg_cluster.specs.PgRun.declared.port.Client.{Client}
+use Rattle.pg_cluster.specs.PgStep.Config.{Config}
+use Rattle.pg_cluster.specs.PgStep.declared.answer.Answer.{Answer}
+use Rattle.pg_cluster.specs.PgStep.declared.command.Command.{Command}
 use Rattle.pg_term.specs.declared.term.Term.{Term}
 use Rattle.pg_cluster.specs.declared.running.Running.{Running}
 use Rattle.pg_cluster.specs.Closed.{lost_of}

@@ -3,9 +3,9 @@ use Rattle.std.proofs.Common.{◌≡◌, ◌≢◌, ◌⊎◌, ◌-◌, ℕ, tru
 use Rattle.std.proofs.Common.{Option, inl, inr, refl, sym, ap, subst, ◌∙◌, append_assoc, append-nil}
 use Rattle.std.specs.Io.KnownBytes.{Consumes}
 use Rattle.pg_cluster.specs.ClientsLaws.{slot_out_on}
-use Rattle.pg_frame.specs.Frames.{front_of}
-use Rattle.pg_ring.specs.declared.slot_out.SlotOut.{SlotOut}
-use Rattle.pg_ring.specs.Slots.{SameSlotOut, given}
+use Rattle.pg_cluster.specs.PgFrame.Frames.{front_of}
+use Rattle.pg_cluster.specs.PgRing.declared.slot_out.SlotOut.{SlotOut}
+use Rattle.pg_cluster.specs.PgRing.Slots.{SameSlotOut, given}
 use Rattle.pg_requests.specs.declared.input.Input.{Input}
 use Rattle.pg_requests.specs.declared.layout.NodePorts.{NodePorts}
 use Rattle.pg_talk.proofs.BodiesRead.{front_ends, front_goes, is_to_be_read, read_then}

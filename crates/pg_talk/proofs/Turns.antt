@@ -6,14 +6,14 @@ use Rattle.std.specs.Io.KnownBytes.{Keeps}
 use Rattle.std.proofs.lemmas.List.{append-nil, get_or_default, get_or-map, get_or-set_same}
 use Rattle.std.proofs.lemmas.Option.{get_or_from_slice_get}
 use Rattle.std.proofs.Math.ListN.{get_or-eq_default}
-use Rattle.pg_replica.proofs.Streams.{appends_kept}
-use Rattle.pg_node_state.specs.declared.state.fault.NodeFault.{NodeFault}
-use Rattle.pg_node_state.specs.declared.state.fault.NodeFault.TheVariants.{Refused}
-use Rattle.pg_step.specs.declared.refusal.Refusal.TheVariants.{NoSuchPlace, NodeLost}
-use Rattle.pg_ring.specs.Slots.{SameSlotIn}
-use Rattle.pg_ring.specs.declared.slot_in.SlotIn.{SlotIn}
+use Rattle.pg_cluster.proofs.PgReplica.Streams.{appends_kept}
+use Rattle.pg_cluster.specs.PgNodeState.declared.state.fault.NodeFault.{NodeFault}
+use Rattle.pg_cluster.specs.PgNodeState.declared.state.fault.NodeFault.TheVariants.{Refused}
+use Rattle.pg_cluster.specs.PgStep.declared.refusal.Refusal.TheVariants.{NoSuchPlace, NodeLost}
+use Rattle.pg_cluster.specs.PgRing.Slots.{SameSlotIn}
+use Rattle.pg_cluster.specs.PgRing.declared.slot_in.SlotIn.{SlotIn}
 use Rattle.pg_cluster.specs.ClientsLaws.{slot_in_on}
-use Rattle.pg_step.specs.Config.{Config}
+use Rattle.pg_cluster.specs.PgStep.Config.{Config}
 use Rattle.pg_term.specs.declared.term.Term.{Term}
 use Rattle.pg_requests.specs.declared.input.Input.{Input}
 use Rattle.pg_requests.specs.Replies.{node_lost_term}

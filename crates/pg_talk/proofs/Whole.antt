@@ -8,13 +8,13 @@ use Rattle.std.proofs.lemmas.List.{append-nil, get_or-map, length-map}
 use Rattle.std.proofs.lemmas.List.Elements.{All-nil, All-tail}
 use Rattle.std.proofs.lemmas.List.Folds.{list_all_at}
 use mathlib.Core.Logic.{∥∥₁_elim}
-use Rattle.pg_replica.proofs.Streams.{appends_none}
-use Rattle.pg_run.specs.Ports.{IsSilent, polled, submitted}
-use Rattle.pg_run.specs.declared.port.Asked.{Asked}
-use Rattle.pg_step.specs.Config.{Config}
-use Rattle.pg_step.specs.declared.answer.Answer.{Answer}
-use Rattle.pg_step.specs.declared.command.Command.{Command}
-use Rattle.pg_step.specs.declared.start.Start.{Start}
+use Rattle.pg_cluster.proofs.PgReplica.Streams.{appends_none}
+use Rattle.pg_cluster.specs.PgRun.Ports.{IsSilent, polled, submitted}
+use Rattle.pg_cluster.specs.PgRun.declared.port.Asked.{Asked}
+use Rattle.pg_cluster.specs.PgStep.Config.{Config}
+use Rattle.pg_cluster.specs.PgStep.declared.answer.Answer.{Answer}
+use Rattle.pg_cluster.specs.PgStep.declared.command.Command.{Command}
+use Rattle.pg_cluster.specs.PgStep.declared.start.Start.{Start}
 use Rattle.pg_term.specs.declared.term.Term.{Term}
 use Rattle.pg_cluster.specs.declared.running.Running.{Running}
 use Rattle.pg_cluster.specs.Members.{is_lost, thread_of}

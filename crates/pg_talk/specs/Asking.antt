@@ -5,14 +5,14 @@ use Rattle.std.specs.Option.{option_map_or}
 use Rattle.pg_term.specs.declared.pid.Pid.{Pid}
 use Rattle.pg_term.specs.declared.term.Term.{Term}
 use Rattle.pg_term.specs.declared.term.Term.TheVariants.{Atom}
-use Rattle.pg_step.specs.declared.answer.Answer.{Answer}
-use Rattle.pg_step.specs.declared.answer.Reply.{Reply}
-use Rattle.pg_step.specs.declared.answer.Reply.TheVariants.{Made}
-use Rattle.pg_step.specs.declared.command.Command.{Command}
-use Rattle.pg_step.specs.declared.command.Command.TheVariants.{Create, Join, Leave, Make}
-use Rattle.pg_run.specs.declared.port.Asked.{Asked}
-use Rattle.pg_run.specs.declared.port.Client.{Client}
-use Rattle.pg_run.specs.Ports.{submitted, polled, polled_count}
+use Rattle.pg_cluster.specs.PgStep.declared.answer.Answer.{Answer}
+use Rattle.pg_cluster.specs.PgStep.declared.answer.Reply.{Reply}
+use Rattle.pg_cluster.specs.PgStep.declared.answer.Reply.TheVariants.{Made}
+use Rattle.pg_cluster.specs.PgStep.declared.command.Command.{Command}
+use Rattle.pg_cluster.specs.PgStep.declared.command.Command.TheVariants.{Create, Join, Leave, Make}
+use Rattle.pg_cluster.specs.PgRun.declared.port.Asked.{Asked}
+use Rattle.pg_cluster.specs.PgRun.declared.port.Client.{Client}
+use Rattle.pg_cluster.specs.PgRun.Ports.{submitted, polled, polled_count}
 use Rattle.pg_talk.specs.declared.speaker.Speaker.{Speaker}
 use Rattle.pg_talk.specs.declared.speaker.Stage.{Stage}
 use Rattle.pg_talk.specs.declared.speaker.Stage.TheVariants.{Waiting, Creating, Making, Joining, Leaving, Silent}

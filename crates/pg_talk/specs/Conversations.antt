@@ -1,11 +1,11 @@
 -- What a conversation of clients with a cluster came to.
 use Rattle.std.specs.Prelude.{◌≡◌, ℕ, Bool, ◌<◌, ◌+◌, ◌*◌, ◌-◌, ◌^◌, min, List, [], ◌∷◌, ◌++◌, get_or, length, map}
 use Rattle.std.specs.List.{All, sum_by}
-use Rattle.pg_run.specs.Ports.{polled}
-use Rattle.pg_run.specs.Runs.{generator_of}
-use Rattle.pg_run.specs.declared.port.Client.{Client}
-use Rattle.pg_step.specs.Config.{Config}
-use Rattle.pg_step.specs.declared.start.Start.{Start}
+use Rattle.pg_cluster.specs.PgRun.Ports.{polled}
+use Rattle.pg_cluster.specs.PgRun.Runs.{generator_of}
+use Rattle.pg_cluster.specs.PgRun.declared.port.Client.{Client}
+use Rattle.pg_cluster.specs.PgStep.Config.{Config}
+use Rattle.pg_cluster.specs.PgStep.declared.start.Start.{Start}
 use Rattle.rand_pcg.specs.Lcg.{Lcg}
 use Rattle.pg_cluster.specs.Notices.{NobodyLost}
 use Rattle.pg_cluster.specs.Seeds.{AreSeeded}

@@ -1,6 +1,6 @@
 -- The requests of one port.
 use Rattle.std.specs.Prelude.{◌≡◌, Bool, true, false, not, ◌&&◌, List, [], ◌∷◌}
-use Rattle.pg_step.specs.declared.command.Command.{Command}
+use Rattle.pg_cluster.specs.PgStep.declared.command.Command.{Command}
 use Rattle.pg_talk.specs.declared.service.desk.Desk.{Desk}
 
 -- those that wait for their turn, in the order in which they came

@@ -1,10 +1,10 @@
 -- Terms in frames.
 use Rattle.std.specs.Prelude.{◌⊎◌, ℕ, ◌<◌, List, Option, length}
 use Rattle.std.specs.Io.KnownBytes.{Appends}
-use Rattle.pg_frame.specs.Frames.{frame}
-use Rattle.pg_frame.specs.declared.TheConstants.{MAX_BODY}
+use Rattle.pg_cluster.specs.PgFrame.Frames.{frame}
+use Rattle.pg_cluster.specs.PgFrame.declared.TheConstants.{MAX_BODY}
 use Rattle.pg_term.specs.declared.term.Term.{Term}
-use Rattle.pg_term_io.specs.Writing.{written, IsWritable}
+use Rattle.pg_cluster.specs.PgTermIo.Writing.{written, IsWritable}
 use Rattle.pg_requests.specs.Replies.{numbered_term, refused_term}
 
 -- the frame whose body a term is written as

@@ -1,12 +1,12 @@
 -- What holds of all that is read. The function of src/laws.rt is proved to meet it.
 use Rattle.std.specs.Prelude.{◌≡◌, ◌<◌, ◌≤◌, ℕ, List, [], ◌∷◌, ◌++◌, Ok, length, map}
 use Rattle.std.specs.List.{AllByRecursion, flat_map, sum_by}
-use Rattle.pg_faults.specs.declared.TheConstants.{TRUNCATED}
-use Rattle.pg_frame.specs.declared.TheConstants.{MAX_BODY}
-use Rattle.pg_frame.specs.Frames.{IsOpen}
+use Rattle.pg_term.specs.PgFaults.declared.TheConstants.{TRUNCATED}
+use Rattle.pg_cluster.specs.PgFrame.declared.TheConstants.{MAX_BODY}
+use Rattle.pg_cluster.specs.PgFrame.Frames.{IsOpen}
 use Rattle.pg_term.specs.declared.term.Term.{Term}
-use Rattle.pg_term_io.specs.Reading.{term_of}
-use Rattle.pg_term_io.specs.Writing.{written}
+use Rattle.pg_cluster.specs.PgTermIo.Reading.{term_of}
+use Rattle.pg_cluster.specs.PgTermIo.Writing.{written}
 use Rattle.pg_requests.specs.declared.input.Input.{Input}
 use Rattle.pg_requests.specs.declared.input.Input.TheVariants as forms
 use Rattle.pg_requests.specs.declared.layout.NodePorts.{NodePorts}

@@ -1,9 +1,9 @@
 -- What a service came to, and why it did not come to its end.
 use Rattle.std.specs.Prelude.{◌≡◌, ℕ, List, Option, Some}
-use Rattle.pg_run.specs.declared.port.Client.{Client}
+use Rattle.pg_cluster.specs.PgRun.declared.port.Client.{Client}
 use Rattle.pg_requests.specs.declared.input.Input.{Input}
 use Rattle.pg_requests.specs.Layouts.{layout_of}
-use Rattle.pg_step.specs.Config.{Config}
+use Rattle.pg_cluster.specs.PgStep.Config.{Config}
 use Rattle.rand_pcg.specs.Lcg.{Lcg}
 use Rattle.pg_cluster.specs.Threads.{Thread}
 use Rattle.pg_cluster.specs.Fault.{start_number_of}

@@ -1,10 +1,10 @@
 -- What a cluster that was closed is found to be.
 use Rattle.std.specs.Prelude.{◌≡◌, ℕ, Bool, true, List, map}
-use Rattle.pg_run.specs.declared.log.NodeEvent.{NodeEvent}
-use Rattle.pg_run.specs.declared.port.Client.{Client}
-use Rattle.pg_step.specs.Config.{Config}
-use Rattle.pg_frame_world.specs.Runs.{LosesNone}
-use Rattle.pg_frame_world.specs.declared.step.FrameStep.{FrameStep}
+use Rattle.pg_cluster.specs.PgRun.declared.log.NodeEvent.{NodeEvent}
+use Rattle.pg_cluster.specs.PgRun.declared.port.Client.{Client}
+use Rattle.pg_cluster.specs.PgStep.Config.{Config}
+use Rattle.pg_cluster.specs.PgFrameWorld.Runs.{LosesNone}
+use Rattle.pg_cluster.specs.PgFrameWorld.declared.step.FrameStep.{FrameStep}
 use Rattle.rand_pcg.specs.Lcg.{Lcg}
 use Rattle.pg_cluster.specs.Clients.{AllHeard}
 use Rattle.pg_cluster.specs.Judges.{Replays, ReplaysPastLosses}

@@ -9,7 +9,7 @@ pub(crate) mod reading;
 pub(crate) mod run;
 pub(crate) mod serving;
 
-use pg_world::Config;
+use pg_cluster::Config;
 
 /// How many requests wait for their turn at one port at most.
 pub const MAX_WAITING: usize = 1024;

@@ -1,11 +1,9 @@
 //! What a service replies, and how it ends.
 
 use crate::verdicts::holds_at;
-use pg_frame::write_frame;
-use pg_node::Source;
 use pg_talk::{Served, Service, ServiceFault, config_of, node_names, serve_cluster};
-use pg_term_writer::encode;
 use pg_text::read_term;
+use pg_world::{Source, encode, write_frame};
 use std::alloc::Global;
 use std::io;
 use std::io::ErrorKind;

@@ -6,3 +6,4 @@ pub mod RefParts
 pub mod Same
 pub mod Text
 pub mod formers
+pub use Rattle.pg_faults.specs as PgFaults

@@ -22,6 +22,7 @@ pub use fault::TermFault;
 pub use fields::Fields;
 pub use items::Items;
 pub use laws::{equality, order, order_by_kind};
+pub use pg_faults;
 pub use pid::Pid;
 pub use reference::Reference;
 pub use term::Term;

@@ -1,7 +1,7 @@
 -- What a message is about.
-use Rattle.pg_message.specs.declared.message.Message.{Message}
-use Rattle.pg_message.specs.declared.message.Message.TheVariants.{Call, Reply, DelLock, Exchange, Down}
-use Rattle.pg_message.specs.declared.message.Request.TheVariants.{SetLock, Change}
+use Rattle.pg_world.specs.PgMessage.declared.message.Message.{Message}
+use Rattle.pg_world.specs.PgMessage.declared.message.Message.TheVariants.{Call, Reply, DelLock, Exchange, Down}
+use Rattle.pg_world.specs.PgMessage.declared.message.Request.TheVariants.{SetLock, Change}
 use Rattle.pg_diagram.specs.declared.data.Topic.{Topic}
 use Rattle.pg_diagram.specs.declared.data.Topic.TheVariants as topic
 

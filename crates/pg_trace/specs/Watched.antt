@@ -3,8 +3,8 @@ use Rattle.std.specs.Prelude.{◌≡◌, ℕ, List, ◌∷◌, ◌++◌, [], len
 use Rattle.std.specs.List.{range_with_len}
 use Rattle.std.specs.declared.alloc.Global.{Global}
 use Rattle.std.specs.Str.{encode_utf8_all}
-use Rattle.pg_step.specs.declared.answer.Answer.{Answer}
-use Rattle.pg_step.specs.declared.start.Start.{Start}
+use Rattle.pg_world.specs.PgStep.declared.answer.Answer.{Answer}
+use Rattle.pg_world.specs.PgStep.declared.start.Start.{Start}
 use Rattle.pg_text.specs.Writing.{atom_text}
 use Rattle.pg_lines.specs.Printing.{reply_text}
 use Rattle.pg_trace.specs.declared.seen.Seen.TheVariants.{Answered, Sent}

@@ -5,11 +5,8 @@ ghost use Rattle.pg_trace.specs.Topics.{topic_of};
 
 use crate::texts::{reference_text, term_text};
 use pg_diagram::Topic;
-use pg_frame::Deframer;
-use pg_message::{Message, Packet, Request, Said};
-use pg_reader::read_packet;
 use pg_term::Term;
-use pg_term_io::decode;
+use pg_world::{Deframer, Message, Packet, Request, Said, decode, read_packet};
 use std::alloc::{AllocError, Global};
 
 /// A packet that was sent.

@@ -13,5 +13,17 @@ mod watch;
 pub use columns::Columns;
 pub use drawing::diagram_of;
 pub use letter::{Asked, Letter};
+pub use pg_diagram::{Diagram, Graph, Link, LinkKind, Spot, graph_svg, svg_of, write_svg};
+pub use pg_lines::{
+    Line, NodeForm, PairForm, add_char, add_text, print_answer, print_lock, print_outbox,
+    print_refused, print_reply, read_line,
+};
+pub use pg_text::{TextFault, read_term, write_atom, write_term, write_update};
+pub use pg_world::{
+    Answer, AnyWriter, Command, Config, Effect, Entry, FrameStep, FrameWorld, GroupTable,
+    IndexTable, Node, NodeFault, NodeState, OpId, Outgoing, Packet, Refusal, Reply, Sink, Start,
+    Step, Stepped, World, WorldFault, encode, packet_len, run, run_frames, same_group,
+    starting_nodes,
+};
 pub use seen::{Seen, Sight};
 pub use watch::Watch;

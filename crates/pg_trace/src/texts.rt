@@ -4,9 +4,9 @@ ghost use Rattle.std.specs.Prelude.{◌≡◌, IfOk, string_bytes};
 ghost use Rattle.std.specs.Str.{encode_utf8_all};
 ghost use Rattle.pg_text.specs.Writing.{atom_text};
 
-use pg_step::Command;
 use pg_term::{Atom, Boxed, Reference, Term};
 use pg_text::{write_atom, write_pid, write_term};
+use pg_world::Command;
 use std::alloc::{AllocError, Global};
 
 /// The text of an atom.

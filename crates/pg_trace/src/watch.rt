@@ -9,11 +9,8 @@ use crate::seen::{Seen, Sight};
 use crate::texts::{atom_text, changed_by, command_text};
 use crate::watch::locks::Locks;
 use crate::watch::ways::{Ways, outbox, peer_count};
-use pg_group::GroupTable;
 use pg_lines::print_reply;
-use pg_node::NodeFault;
-use pg_step::{Answer, Command, Start};
-use pg_world::{FrameStep, Step, Stepped, World};
+use pg_world::{Answer, Command, FrameStep, GroupTable, NodeFault, Start, Step, Stepped, World};
 use std::alloc::{AllocError, Global};
 
 /// What was seen of a world. It comes from what its steps report and from what its nodes show after a step: their

@@ -1,8 +1,7 @@
 //! A cluster: two nodes run in threads, and their clients ask.
 
 use crate::setting::{two_nodes, workers};
-use pg_cluster::{OpenGate, Running};
-use pg_step::{Command, Reply};
+use pg_cluster::{Command, OpenGate, Reply, Running};
 use pg_term::Pid;
 use pg_text::write_pid;
 use std::alloc::Global;

@@ -1,11 +1,9 @@
 //! A world: two nodes that make one step after another, and the history of a group.
 
 use crate::setting::{two_nodes, workers};
-use pg_index::IndexTable;
-use pg_step::Command;
+use pg_cluster::{Command, FrameStep, FrameWorld, IndexTable, Stepped};
 use pg_term::Term;
 use pg_text::write_update;
-use pg_world::{FrameStep, FrameWorld, Stepped};
 use std::alloc::Global;
 
 /// `a` makes a group and `b` deletes it: the history of the group.

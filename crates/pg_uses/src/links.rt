@@ -2,11 +2,7 @@
 
 use crate::setting::{two_nodes, workers};
 use crate::wire::Wire;
-use pg_index::IndexTable;
-use pg_node::Node;
-use pg_query::which_groups;
-use pg_step::Command;
-use pg_world::starting_nodes;
+use pg_cluster::{Command, IndexTable, Node, starting_nodes, which_groups};
 use std::alloc::Global;
 
 /// How many bytes move at once.

@@ -1,8 +1,7 @@
 //! What the three programs begin with: two nodes, and the name of a group.
 
-use pg_step::Start;
+use pg_cluster::{Config, Start};
 use pg_term::{Atom, Items, Term};
-use pg_world::Config;
 use std::alloc::Global;
 
 /// The name of the group.

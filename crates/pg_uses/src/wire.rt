@@ -1,10 +1,10 @@
 //! A link of one's own: a queue of bytes in memory that counts what crossed it.
 
-ghost use Rattle.pg_ring.specs.MemRing.{Grows, HasRoomFor, HasUnread, Loses};
-ghost use Rattle.pg_ring.specs.MemRingLaws.{Grows-agrees, Grows-composes, Grows-rests, HasRoomFor-idles};
-ghost use Rattle.pg_ring.specs.MemRingLaws.{Loses-agrees, Loses-composes, Loses-rests};
+ghost use Rattle.pg_cluster.specs.PgRing.MemRing.{Grows, HasRoomFor, HasUnread, Loses};
+ghost use Rattle.pg_cluster.specs.PgRing.MemRingLaws.{Grows-agrees, Grows-composes, Grows-rests, HasRoomFor-idles};
+ghost use Rattle.pg_cluster.specs.PgRing.MemRingLaws.{Loses-agrees, Loses-composes, Loses-rests};
 
-use pg_ring::{Inlet, Link, MemRing};
+use pg_cluster::{Inlet, Link, MemRing};
 use std::alloc::Global;
 
 /// A queue of bytes in memory, and how many crossed it.

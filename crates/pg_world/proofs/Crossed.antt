@@ -4,27 +4,27 @@ use Rattle.std.proofs.Common.{[], ◌∷◌, ◌++◌, refl, sym, ap, ◌∙◌,
 use Rattle.std.specs.Int.{w32, to_be_bytes}
 use Rattle.std.specs.List.{AllByRecursion}
 use Rattle.std.proofs.lemmas.Bool.{cases_eq}
-use Rattle.pg_frame.specs.Frames.{frame, after_front}
-use Rattle.pg_message.specs.declared.message.Message.{Message}
-use Rattle.pg_message.specs.declared.packet.Packet.{Packet}
-use Rattle.pg_machine.specs.Places.{is_pair}
-use Rattle.pg_machine.specs.Machine.{Event, node_of}
-use Rattle.pg_machine.specs.Happened.{Takes}
-use Rattle.pg_machine.specs.Clocked.{Stamped}
-use Rattle.pg_frame.specs.Pieces.{Bytes, AreShort, frames_of, put_out, piece_taken as bytes_taken}
-use Rattle.pg_step.specs.Config.{Config}
-use Rattle.pg_step.specs.Step.{Action}
-use Rattle.pg_writer.specs.Frames.{frame_of}
-use Rattle.pg_sends.specs.Frames.{IsSmallFrame, AreSmallFrames, frames_to}
+use Rattle.pg_frame_world.specs.PgFrame.Frames.{frame, after_front}
+use Rattle.pg_frame_world.specs.PgMessage.declared.message.Message.{Message}
+use Rattle.pg_frame_world.specs.PgMessage.declared.packet.Packet.{Packet}
+use Rattle.pg_frame_world.specs.PgMachine.Places.{is_pair}
+use Rattle.pg_frame_world.specs.PgMachine.Machine.{Event, node_of}
+use Rattle.pg_frame_world.specs.PgMachine.Happened.{Takes}
+use Rattle.pg_frame_world.specs.PgMachine.Clocked.{Stamped}
+use Rattle.pg_frame_world.specs.PgFrame.Pieces.{Bytes, AreShort, frames_of, put_out, piece_taken as bytes_taken}
+use Rattle.pg_frame_world.specs.PgStep.Config.{Config}
+use Rattle.pg_frame_world.specs.PgStep.Step.{Action}
+use Rattle.pg_frame_world.specs.PgWriter.Frames.{frame_of}
+use Rattle.pg_frame_world.specs.PgSends.Frames.{IsSmallFrame, AreSmallFrames, frames_to}
 use Rattle.pg_node.specs.Links.{Link}
-use Rattle.pg_sends.specs.Sent.{stamped_of}
-use Rattle.pg_starts.specs.Seen.{Seen}
+use Rattle.pg_frame_world.specs.PgSends.Sent.{stamped_of}
+use Rattle.pg_frame_world.specs.PgStarts.Seen.{Seen}
 use Rattle.pg_frame_world.specs.Views.{peer_place, packets_to}
 use Rattle.pg_frame_world.specs.Worlds.{TimedFrameWorld, ShowsNodes}
 use Rattle.pg_world.specs.Crossings.{Crossing, link_at, bytes_at, packet_as, packets_between}
 use Rattle.pg_world.specs.Crossings.{written_of, CanCross, IsOnWay, ShowsPast}
 use Rattle.pg_world.specs.Changes.{Moves, links_at}
-use Rattle.pg_account.specs.Losses.{is_lost}
+use Rattle.pg_frame_world.specs.PgAccount.Losses.{is_lost}
 use Rattle.pg_world.proofs.Past.{Adds, way_sent}
 use Rattle.pg_frame_world.proofs.Turning.{Passes, pair_is}
 

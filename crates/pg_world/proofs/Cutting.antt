@@ -1,14 +1,14 @@
 -- What steps over bytes come to, by their numbers.
 use Rattle.std.proofs.Common.{◌≡◌, ℕ, Bool, false, List, [], length, Some, Ok, Err, Result, refl, ap, inl, inr, subst}
-use Rattle.pg_machine.specs.Places.{is_pair}
-use Rattle.pg_machine.specs.Machine.{Event, Take, Do}
-use Rattle.pg_step.specs.Config.{Config}
-use Rattle.pg_step.specs.Step.{Action, Issue, Retry}
-use Rattle.pg_step.specs.Faults.{refusal_number_of}
-use Rattle.pg_node_state.specs.NodeFault.{node_number_of}
-use Rattle.pg_node_state.specs.declared.state.fault.NodeFault.{NodeFault}
-use Rattle.pg_node_state.specs.declared.state.fault.NodeFault.TheVariants.{Refused, OutOfMemory}
-use Rattle.pg_node_state.specs.declared.state.fault.NodeFault.TheVariants.{Message as BadMessage, TooLong, Damaged}
+use Rattle.pg_frame_world.specs.PgMachine.Places.{is_pair}
+use Rattle.pg_frame_world.specs.PgMachine.Machine.{Event, Take, Do}
+use Rattle.pg_frame_world.specs.PgStep.Config.{Config}
+use Rattle.pg_frame_world.specs.PgStep.Step.{Action, Issue, Retry}
+use Rattle.pg_frame_world.specs.PgStep.Faults.{refusal_number_of}
+use Rattle.pg_frame_world.specs.PgNodeState.NodeFault.{node_number_of}
+use Rattle.pg_frame_world.specs.PgNodeState.declared.state.fault.NodeFault.{NodeFault}
+use Rattle.pg_frame_world.specs.PgNodeState.declared.state.fault.NodeFault.TheVariants.{Refused, OutOfMemory}
+use Rattle.pg_frame_world.specs.PgNodeState.declared.state.fault.NodeFault.TheVariants.{Message as BadMessage, TooLong, Damaged}
 use Rattle.pg_frame_world.specs.declared.step.FrameStep.TheVariants as frames
 use Rattle.pg_world.specs.declared.step.Step.{Step}
 use Rattle.pg_world.specs.declared.step.Step.TheVariants as steps

@@ -1,19 +1,19 @@
 -- A packet on the way is never refused as no message.
 use Rattle.std.proofs.Common.{◌≡◌, ◌≢◌, ◌+◌, ℕ, Bool, true, false, cond, max, nat_le}
 use Rattle.std.proofs.Common.{map, List, ◌∷◌, ◌++◌, None, Result, Ok, Err, refl, ap}
-use Rattle.pg_message.specs.declared.message.Message.{Message}
-use Rattle.pg_machine.specs.Places.{is_pair}
-use Rattle.pg_machine.specs.Clocked.{Stamped, plain, packets_of}
-use Rattle.pg_step.specs.declared.refusal.Refusal.{Refusal}
-use Rattle.pg_step.specs.declared.refusal.Refusal.TheVariants.{NotAMessage, ClockFull}
-use Rattle.pg_step.specs.Config.{Config, name_at, nodes_at}
+use Rattle.pg_frame_world.specs.PgMessage.declared.message.Message.{Message}
+use Rattle.pg_frame_world.specs.PgMachine.Places.{is_pair}
+use Rattle.pg_frame_world.specs.PgMachine.Clocked.{Stamped, plain, packets_of}
+use Rattle.pg_frame_world.specs.PgStep.declared.refusal.Refusal.{Refusal}
+use Rattle.pg_frame_world.specs.PgStep.declared.refusal.Refusal.TheVariants.{NotAMessage, ClockFull}
+use Rattle.pg_frame_world.specs.PgStep.Config.{Config, name_at, nodes_at}
 use Rattle.std.specs.Prelude.{length, option_map}
-use Rattle.pg_machine.specs.Losing.{Noticed, Sent, mapped_turn}
-use Rattle.pg_machine.specs.Machine.{Taken}
-use Rattle.pg_step.specs.FrameMachine.{placed, losing_machine_of, sent_packet}
-use Rattle.pg_step.specs.Step.{CLOCK_LIMIT, TimedTurn, at_clock, timed, step_take, node_takes}
-use Rattle.pg_step.specs.Turns.{NodeTurn}
-use Rattle.pg_history.specs.Headline.{HarmsNobody}
+use Rattle.pg_frame_world.specs.PgMachine.Losing.{Noticed, Sent, mapped_turn}
+use Rattle.pg_frame_world.specs.PgMachine.Machine.{Taken}
+use Rattle.pg_frame_world.specs.PgStep.FrameMachine.{placed, losing_machine_of, sent_packet}
+use Rattle.pg_frame_world.specs.PgStep.Step.{CLOCK_LIMIT, TimedTurn, at_clock, timed, step_take, node_takes}
+use Rattle.pg_frame_world.specs.PgStep.Turns.{NodeTurn}
+use Rattle.pg_frame_world.specs.PgHistory.Headline.{HarmsNobody}
 use Rattle.pg_world.specs.Crossings.{IsWelcome}
 use Rattle.pg_frame_world.specs.Losing.{losing_of, notices}
 use Rattle.pg_frame_world.specs.Worlds.{TimedFrameWorld}

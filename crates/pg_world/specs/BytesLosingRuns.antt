@@ -1,13 +1,13 @@
 -- Steps over bytes that are made one after another, where nodes may be lost.
 use Rattle.std.specs.Prelude.{◌≡◌, ◌⊎◌, ℕ, Option}
 use Rattle.std.specs.Option.{option_map_or}
-use Rattle.pg_machine.specs.Losing.{LosingEvent, Lose}
-use Rattle.pg_step.specs.declared.refusal.Refusal.{Refusal}
-use Rattle.pg_step.specs.declared.refusal.Refusal.TheVariants.{NotDrained}
-use Rattle.pg_step.specs.Config.{Config}
-use Rattle.pg_step.specs.Faults.{refusal_number_of}
-use Rattle.pg_step.specs.LossLaws.{LosingFrameWorld}
-use Rattle.pg_step.specs.Step.{Action}
+use Rattle.pg_frame_world.specs.PgMachine.Losing.{LosingEvent, Lose}
+use Rattle.pg_frame_world.specs.PgStep.declared.refusal.Refusal.{Refusal}
+use Rattle.pg_frame_world.specs.PgStep.declared.refusal.Refusal.TheVariants.{NotDrained}
+use Rattle.pg_frame_world.specs.PgStep.Config.{Config}
+use Rattle.pg_frame_world.specs.PgStep.Faults.{refusal_number_of}
+use Rattle.pg_frame_world.specs.PgStep.LossLaws.{LosingFrameWorld}
+use Rattle.pg_frame_world.specs.PgStep.Step.{Action}
 use Rattle.pg_frame_world.specs.declared.step.FrameStep.{FrameStep}
 use Rattle.pg_frame_world.specs.declared.step.FrameStep.TheVariants as frames
 use Rattle.pg_world.specs.declared.step.Step.{Step}

@@ -1,13 +1,13 @@
 -- Steps over bytes that are made one after another: their events, and when one that did nothing has a number.
 use Rattle.std.specs.Prelude.{◌≡◌, ◌⊎◌, ℕ, true, false, not, length, List, Option, Some, None, Err}
 use Rattle.std.specs.List.{AllPass}
-use Rattle.pg_machine.specs.Places.{is_place, is_pair}
-use Rattle.pg_machine.specs.Machine.{Event, Take, Do}
-use Rattle.pg_step.specs.declared.refusal.Refusal.{Refusal}
-use Rattle.pg_step.specs.declared.refusal.Refusal.TheVariants.{NoSuchPlace}
-use Rattle.pg_step.specs.Config.{Config}
-use Rattle.pg_step.specs.Faults.{refusal_number_of}
-use Rattle.pg_step.specs.Step.{Action, Issue, Retry}
+use Rattle.pg_frame_world.specs.PgMachine.Places.{is_place, is_pair}
+use Rattle.pg_frame_world.specs.PgMachine.Machine.{Event, Take, Do}
+use Rattle.pg_frame_world.specs.PgStep.declared.refusal.Refusal.{Refusal}
+use Rattle.pg_frame_world.specs.PgStep.declared.refusal.Refusal.TheVariants.{NoSuchPlace}
+use Rattle.pg_frame_world.specs.PgStep.Config.{Config}
+use Rattle.pg_frame_world.specs.PgStep.Faults.{refusal_number_of}
+use Rattle.pg_frame_world.specs.PgStep.Step.{Action, Issue, Retry}
 use Rattle.pg_frame_world.specs.declared.step.FrameStep.{FrameStep}
 use Rattle.pg_frame_world.specs.declared.step.FrameStep.TheVariants as frames
 use Rattle.pg_world.specs.declared.step.Step.{Step}

@@ -1,10 +1,10 @@
 -- What a step over bytes changes, and how many bytes move.
 use Rattle.std.specs.Prelude.{◌≡◌, ◌≢◌, ◌-◌, ℕ, true, min, length, get_or, slice_get, None, Result, Ok, Err}
-use Rattle.pg_machine.specs.Places.{is_pair}
-use Rattle.pg_machine.specs.Machine.{Event, Take, Do, node_of as place_of}
-use Rattle.pg_frame.specs.Pieces.{Bytes, ring_put, pull}
-use Rattle.pg_step.specs.Step.{Action, Issue, Retry}
-use Rattle.pg_node_state.specs.declared.state.fault.NodeFault.{NodeFault}
+use Rattle.pg_frame_world.specs.PgMachine.Places.{is_pair}
+use Rattle.pg_frame_world.specs.PgMachine.Machine.{Event, Take, Do, node_of as place_of}
+use Rattle.pg_frame_world.specs.PgFrame.Pieces.{Bytes, ring_put, pull}
+use Rattle.pg_frame_world.specs.PgStep.Step.{Action, Issue, Retry}
+use Rattle.pg_frame_world.specs.PgNodeState.declared.state.fault.NodeFault.{NodeFault}
 use Rattle.pg_node.specs.Bytes.{next_packet}
 use Rattle.pg_node.specs.Links.{Link}
 use Rattle.pg_frame_world.specs.declared.step.FrameStep.{FrameStep}

@@ -1,19 +1,17 @@
 //! Worlds of bytes: nodes to which events led from the start of a configuration, however the bytes between them were cut.
 
 ghost use Rattle.pg_world.specs.Crossings.{crossing_of as seen_as};
-ghost use Rattle.pg_account.specs.Histories.{account_of as kept_by};
-ghost use Rattle.pg_account.specs.Losses.{lost_in};
+ghost use Rattle.pg_frame_world.specs.PgAccount.Histories.{account_of as kept_by};
+ghost use Rattle.pg_frame_world.specs.PgAccount.Losses.{lost_in};
 ghost use Rattle.pg_world.specs.BytesPast.{BytesHavePast};
 
 use crate::bytes::ByteNodes;
 use crate::step::Step;
-use pg_account::Entry;
-use pg_config::{Config, WorldFault};
-use pg_frame_world::{Stepped, pending_ends_are_listed};
-use pg_group::GroupTable;
-use pg_index::IndexTable;
+use pg_frame_world::{
+    Config, Entry, GroupTable, IndexTable, Stepped, WorldFault, each_world_past_losses,
+    pending_ends_are_listed,
+};
 use pg_node::{Node, NodeFault};
-use pg_retries::each_world_past_losses;
 use pg_term::{Pid, Term};
 use std::alloc::{AllocError, Global};
 use std::snapshot::Snapshot;
@@ -29,8 +27,8 @@ pub struct World<T: GroupTable> {
 
 impl World<IndexTable> {
     ghost use Rattle.std.specs.Prelude.{◌≡◌, [], true, IfOk, IfErr};
-    ghost use Rattle.pg_ring.specs.Capacity.{IsCapacity};
-    ghost use Rattle.pg_step.specs.Config.{IsConfig};
+    ghost use Rattle.pg_frame_world.specs.PgRing.Capacity.{IsCapacity};
+    ghost use Rattle.pg_frame_world.specs.PgStep.Config.{IsConfig};
     ghost use Rattle.pg_world.specs.BytesStart.{BytesBegin, OpensBytes};
     ghost use Rattle.pg_world.specs.ByteWorlds.{account_of, crossing_of, given_of, lost_of, room_of};
     ghost use Rattle.pg_frame_world.specs.Openings.{AllFit, CantBegin, have_few};
@@ -66,21 +64,21 @@ impl<T: GroupTable + Drop> World<T> {
     ghost use Rattle.std.specs.Prelude.{IfOk, IfSome, ℕ, length, map, option_map, slice_get};
     ghost use Rattle.std.specs.Option.{option_copied};
     ghost use Rattle.pg_term.specs.declared.term.Term.{Term};
-    ghost use Rattle.pg_machine.specs.Clocked.{plain};
-    ghost use Rattle.pg_history.specs.History.{LockFree};
-    ghost use Rattle.pg_step.specs.Config.{Config as Configuration};
-    ghost use Rattle.pg_step.specs.LossLaws.{LosingFrameWorld};
+    ghost use Rattle.pg_frame_world.specs.PgMachine.Clocked.{plain};
+    ghost use Rattle.pg_frame_world.specs.PgHistory.History.{LockFree};
+    ghost use Rattle.pg_frame_world.specs.PgStep.Config.{Config as Configuration};
+    ghost use Rattle.pg_frame_world.specs.PgStep.LossLaws.{LosingFrameWorld};
     ghost use Rattle.pg_world.specs.Bars.{RefusesBarred, StepTellsUndrained, bar_of, bytes_formed_after, bytes_lost_after};
     ghost use Rattle.pg_world.specs.BytesLosing.{ShowsLosingBytes, StepLeaves};
     ghost use Rattle.pg_frame_world.specs.Losing.{IsReachedLosing};
     ghost use Rattle.pg_world.specs.ByteWorlds.{account_of, crossing_of, given_of, lost_of, room_of};
     ghost use Rattle.pg_node.specs.Nodes.{held_by, links_of};
-    ghost use Rattle.pg_node_state.specs.States.{names_of};
+    ghost use Rattle.pg_frame_world.specs.PgNodeState.States.{names_of};
     ghost use Rattle.pg_world.specs.Changes.{StepChanges};
     ghost use Rattle.pg_world.specs.Crossings.{node_of, ShowsCrossing, ShowsBytes, StepComesTo};
     ghost use Rattle.pg_frame_world.specs.Worlds.{IsReached};
-    ghost use Rattle.pg_account.specs.Histories.{as_entry, last_entries};
-    ghost use Rattle.pg_account.specs.Losses.{is_lost};
+    ghost use Rattle.pg_frame_world.specs.PgAccount.Histories.{as_entry, last_entries};
+    ghost use Rattle.pg_frame_world.specs.PgAccount.Losses.{is_lost};
     ghost use Rattle.pg_frame_world.specs.Past.{HistoriesGrow};
     ghost use Rattle.pg_frame_world.specs.Past.{missed_in};
     ghost use Rattle.pg_world.specs.BytesPast.{BytesFormedFirst, BytesGoOn, BytesMissed};

@@ -4,7 +4,7 @@ ghost use Rattle.std.specs.Prelude.{◌≡◌, ◌+◌, ◌^◌, ℕ, List, true
 ghost use Rattle.std.specs.Prelude.{Some, None, IfOk, length, option_map, slice_get};
 ghost use Rattle.std.specs.List.{All};
 ghost use Rattle.pg_node.specs.Nodes.{held_by};
-ghost use Rattle.pg_node_state.specs.States.{names_of};
+ghost use Rattle.pg_frame_world.specs.PgNodeState.States.{names_of};
 ghost use Rattle.pg_world.specs.declared.rings.Rings.{Rings};
 ghost use Rattle.pg_world.specs.Rooms.{HaveRoomFor};
 
@@ -16,18 +16,12 @@ mod runs;
 use crate::rings::{Rings, rings_between};
 use crate::step::Step;
 pub use begun::starting_nodes;
-use pg_account::{Histories, Losses};
-use pg_frame::{
+use pg_frame_world::{
+    Command, Effect, FrameStep, GroupTable, Histories, Losses, OpId, Packet, Refusal, Stepped,
     front_is_first_of_cut, front_is_first_packet, loss_cuts_packets, moving_keeps_packets,
-    sending_adds_packets,
+    no_packet_is_refused, nobody_is_harmed, peer_place, sending_adds_packets,
 };
-use pg_frame_world::{Effect, FrameStep, Stepped, peer_place};
-use pg_group::GroupTable;
-use pg_history::nobody_is_harmed;
-use pg_loss::no_packet_is_refused;
-use pg_message::Packet;
 use pg_node::{Held, Node, NodeFault};
-use pg_step::{Command, OpId, Refusal};
 pub use runs::run;
 use std::alloc::{AllocError, Global};
 
@@ -50,26 +44,26 @@ pub(crate) struct ByteNodes<T: GroupTable> {
 impl<T: GroupTable + Drop> ByteNodes<T> {
     ghost use Rattle.std.specs.Option.{option_copied};
     ghost use Rattle.pg_node.specs.Nodes.{links_of};
-    ghost use Rattle.pg_ring.specs.Capacity.{IsCapacity};
-    ghost use Rattle.pg_machine.specs.Places.{is_pair};
-    ghost use Rattle.pg_machine.specs.Machine.{Take, Do};
-    ghost use Rattle.pg_step.specs.Config.{Config, name_at};
-    ghost use Rattle.pg_step.specs.Step.{Issue, Retry};
-    ghost use Rattle.pg_message.specs.Members.{IsShort};
+    ghost use Rattle.pg_frame_world.specs.PgRing.Capacity.{IsCapacity};
+    ghost use Rattle.pg_frame_world.specs.PgMachine.Places.{is_pair};
+    ghost use Rattle.pg_frame_world.specs.PgMachine.Machine.{Take, Do};
+    ghost use Rattle.pg_frame_world.specs.PgStep.Config.{Config, name_at};
+    ghost use Rattle.pg_frame_world.specs.PgStep.Step.{Issue, Retry};
+    ghost use Rattle.pg_frame_world.specs.PgMessage.Members.{IsShort};
     ghost use Rattle.pg_node.specs.Bytes.{next_packet};
-    ghost use Rattle.pg_account.specs.Histories.{AreInRows, account_of};
-    ghost use Rattle.pg_step.specs.LossLaws.{LosingFrameWorld};
+    ghost use Rattle.pg_frame_world.specs.PgAccount.Histories.{AreInRows, account_of};
+    ghost use Rattle.pg_frame_world.specs.PgStep.LossLaws.{LosingFrameWorld};
     ghost use Rattle.pg_world.specs.BytesLosing.{ShowsLosingBytes, MoveLeaves, EventLeaves, StepLeaves};
     ghost use Rattle.pg_frame_world.specs.Losing.{IsReachedLosing};
-    ghost use Rattle.pg_account.specs.Losses.{lost_in, is_lost};
+    ghost use Rattle.pg_frame_world.specs.PgAccount.Losses.{lost_in, is_lost};
     ghost use Rattle.pg_frame_world.specs.Losing.{SeenAreLost, formed_after, lost_after};
     ghost use Rattle.pg_world.specs.Bars.{RefusesBarred, StepTellsUndrained, TellsUndrained, put_bar};
     ghost use Rattle.pg_world.specs.Bars.{pull_bar, event_bar, bar_of, bytes_formed_after, bytes_lost_after};
     ghost use Rattle.pg_frame_world.specs.Worlds.{has_port, has_places, TimedFrameWorld};
-    ghost use Rattle.pg_account.specs.Histories.{no_account};
+    ghost use Rattle.pg_frame_world.specs.PgAccount.Histories.{no_account};
     ghost use Rattle.pg_world.specs.Changes.{Moves, put_count, pull_count, MoveChanges};
     ghost use Rattle.pg_world.specs.Changes.{EventChanges, FrameChanges, StepChanges};
-    ghost use Rattle.pg_frame.specs.Pieces.{ring_put, pull};
+    ghost use Rattle.pg_frame_world.specs.PgFrame.Pieces.{ring_put, pull};
     ghost use Rattle.pg_world.specs.Crossings.{crossing_of, node_of, room_of, idle_crossing, link_at};
     ghost use Rattle.pg_world.specs.Crossings.{bytes_at, IsWelcome, ShowsPast, ShowsBytes};
     ghost use Rattle.pg_world.specs.Crossings.{ShowsBytesPast, EventComesTo, FrameComesTo, StepComesTo};

@@ -12,10 +12,20 @@ mod step;
 
 pub use byte_world::World;
 pub use bytes::{run, starting_nodes};
-pub use pg_account::Entry;
-pub use pg_config::{Config, MAX_NODES, MAX_PORTS, WorldFault, configs_are_decided};
 pub use pg_frame_world::{
-    Effect, FrameStep, FrameWorld, Stepped, long_groups_do_not_fit, orders_keep_tables,
-    pending_ends_are_listed, refusals_are_exact, run_frames,
+    Answer, Command, Config, Deframer, Effect, Entry, FrameFault, FrameStep, FrameWorld,
+    GroupTable, IndexTable, MAX_NODES, MAX_PORTS, Message, MessageFault, OpId, Packet, RefFault,
+    RefSource, Refusal, Reply, Request, Said, Scope, Start, Stepped, Update, WorldFault,
+    configs_are_decided, decode, each_world_past_losses, encode, encode_into,
+    ended_processes_were_finished, ended_processes_were_finished_past_losses,
+    first_packets_were_welcome, frame_into, long_groups_do_not_fit, losing_nodes_keep_time,
+    no_loss_is_seen, nodes_keep_time, nodes_that_heard_the_lost_agree, one_history,
+    orders_keep_tables, packet_len, pending_ends_are_listed, pieces_continue, refusals_are_exact,
+    run_frames, same_group, same_groups, which_groups, write_frame, write_packet_into,
+    written_is_read,
+};
+pub use pg_node::{
+    AnyReader, AnyWriter, Done, Framed, Node, NodeConfig, NodeFault, NodeState, Outgoing,
+    ServeFault, Sink, Source, read_packet, serve,
 };
 pub use step::Step;

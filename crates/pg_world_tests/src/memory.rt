@@ -7,10 +7,8 @@ use crate::examples::{
     NEW_GREATEST, TWO_CREATORS,
 };
 use crate::schedules::{are_same_worlds, holds, schedule_of};
-use pg_lines::print_answer;
-use pg_node::NodeFault;
+use pg_script::{Config, NodeFault, Step, print_answer};
 use pg_slow_reading::{World, state_of};
-use pg_world::{Config, Step};
 use std::alloc::{AllocError, Global};
 use std::process::Abort;
 

@@ -5,9 +5,9 @@ use crate::examples::{
     JOIN_TWICE_LEAVE_ONCE, LOSS_DROPS_MEMBERS, LOSS_LEAVES_OUT, TWO_CREATORS,
 };
 use crate::schedules::{Schedule, first_pids, holds, scene_of, schedule_of};
+use pg_script::{Step, run};
 use pg_slow_reading::are_answered;
 use pg_term::Pid;
-use pg_world::{Step, run};
 use std::alloc::Global;
 use std::process::Abort;
 

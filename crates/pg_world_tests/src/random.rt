@@ -3,12 +3,12 @@
 use crate::schedules::{
     Schedule, are_same, are_same_worlds, first_pids, holds, scene_of, schedule_of,
 };
-use pg_node::NodeFault;
 use pg_random::Random;
+use pg_script::{
+    Command, Config, Effect, FrameStep, NodeFault, OpId, Step, Stepped, run, run_frames,
+};
 use pg_slow_reading::{GROUPS, Scene, World, are_answered, len_of, state_of};
-use pg_step::{Command, OpId};
 use pg_term::{Pid, Term};
-use pg_world::{Config, Effect, FrameStep, Step, Stepped, run, run_frames};
 use std::alloc::Global;
 use std::process::Abort;
 

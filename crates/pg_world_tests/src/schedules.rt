@@ -1,10 +1,8 @@
 //! Schedules: how the nodes of a world start, and steps.
 
-use pg_script::{Act, Script, ScriptLine, read_script};
+use pg_script::{Act, Config, FrameStep, Script, ScriptLine, Start, Step, read_script};
 use pg_slow_reading::{Scene, State, World, state_of};
-use pg_step::Start;
 use pg_term::Pid;
-use pg_world::{Config, FrameStep, Step};
 use std::alloc::{AllocError, Global};
 use std::process::Abort;
 

@@ -4,7 +4,7 @@ use Rattle.std.specs.Prelude.{nat_lt, nat_le}
 use Rattle.std.proofs.lemmas.Bool.{lt-ltb, le-ltb, le-leb, lt-leb}
 use Rattle.pg_term.specs.declared.fault.TermFault.TheVariants as terms
 use Rattle.pg_term.specs.declared.term.Term.TheVariants.{Int}
-use Rattle.pg_term_io.specs.Writing.{item_bytes, written}
+use Rattle.pg_message.specs.PgTermIo.Writing.{item_bytes, written}
 use Rattle.pg_message.specs.declared.fault.MessageFault.{MessageFault}
 use Rattle.pg_message.specs.declared.fault.MessageFault.TheVariants as faults
 use Rattle.pg_message.specs.declared.packet.Packet.{Packet}

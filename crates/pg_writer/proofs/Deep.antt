@@ -9,8 +9,8 @@ use Rattle.pg_term.specs.declared.term.Term.{Term, Tuple, List as Listed, the_le
 use Rattle.pg_term.specs.declared.term.Term.TheVariants.{Int, Atom, Ref, Pid as Process}
 use Rattle.pg_term.specs.Depth.{depth, greatest_depth}
 use Rattle.pg_term.specs.RefParts.{RefParts}
-use Rattle.pg_term_io.specs.Writing.{written}
-use Rattle.pg_group.specs.declared.update.Update.TheVariants.{Create, Delete, Join, Leave}
+use Rattle.pg_message.specs.PgTermIo.Writing.{written}
+use Rattle.pg_message.specs.PgGroup.declared.update.Update.TheVariants.{Create, Delete, Join, Leave}
 use Rattle.pg_message.specs.declared.message.Message.{Message}
 use Rattle.pg_message.specs.declared.message.Message.TheVariants.{Call, Reply, DelLock, Exchange, Down}
 use Rattle.pg_message.specs.declared.message.Request.TheVariants.{SetLock, Change}

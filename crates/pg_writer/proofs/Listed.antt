@@ -6,9 +6,9 @@ use Rattle.std.specs.Prelude.{◌&&◌}
 use Rattle.std.proofs.Math.ListN.{length-map}
 use Rattle.std.proofs.lemmas.List.{get_or-map, take_all, take_more}
 use Rattle.pg_term.specs.declared.term.Term.{Term, List as Listed}
-use Rattle.pg_term_io.specs.Writing.{item_bytes, all_bytes, list_head, IsSpelled, AreSpelled}
-use Rattle.pg_term_io.proofs.Written.{list_is, bytes_more, len_more, part_fits}
-use Rattle.pg_term_io.proofs.Spelled.{spelled_more}
+use Rattle.pg_message.specs.PgTermIo.Writing.{item_bytes, all_bytes, list_head, IsSpelled, AreSpelled}
+use Rattle.pg_message.proofs.PgTermIo.Written.{list_is, bytes_more, len_more, part_fits}
+use Rattle.pg_message.proofs.PgTermIo.Spelled.{spelled_more}
 
 module _ {A : Type 0} (f : A → Term) (xs : List A) where
   -- all of them

@@ -6,10 +6,10 @@ use Rattle.std.proofs.lemmas.List.{append-nil}
 use Rattle.bytes.specs.Filled.{Filled}
 use Rattle.pg_term.specs.declared.term.Term.TheVariants.{Ref}
 use Rattle.pg_term.specs.RefParts.{RefParts}
-use Rattle.pg_term_io.specs.Spelling.{IsAtom}
-use Rattle.pg_term_io.specs.Writing.{item_bytes, atom_bytes, reference_bytes}
-use Rattle.pg_term_io.proofs.Spelled.{reference_spelled}
-use Rattle.pg_term_io.proofs.WrittenWords.{reference_len}
+use Rattle.pg_message.specs.PgTermIo.Spelling.{IsAtom}
+use Rattle.pg_message.specs.PgTermIo.Writing.{item_bytes, atom_bytes, reference_bytes}
+use Rattle.pg_message.proofs.PgTermIo.Spelled.{reference_spelled}
+use Rattle.pg_message.proofs.PgTermIo.WrittenWords.{reference_len}
 use Rattle.pg_writer.specs.Puts.{Puts}
 use Rattle.pg_writer.proofs.Put.{leaf}
 use Rattle.pg_writer.proofs.Words.{reference_is}

@@ -10,11 +10,11 @@ use Rattle.std.proofs.lemmas.List.{append-nil}
 use Rattle.bytes.specs.Filled.{Filled}
 use Rattle.pg_term.specs.declared.term.Term.{Term, Tuple, List as Listed}
 use Rattle.pg_term.specs.declared.term.Term.TheVariants.{Int, Atom}
-use Rattle.pg_term_io.specs.Spelling as s
-use Rattle.pg_term_io.specs.Writing.{int_bytes, tuple_head, list_head, item_bytes, all_bytes, written, IsSpelled}
-use Rattle.pg_term_io.proofs.Spelled.{atom_spelled, name_spelled, tuple_spelled, list_spelled, none_spelled}
-use Rattle.pg_term_io.proofs.Latin.{latin_chars}
-use Rattle.pg_term_io.proofs.Written.{tuple_is, list_is, count_le}
+use Rattle.pg_message.specs.PgTermIo.Spelling as s
+use Rattle.pg_message.specs.PgTermIo.Writing.{int_bytes, tuple_head, list_head, item_bytes, all_bytes, written, IsSpelled}
+use Rattle.pg_message.proofs.PgTermIo.Spelled.{atom_spelled, name_spelled, tuple_spelled, list_spelled, none_spelled}
+use Rattle.pg_message.proofs.PgTermIo.Latin.{latin_chars}
+use Rattle.pg_message.proofs.PgTermIo.Written.{tuple_is, list_is, count_le}
 use Rattle.pg_message.specs.Writing.{pair, is_plain}
 use Rattle.pg_message.proofs.Words.{plain_text}
 use Rattle.pg_writer.specs.Puts.{Puts, PutsAll, PutsOpening}

@@ -5,9 +5,9 @@ use Rattle.std.specs.Result.{is_ok}
 use Rattle.pg_term.specs.declared.fault.TermFault.TheVariants.{Truncated, BadVersion, UnknownTag, TooDeep}
 use Rattle.pg_term.specs.declared.fault.TermFault.TheVariants.{IntegerTooLarge, BadAtom, ImproperList}
 use Rattle.pg_term.specs.declared.fault.TermFault.TheVariants.{BadReference, TrailingBytes, OutOfMemory, TooLong}
-use Rattle.pg_term_io.specs.Writing.{written, IsSpelled}
-use Rattle.pg_term_io.proofs.Again.{term_again}
-use Rattle.pg_term_io.proofs.Spelled.{written_spelled}
+use Rattle.pg_message.specs.PgTermIo.Writing.{written, IsSpelled}
+use Rattle.pg_message.proofs.PgTermIo.Again.{term_again}
+use Rattle.pg_message.proofs.PgTermIo.Spelled.{written_spelled}
 use Rattle.pg_message.specs.declared.fault.MessageFault.{MessageFault}
 use Rattle.pg_message.specs.declared.fault.MessageFault.TheVariants.{Term, NotAMessage, StampTooLarge, NameTooLarge}
 use Rattle.pg_message.specs.declared.packet.Packet.{Packet}

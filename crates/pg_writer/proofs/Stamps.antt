@@ -5,7 +5,7 @@ use Rattle.std.specs.Prelude.{pos, nat_lt}
 use Rattle.std.specs.Int.{w32, w64, to_be_bytes}
 use Rattle.std.proofs.lemmas.Int.{to_z_pos}
 use Rattle.std.proofs.lemmas.Bool.{lt-ltb}
-use Rattle.pg_term_io.specs.Writing.{int_bytes, big_bytes}
+use Rattle.pg_message.specs.PgTermIo.Writing.{int_bytes, big_bytes}
 use mir.Val.{to_z, of_z}
 
 pub stamp_is : (stamp : ℕ) (z : ℤ) → stamp < 2 ^ 32 → z ≡ pos stamp → to_z w64 (of_z w64 z) ≡ pos stamp

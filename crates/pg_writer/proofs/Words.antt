@@ -7,10 +7,10 @@ use Rattle.pg_term.specs.declared.pid.Pid.{Pid}
 use Rattle.pg_term.specs.RefParts.{RefParts}
 use Rattle.pg_term.specs.declared.term.Term.{Term, Tuple, List as Listed, the_lemmas}
 use Rattle.pg_term.specs.declared.term.Term.TheVariants.{Int, Atom, Ref, Pid as Process}
-use Rattle.pg_term_io.specs.Writing.{list_head, item_bytes, int_bytes, atom_bytes}
-use Rattle.pg_term_io.specs.Writing.{pid_bytes, reference_bytes, tagged_text}
+use Rattle.pg_message.specs.PgTermIo.Writing.{list_head, item_bytes, int_bytes, atom_bytes}
+use Rattle.pg_message.specs.PgTermIo.Writing.{pid_bytes, reference_bytes, tagged_text}
 use Rattle.std.proofs.lemmas.List.{append-nil}
-use Rattle.pg_term_io.proofs.Written.{list_is}
+use Rattle.pg_message.proofs.PgTermIo.Written.{list_is}
 use Rattle.pg_message.specs.Writing.{pair, triple, is_plain}
 use Rattle.pg_message.proofs.Words.{plain_text}
 

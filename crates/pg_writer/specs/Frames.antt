@@ -2,7 +2,7 @@
 use Rattle.std.specs.Prelude.{◌≡◌, ℕ, ◌+◌, ◌≤◌, List, ◌++◌, length, true, false}
 use Rattle.std.specs.Prelude.{Result, Ok, Err, IsOk, OnOk, OnErr, MatchResult}
 use Rattle.bytes.specs.Filled.{Filled}
-use Rattle.pg_term_io.specs.Writing.{written}
+use Rattle.pg_message.specs.PgTermIo.Writing.{written}
 use Rattle.pg_message.specs.declared.fault.MessageFault.{MessageFault}
 use Rattle.pg_message.specs.declared.packet.Packet.{Packet}
 use Rattle.pg_message.specs.declared.packet.TheConstants.{MAX_STAMP}

@@ -3,7 +3,7 @@ use Rattle.std.specs.Prelude.{◌≡◌, ℕ, ◌+◌, List, [], ◌∷◌, ◌+
 use Rattle.bytes.specs.Filled.{Filled}
 use Rattle.pg_term.specs.declared.term.Term.{Term}
 use Rattle.pg_term.specs.declared.term.Term.TheVariants.{Atom}
-use Rattle.pg_term_io.specs.Writing.{item_bytes, all_bytes, IsSpelled, AreSpelled}
+use Rattle.pg_message.specs.PgTermIo.Writing.{item_bytes, all_bytes, IsSpelled, AreSpelled}
 
 -- the bytes of a term, which spell it, are appended in room that was there
 pub record Puts (old new : Filled) (t : Term) : Type 0 where

@@ -2,7 +2,7 @@
 
 ghost use Rattle.std.specs.Prelude.{◌≡◌, ◌+◌, ◌≤◌, ◌++◌, length, true, false, Ok};
 ghost use Rattle.std.specs.Prelude.{Err, IfOk, IsOk, OnOk, OnErr, MatchResult};
-ghost use Rattle.pg_term_io.specs.Writing.{written, IsSpelled};
+ghost use Rattle.pg_message.specs.PgTermIo.Writing.{written, IsSpelled};
 ghost use Rattle.pg_message.specs.Fault.{Gives};
 ghost use Rattle.pg_message.specs.declared.fault.MessageFault.{MessageFault};
 ghost use Rattle.pg_message.specs.declared.packet.TheConstants.{MAX_STAMP};
@@ -15,8 +15,7 @@ use crate::parts::put_body;
 use crate::size::{MAX_SMALL_LEN, told_len};
 use crate::told::Told;
 use bytes::BytesMut;
-use pg_message::{MessageFault, Packet};
-use pg_term_io::MAX_LEN;
+use pg_message::{MAX_LEN, MessageFault, Packet};
 use std::alloc::Global;
 
 /// Appends a packet as one whole frame: four bytes of length, the highest first, and the body.

@@ -3,7 +3,7 @@
 ghost use Rattle.std.specs.Prelude.{◌≡◌, ◌+◌, ◌≤◌, ◌∷◌, ◌++◌, [], pos, codes, map, length, true};
 ghost use Rattle.pg_term.specs.declared.term.Term.{List};
 ghost use Rattle.pg_term.specs.declared.term.Term.TheVariants as terms;
-ghost use Rattle.pg_term_io.specs.Writing.{item_bytes, all_bytes, written, IsSpelled};
+ghost use Rattle.pg_message.specs.PgTermIo.Writing.{item_bytes, all_bytes, written, IsSpelled};
 ghost use Rattle.pg_message.specs.declared.message.Message.TheVariants as messages;
 ghost use Rattle.pg_message.specs.Writing.{pair, triple, update_term, request_term, said_term};
 ghost use Rattle.pg_message.specs.Writing.{group_term, message_term, term_of_packet, is_plain};
@@ -12,11 +12,10 @@ ghost use Rattle.pg_writer.specs.Told.{reference_lent, asked_for, message_told, 
 
 use crate::told::{Asked, Mark, Told};
 use bytes::BytesMut;
-use pg_group::Update;
-use pg_message::Said;
+use pg_message::{
+    MAX_LEN, Said, Update, put_atom, put_int, put_item, put_list_head, put_pid, put_reference,
+};
 use pg_term::{Atom, Items, Pid, Reference, Term};
-use pg_term_io::MAX_LEN;
-use pg_term_writer::{put_atom, put_int, put_item, put_list_head, put_pid, put_reference};
 
 /// Appends the body of a packet.
 #[tactic(auto, using(crate::proofs::Words::pair_len))]

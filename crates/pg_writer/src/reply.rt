@@ -1,7 +1,7 @@
 //! The packet that answers a call, of parts that are only lent.
 
 ghost use Rattle.std.specs.Prelude.{◌≡◌, ◌≤◌, ◌+◌, ◌++◌, length, Ok, IsOk, OnOk, OnErr};
-ghost use Rattle.pg_term_io.specs.Writing.{written};
+ghost use Rattle.pg_message.specs.PgTermIo.Writing.{written};
 ghost use Rattle.pg_message.specs.declared.message.Message.TheVariants as messages;
 ghost use Rattle.pg_message.specs.Reading.{packet_spelled};
 ghost use Rattle.pg_message.specs.Writing.{term_of_packet, framed};

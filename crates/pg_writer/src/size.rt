@@ -5,8 +5,8 @@ ghost use Rattle.std.specs.Prelude.{min, IfOk, IsOk, IfSome, IfNone, true, false
 ghost use Rattle.std.specs.List.{list_all};
 ghost use Rattle.pg_term.specs.declared.term.Term.{List};
 ghost use Rattle.pg_term.specs.declared.term.Term.TheVariants as terms;
-ghost use Rattle.pg_term_io.specs.Writing.{item_bytes, all_bytes};
-ghost use Rattle.pg_group.specs.Value.{name_of};
+ghost use Rattle.pg_message.specs.PgTermIo.Writing.{item_bytes, all_bytes};
+ghost use Rattle.pg_message.specs.PgGroup.Value.{name_of};
 ghost use Rattle.pg_message.specs.declared.message.Message.TheVariants as messages;
 ghost use Rattle.pg_message.specs.Name.{is_name};
 ghost use Rattle.pg_message.specs.Writing.{pair, triple, update_term, said_term, group_term, message_term};
@@ -14,11 +14,11 @@ ghost use Rattle.pg_message.specs.Writing.{is_plain, is_exchange, is_sayable, bo
 ghost use Rattle.pg_writer.specs.Told.{reference_lent, asked_for, message_told, packet_told};
 
 use crate::told::{Asked, Mark, Told};
-use pg_group::Update;
-use pg_message::{MAX_STAMP, MessageFault, Packet, Said, are_named_once, name_len};
+use pg_message::{
+    MAX_LEN, MAX_STAMP, MessageFault, Packet, Said, Update, are_named_once, atom_len, int_len,
+    list_head_len, name_len, pid_len, reference_len,
+};
 use pg_term::{Atom, Items, Pid, Term, TermFault};
-use pg_term_io::MAX_LEN;
-use pg_term_writer::{atom_len, int_len, list_head_len, pid_len, reference_len};
 
 /// How many bytes a body takes at most, if it is no exchange.
 pub const MAX_SMALL_LEN: usize = 3126;

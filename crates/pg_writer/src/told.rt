@@ -3,8 +3,7 @@
 ghost use Rattle.std.specs.Prelude.{◌≡◌};
 ghost use Rattle.pg_writer.specs.Told.{asked_for, message_told};
 
-use pg_group::Update;
-use pg_message::{Message, Request, Said};
+use pg_message::{Message, Request, Said, Update};
 use pg_term::{Atom, Items, Pid, Reference, Term};
 
 /// The reference of a call, lent: as it is, or by its parts, with no need to build it.

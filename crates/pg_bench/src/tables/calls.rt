@@ -1,10 +1,10 @@
 //! Calls of a table, many times.
 
 ghost use Rattle.std.specs.Prelude.{IsTrue};
-ghost use Rattle.pg_group.specs.Table.{HasRoom};
+ghost use Rattle.pg_message.specs.PgGroup.Table.{HasRoom};
 
 use pg_figures::{Watch, report_each};
-use pg_group::{Ended, GroupTable, Scope, Update};
+use pg_message::{Ended, GroupTable, Scope, Update};
 use pg_query::{closest, members};
 use pg_random::Random;
 use pg_term::{Atom, Pid, Term};

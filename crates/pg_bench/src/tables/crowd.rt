@@ -1,7 +1,7 @@
 //! Names of nodes, and pids of them.
 
 use pg_figures::Change;
-use pg_group::Update;
+use pg_message::Update;
 use pg_random::Random;
 use pg_term::{Atom, Pid, Term, TermFault};
 use std::alloc::{AllocError, Global};

@@ -1,8 +1,6 @@
 //! A cluster with its clients.
 
-use pg_cluster::OpenGate;
-use pg_step::{Answer, Command};
-use pg_world::Config;
+use pg_cluster::{Answer, Command, Config, OpenGate};
 use std::alloc::Global;
 use std::thread::Threads;
 

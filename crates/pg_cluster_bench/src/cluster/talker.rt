@@ -2,8 +2,8 @@
 
 use crate::cluster::running::Running;
 use crate::commands::command;
+use pg_cluster::{Answer, Command, Reply};
 use pg_figures::{Change, Groups};
-use pg_step::{Answer, Command, Reply};
 use pg_term::{Pid, Term};
 use std::alloc::AllocError;
 use std::time::{Clock, Duration, Instant};

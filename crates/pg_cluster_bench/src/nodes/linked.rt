@@ -3,12 +3,10 @@
 use crate::nodes::Player;
 use crate::nodes::made::{answered, new_state};
 use bytes::BytesMut;
-use pg_index::IndexTable;
-use pg_message::Packet;
-use pg_node::{Done, Framed, Node, NodeFault};
-use pg_ring::{Inlet, Link, MemRing, RingFault};
-use pg_step::Command;
-use pg_writer::write_packet_into;
+use pg_cluster::{
+    Command, Done, Framed, IndexTable, Inlet, Link, MemRing, Node, NodeFault, Packet, RingFault,
+    write_packet_into,
+};
 use std::alloc::{AllocError, Global};
 
 // How many bytes a ring has room for, and how many move at once.

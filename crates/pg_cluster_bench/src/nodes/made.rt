@@ -3,8 +3,7 @@
 ghost use Rattle.std.specs.Prelude.{◌≡◌, IsTrue, false};
 ghost use Rattle.pg_term.specs.Same.{same_atom};
 
-use pg_index::IndexTable;
-use pg_node::{NodeConfig, NodeState};
+use pg_cluster::{IndexTable, NodeConfig, NodeState};
 use pg_term::{Atom, TermFault};
 use std::alloc::{AllocError, Global};
 

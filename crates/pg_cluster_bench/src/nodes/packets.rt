@@ -1,14 +1,11 @@
 //! A node over packets.
 
 ghost use Rattle.std.specs.Prelude.{◌^◌, IsTrue};
-ghost use Rattle.pg_message.specs.Members.{IsShort};
+ghost use Rattle.pg_cluster.specs.PgMessage.Members.{IsShort};
 
 use crate::nodes::Player;
 use crate::nodes::made::{answered, new_state};
-use pg_index::IndexTable;
-use pg_message::{Message, Packet};
-use pg_node::NodeState;
-use pg_step::Command;
+use pg_cluster::{Command, IndexTable, Message, NodeState, Packet};
 use std::alloc::Global;
 
 /// The node.

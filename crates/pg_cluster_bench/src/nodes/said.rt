@@ -1,8 +1,7 @@
 //! What the peers say.
 
+use pg_cluster::{Message, Packet, RefFault, RefSource, Request, Said};
 use pg_figures::{Change, Groups, pid, reference};
-use pg_message::{Message, Packet, Request, Said};
-use pg_refs::{RefFault, RefSource};
 use pg_term::{Atom, Items, TermFault};
 use std::alloc::Global;
 

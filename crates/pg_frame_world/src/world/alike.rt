@@ -4,8 +4,7 @@ ghost use Rattle.std.specs.Prelude.{◌≡◌, ◌↔◌, IsTrue, IfOk, map};
 
 use crate::ways::Ways;
 use crate::world::FrameNodes;
-use pg_group::GroupTable;
-use pg_node_state::NodeState;
+use pg_node_state::{GroupTable, NodeState};
 use std::alloc::AllocError;
 
 impl<T: GroupTable + Drop> FrameNodes<T> {

@@ -4,7 +4,7 @@ ghost use Rattle.std.specs.Prelude.{◌≡◌, IfOk, map};
 
 use crate::ways::Ways;
 use crate::world::FrameNodes;
-use pg_group::GroupTable;
+use pg_node_state::GroupTable;
 use std::alloc::{AllocError, Global};
 
 impl<T: GroupTable + Drop> FrameNodes<T> {

@@ -8,17 +8,15 @@ use crate::effect::Effect;
 use crate::step::{FrameStep, Stepped};
 use crate::world::{FrameNodes, peer_place};
 use pg_account::Entry;
-use pg_group::GroupTable;
-use pg_node_state::{Done, NodeFault};
-use pg_step::Refusal;
+use pg_node_state::{Done, GroupTable, NodeFault, Refusal};
 use pg_term::Term;
 use std::alloc::AllocError;
 
 impl<T: GroupTable + Drop> FrameNodes<T> {
-    ghost use Rattle.pg_machine.specs.Places.{is_pair};
-    ghost use Rattle.pg_step.specs.Config.{Config};
-    ghost use Rattle.pg_step.specs.LossLaws.{LosingFrameWorld};
-    ghost use Rattle.pg_step.specs.declared.refusal.Refusal.TheVariants.{NotLost};
+    ghost use Rattle.pg_node_state.specs.PgMachine.Places.{is_pair};
+    ghost use Rattle.pg_node_state.specs.PgStep.Config.{Config};
+    ghost use Rattle.pg_node_state.specs.PgStep.LossLaws.{LosingFrameWorld};
+    ghost use Rattle.pg_node_state.specs.PgStep.declared.refusal.Refusal.TheVariants.{NotLost};
     ghost use Rattle.pg_node_state.specs.declared.state.fault.NodeFault.TheVariants.{Refused};
     ghost use Rattle.pg_account.specs.Losses.{is_lost};
     ghost use Rattle.pg_frame_world.specs.Losing.{lost_of, lost_with, seen_at, is_cut_off, is_barred, is_formed};

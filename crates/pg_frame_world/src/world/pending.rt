@@ -4,8 +4,7 @@ ghost use Rattle.std.specs.Prelude.{◌≡◌, IfOk};
 
 use crate::pending::pending_among;
 use crate::world::FrameNodes;
-use pg_group::GroupTable;
-use pg_node_state::NodeState;
+use pg_node_state::{GroupTable, NodeState};
 use pg_term::Pid;
 use std::alloc::AllocError;
 

@@ -3,18 +3,18 @@ use Rattle.std.proofs.Common.{◌≡◌, ℕ, Bool, true, false, cond, nat_le, n
 use Rattle.std.proofs.Common.{Option, Some, None, Ok, Err, refl, ap, sym, ◌∙◌, subst}
 use Rattle.pg_term.specs.declared.pid.Pid.{Pid}
 use Rattle.pg_term.specs.declared.term.Term.{Term}
-use Rattle.pg_group.specs.declared.update.Update.{Update}
-use Rattle.pg_group.specs.declared.update.Update.TheVariants as update
-use Rattle.pg_group.specs.Value.{Value, name_of}
-use Rattle.pg_group.proofs.Changes.{upd_at}
-use Rattle.pg_message.specs.declared.message.Message.{Message}
-use Rattle.pg_message.specs.declared.message.Message.TheVariants.{Down}
+use Rattle.pg_step.specs.PgGroup.declared.update.Update.{Update}
+use Rattle.pg_step.specs.PgGroup.declared.update.Update.TheVariants as update
+use Rattle.pg_step.specs.PgGroup.Value.{Value, name_of}
+use Rattle.pg_step.proofs.PgGroup.Changes.{upd_at}
+use Rattle.pg_step.specs.PgMessage.declared.message.Message.{Message}
+use Rattle.pg_step.specs.PgMessage.declared.message.Message.TheVariants.{Down}
 use Rattle.pg_step.specs.declared.command.Command.{Command}
 use Rattle.pg_step.specs.declared.command.Command.TheVariants as command
 use Rattle.pg_step.specs.declared.command.OpId.{OpId}
 use Rattle.pg_step.specs.declared.answer.Reply.{Reply}
 use Rattle.pg_step.specs.declared.answer.Reply.TheVariants as reply
-use Rattle.pg_machine.specs.Machine.{Input, Turn, Taken, Own}
+use Rattle.pg_step.specs.PgMachine.Machine.{Input, Turn, Taken, Own}
 use Rattle.pg_step.specs.Nodes.{Nodes, to_peers}
 use Rattle.pg_step.specs.State.{State, Stage, Response, live_nodes}
 use Rattle.pg_step.specs.State.Stage.{Waiting}

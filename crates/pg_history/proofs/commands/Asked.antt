@@ -1,15 +1,15 @@
 -- An update that a command waits with, asks a lock for or begins is one that was asked for as the command came in.
 use Rattle.std.proofs.Common.{◌≡◌, ℕ, ◌+◌, nat_eq, true, Option, Some, None, refl, ap, sym, ◌∙◌, subst}
 use Rattle.pg_term.specs.Same.{same_atom}
-use Rattle.pg_group.specs.declared.update.Update.{Update}
-use Rattle.pg_group.specs.Functions.{upd}
-use Rattle.pg_group.specs.Value.{name_of}
-use Rattle.pg_group.proofs.Changes.{upd_by}
-use Rattle.pg_message.specs.declared.message.Message.{Message}
-use Rattle.pg_message.specs.declared.message.Message.TheVariants.{Down}
+use Rattle.pg_step.specs.PgGroup.declared.update.Update.{Update}
+use Rattle.pg_step.specs.PgGroup.Functions.{upd}
+use Rattle.pg_step.specs.PgGroup.Value.{name_of}
+use Rattle.pg_step.proofs.PgGroup.Changes.{upd_by}
+use Rattle.pg_step.specs.PgMessage.declared.message.Message.{Message}
+use Rattle.pg_step.specs.PgMessage.declared.message.Message.TheVariants.{Down}
 use Rattle.pg_step.specs.declared.command.Command.{Command}
 use Rattle.pg_step.specs.declared.command.OpId.{OpId}
-use Rattle.pg_machine.specs.Machine.{Input, Turn, Taken, Own}
+use Rattle.pg_step.specs.PgMachine.Machine.{Input, Turn, Taken, Own}
 use Rattle.pg_step.specs.Nodes.{Node, Nodes, to_peers}
 use Rattle.pg_step.specs.State.{State, Status, Use, Stage, live_nodes}
 use Rattle.pg_step.specs.State.Status.{Unasked}
@@ -22,7 +22,7 @@ use Rattle.pg_step.specs.Commands.{next_op, change_of}
 use Rattle.pg_step.specs.Step.{Action, Issue}
 use Rattle.pg_step.specs.Config.{Config, name_at, nodes_at, ports_at}
 use Rattle.pg_step.specs.FrameMachine.{node_step}
-use Rattle.pg_machine.proofs.Options.{some_is}
+use Rattle.pg_step.proofs.PgMachine.Options.{some_is}
 use Rattle.pg_history.proofs.steps.Single.{Any, OfSingle, acted_so, taken_so}
 use Rattle.pg_history.proofs.steps.Made.{took_so, did_so}
 use Rattle.pg_history.proofs.references.Fitting.{op_is}

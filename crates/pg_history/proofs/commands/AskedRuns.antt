@@ -2,19 +2,19 @@
 use Rattle.std.proofs.Common.{◌≡◌, ℕ, List, [], ◌∷◌, ◌++◌, Option, Some, None, refl, ap, sym, ◌∙◌, subst}
 use Rattle.std.specs.List.{AllByRecursion}
 use Rattle.std.proofs.lemmas.List.{append_assoc, append-nil}
-use Rattle.pg_group.specs.declared.update.Update.{Update}
+use Rattle.pg_step.specs.PgGroup.declared.update.Update.{Update}
 use Rattle.pg_step.specs.declared.command.Command.{Command}
 use Rattle.pg_step.specs.declared.command.OpId.{OpId}
-use Rattle.pg_machine.specs.Machine.{Event, node_of, start_of}
-use Rattle.pg_machine.specs.Happened.{Happened}
-use Rattle.pg_machine.specs.Runs.{Leads}
-use Rattle.pg_machine.specs.Clocked.{plain}
+use Rattle.pg_step.specs.PgMachine.Machine.{Event, node_of, start_of}
+use Rattle.pg_step.specs.PgMachine.Happened.{Happened}
+use Rattle.pg_step.specs.PgMachine.Runs.{Leads}
+use Rattle.pg_step.specs.PgMachine.Clocked.{plain}
 use Rattle.pg_step.specs.Step.{CLOCK_LIMIT, Action}
 use Rattle.pg_step.specs.Config.{Config}
 use Rattle.pg_step.specs.FrameMachine.{machine_of, FrameWorld}
 use Rattle.pg_history.specs.History.{Entry, entry_of, entries, command_at}
-use Rattle.pg_machine.proofs.Steps.{changes, happened}
-use Rattle.pg_machine.proofs.Plain.{plain_from_start}
+use Rattle.pg_step.proofs.PgMachine.Steps.{changes, happened}
+use Rattle.pg_step.proofs.PgMachine.Plain.{plain_from_start}
 use Rattle.pg_history.specs.Reached.{TimedFrameWorld, Reaches}
 use Rattle.pg_history.proofs.steps.Ways.{all_both, all_behind, all_since, state_after}
 use Rattle.pg_history.proofs.steps.Grows.{entries_append}

@@ -5,16 +5,16 @@ use Rattle.std.proofs.Common.{◌++◌, Some, None, Ok, Err, refl, ap, sym, ◌�
 use Rattle.std.specs.Prelude.{slice_get}
 use Rattle.std.proofs.lemmas.Bool.{eq-eqb}
 use Rattle.std.proofs.lemmas.List.{length-append}
-use Rattle.pg_refs.specs.Numbered.{number_in}
-use Rattle.pg_group.specs.Functions.{upd}
-use Rattle.pg_message.specs.declared.message.Message.{Message}
-use Rattle.pg_message.specs.declared.message.Message.TheVariants.{Call, Reply, DelLock, Exchange, Down}
-use Rattle.pg_message.specs.declared.message.Request.TheVariants.{SetLock, Change}
-use Rattle.pg_message.specs.declared.message.Said.{Said}
+use Rattle.pg_step.specs.PgRefs.Numbered.{number_in}
+use Rattle.pg_step.specs.PgGroup.Functions.{upd}
+use Rattle.pg_step.specs.PgMessage.declared.message.Message.{Message}
+use Rattle.pg_step.specs.PgMessage.declared.message.Message.TheVariants.{Call, Reply, DelLock, Exchange, Down}
+use Rattle.pg_step.specs.PgMessage.declared.message.Request.TheVariants.{SetLock, Change}
+use Rattle.pg_step.specs.PgMessage.declared.message.Said.{Said}
 use Rattle.pg_step.specs.declared.command.Command.{Command}
 use Rattle.pg_step.specs.declared.command.OpId.{OpId}
-use Rattle.pg_machine.specs.Machine.{Input, Turn, Event, Taken, Own, Take, Do, node_of, first_from, input_of}
-use Rattle.pg_machine.specs.Happened.{Happened}
+use Rattle.pg_step.specs.PgMachine.Machine.{Input, Turn, Event, Taken, Own, Take, Do, node_of, first_from, input_of}
+use Rattle.pg_step.specs.PgMachine.Happened.{Happened}
 use Rattle.pg_step.specs.Nodes.{Node, Nodes}
 use Rattle.pg_step.specs.State.{State, Use, live_nodes}
 use Rattle.pg_step.specs.State.Use.{Fresh, Locking, Owning, Updating, Spent}
@@ -27,7 +27,7 @@ use Rattle.pg_step.specs.declared.refusal.Refusal.TheVariants.{NotAMessage, NoSu
 use Rattle.pg_step.specs.Config.{Config, name_at, nodes_at, ports_at}
 use Rattle.pg_step.specs.FrameMachine.{node_step, machine_of, FrameWorld}
 use Rattle.pg_history.specs.History.{issued, command_at}
-use Rattle.pg_machine.proofs.Options.{some_is}
+use Rattle.pg_step.proofs.PgMachine.Options.{some_is}
 use Rattle.pg_history.proofs.steps.Single.{Makes, ok_is, judged}
 use Rattle.pg_history.proofs.commands.Steady.{replies_in_steady, go_on_steady, command_by_steady, retry_steady}
 use Rattle.pg_history.proofs.references.Keys.{numbers, cases, differ, upd_same, upd_other}

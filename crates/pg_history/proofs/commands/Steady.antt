@@ -2,14 +2,14 @@
 use Rattle.std.proofs.Common.{◌≡◌, ℕ, Bool, true, false, cond, nat_le, Option}
 use Rattle.std.proofs.Common.{Some, None, Ok, Err, refl, ap, ◌∙◌, subst}
 use Rattle.pg_term.specs.Same.{same_atom}
-use Rattle.pg_group.specs.declared.update.Update.{Update}
-use Rattle.pg_group.specs.declared.update.Update.TheVariants as update
-use Rattle.pg_group.specs.Value.{name_of}
+use Rattle.pg_step.specs.PgGroup.declared.update.Update.{Update}
+use Rattle.pg_step.specs.PgGroup.declared.update.Update.TheVariants as update
+use Rattle.pg_step.specs.PgGroup.Value.{name_of}
 use Rattle.pg_step.specs.declared.command.Command.{Command}
 use Rattle.pg_step.specs.declared.command.Command.TheVariants as command
 use Rattle.pg_step.specs.declared.command.OpId.{OpId}
 use Rattle.pg_step.specs.declared.answer.Reply.{Reply}
-use Rattle.pg_lock.specs.Attempts.{after_round, does_wait}
+use Rattle.pg_step.specs.PgLock.Attempts.{after_round, does_wait}
 use Rattle.pg_step.specs.Nodes.{Nodes, every, greatest}
 use Rattle.pg_step.specs.State.{State, Use, Stage}
 use Rattle.pg_step.specs.State.Status.{Unasked}

@@ -9,7 +9,7 @@ use Rattle.std.proofs.lemmas.Bool.Decides.{Decides-ltb}
 use Rattle.std.proofs.lemmas.List.{length-map}
 use Rattle.std.proofs.lemmas.Map.Keys.{IsDistinct-head, IsDistinct-tail}
 use Rattle.pg_term.specs.Same.{same_atom}
-use Rattle.pg_machine.specs.Places.{is_place, is_pair}
+use Rattle.pg_step.specs.PgMachine.Places.{is_place, is_pair}
 use Rattle.pg_step.specs.Nodes.{Node}
 use Rattle.pg_step.specs.Config.{Config, names_of, name_at}
 use Rattle.pg_step.proofs.Once.{same_is, is_same, clash}

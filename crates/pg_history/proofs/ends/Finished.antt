@@ -6,20 +6,20 @@ use Rattle.std.proofs.lemmas.Bool.{eq-eqb}
 use Rattle.std.proofs.lemmas.List.{append_assoc, append-nil}
 use Rattle.pg_term.specs.declared.pid.Pid.{Pid}
 use Rattle.pg_term.specs.Same.{same_atom}
-use Rattle.pg_group.specs.declared.update.Update.{Update}
-use Rattle.pg_group.specs.declared.update.Update.TheVariants as update
-use Rattle.pg_group.specs.Value.{name_of}
-use Rattle.pg_group.proofs.Changes.{upd_at}
-use Rattle.pg_message.specs.declared.message.Message.{Message}
-use Rattle.pg_message.specs.declared.message.Message.TheVariants.{Call, Reply, DelLock, Exchange, Down}
-use Rattle.pg_machine.specs.Happened.{Happened}
-use Rattle.pg_machine.specs.Machine.{Input, Turn, Event, Taken, Own, Take, Do, node_of, start_of}
-use Rattle.pg_machine.specs.Places.{is_place}
-use Rattle.pg_machine.specs.Clocked.{plain}
-use Rattle.pg_machine.specs.Runs.{Leads}
-use Rattle.pg_machine.proofs.Options.{some_is}
-use Rattle.pg_machine.proofs.Plain.{plain_from_start}
-use Rattle.pg_machine.proofs.Steps.{pair_apart, happened}
+use Rattle.pg_step.specs.PgGroup.declared.update.Update.{Update}
+use Rattle.pg_step.specs.PgGroup.declared.update.Update.TheVariants as update
+use Rattle.pg_step.specs.PgGroup.Value.{name_of}
+use Rattle.pg_step.proofs.PgGroup.Changes.{upd_at}
+use Rattle.pg_step.specs.PgMessage.declared.message.Message.{Message}
+use Rattle.pg_step.specs.PgMessage.declared.message.Message.TheVariants.{Call, Reply, DelLock, Exchange, Down}
+use Rattle.pg_step.specs.PgMachine.Happened.{Happened}
+use Rattle.pg_step.specs.PgMachine.Machine.{Input, Turn, Event, Taken, Own, Take, Do, node_of, start_of}
+use Rattle.pg_step.specs.PgMachine.Places.{is_place}
+use Rattle.pg_step.specs.PgMachine.Clocked.{plain}
+use Rattle.pg_step.specs.PgMachine.Runs.{Leads}
+use Rattle.pg_step.proofs.PgMachine.Options.{some_is}
+use Rattle.pg_step.proofs.PgMachine.Plain.{plain_from_start}
+use Rattle.pg_step.proofs.PgMachine.Steps.{pair_apart, happened}
 use Rattle.pg_step.specs.Attempts.{attempt, same_op, tried_again, waits}
 use Rattle.pg_step.specs.Commands.{OPEN_LIMIT, answer, carried_out, change, change_by, command as command_in}
 use Rattle.pg_step.specs.Commands.{command_by, count_command, fault_of, look, next_op, open_command, refused, undertake}
@@ -192,14 +192,14 @@ module _ (config : Config) (i : ℕ) (s : State) where
 
 -- ---- events
 
-own_event : (e : Event Action) (w : FrameWorld) (action : Action) → Rattle.pg_machine.specs.Machine.input_of w e ≡ Some (Own action) → e ≡ Do (node_of e) action
+own_event : (e : Event Action) (w : FrameWorld) (action : Action) → Rattle.pg_step.specs.PgMachine.Machine.input_of w e ≡ Some (Own action) → e ≡ Do (node_of e) action
 own_event (Do i c) w action is = ap (Do i) (own_is (some_is is))
   where
     own_is : {x y : Action} → ◌≡◌ {A = Input Message Action} (Own x) (Own y) → x ≡ y
     own_is e = cc
 own_event (Take i p) w action is = go (w.wire p i) is
   where
-    go : (xs : List Message) → Rattle.pg_machine.specs.Machine.first_from {C = Action} p xs ≡ Some (Own action) → Take i p ≡ Do i action
+    go : (xs : List Message) → Rattle.pg_step.specs.PgMachine.Machine.first_from {C = Action} p xs ≡ Some (Own action) → Take i p ≡ Do i action
     go [] e = absurd (cc)
     go (x ∷ xs) e = absurd (cc)
 

@@ -12,18 +12,18 @@ use Rattle.pg_term.specs.contracts.pid.PidEq.TheImpl.Laws as pid_laws
 use Rattle.pg_term.proofs.Same.{pid_is}
 use Rattle.std.proofs.lemmas.List.{append-nil, length-append}
 use Rattle.pg_term.specs.declared.pid.Pid.{Pid}
-use Rattle.pg_group.specs.declared.update.Update.{Update}
-use Rattle.pg_group.specs.declared.update.Update.TheVariants as update
-use Rattle.pg_group.specs.Value.{Value, name_of}
-use Rattle.pg_group.proofs.Changes.{upd_at}
-use Rattle.pg_ends.specs.Numbers.{number_in, pid_of}
-use Rattle.pg_message.specs.declared.message.Message.{Message}
-use Rattle.pg_machine.specs.Happened.{Happened}
-use Rattle.pg_machine.specs.Machine.{Input, Turn, Event, Taken, Own, node_of, start_of}
-use Rattle.pg_machine.specs.Clocked.{plain}
-use Rattle.pg_machine.proofs.Plain.{plain_from_start}
-use Rattle.pg_machine.proofs.Sequences.{kept}
-use Rattle.pg_machine.proofs.Steps.{changes}
+use Rattle.pg_step.specs.PgGroup.declared.update.Update.{Update}
+use Rattle.pg_step.specs.PgGroup.declared.update.Update.TheVariants as update
+use Rattle.pg_step.specs.PgGroup.Value.{Value, name_of}
+use Rattle.pg_step.proofs.PgGroup.Changes.{upd_at}
+use Rattle.pg_step.specs.PgEnds.Numbers.{number_in, pid_of}
+use Rattle.pg_step.specs.PgMessage.declared.message.Message.{Message}
+use Rattle.pg_step.specs.PgMachine.Happened.{Happened}
+use Rattle.pg_step.specs.PgMachine.Machine.{Input, Turn, Event, Taken, Own, node_of, start_of}
+use Rattle.pg_step.specs.PgMachine.Clocked.{plain}
+use Rattle.pg_step.proofs.PgMachine.Plain.{plain_from_start}
+use Rattle.pg_step.proofs.PgMachine.Sequences.{kept}
+use Rattle.pg_step.proofs.PgMachine.Steps.{changes}
 use Rattle.pg_step.specs.Attempts.{attempt, same_op, tried_again, waits}
 use Rattle.pg_step.specs.Commands.{OPEN_LIMIT, answer, carried_out, change, change_by, command as command_in}
 use Rattle.pg_step.specs.Commands.{command_by, count_command, fault_of, look, next_op, open_command, refused, undertake}

@@ -3,20 +3,20 @@ use Rattle.std.proofs.Common.{◌≡◌, ◌⊎◌, inl, inr, ℕ, Bool, true, f
 use Rattle.std.proofs.Common.{length, List, [], ◌∷◌, refl, ap, sym, ◌∙◌, subst}
 use Rattle.std.specs.List.{AllByRecursion}
 use Rattle.pg_term.specs.declared.pid.Pid.{Pid}
-use Rattle.pg_message.specs.declared.message.Message.TheVariants.{Exchange, Down}
-use Rattle.pg_machine.specs.Places.{is_place, is_pair}
-use Rattle.pg_machine.specs.Machine.{Event, Taken, node_of, start_of}
-use Rattle.pg_machine.specs.Happened.{Happened}
-use Rattle.pg_machine.specs.Runs.{Leads}
-use Rattle.pg_machine.specs.Clocked.{plain}
+use Rattle.pg_step.specs.PgMessage.declared.message.Message.TheVariants.{Exchange, Down}
+use Rattle.pg_step.specs.PgMachine.Places.{is_place, is_pair}
+use Rattle.pg_step.specs.PgMachine.Machine.{Event, Taken, node_of, start_of}
+use Rattle.pg_step.specs.PgMachine.Happened.{Happened}
+use Rattle.pg_step.specs.PgMachine.Runs.{Leads}
+use Rattle.pg_step.specs.PgMachine.Clocked.{plain}
 use Rattle.pg_step.specs.State.{State}
 use Rattle.pg_step.specs.Turns.{NodeTurn}
 use Rattle.pg_step.specs.Step.{CLOCK_LIMIT, Action}
 use Rattle.pg_step.specs.Config.{Config, name_at, groups_at}
 use Rattle.pg_step.specs.FrameMachine.{place_turn, machine_of, FrameWorld}
-use Rattle.pg_machine.proofs.Steps.{changes}
-use Rattle.pg_machine.proofs.Sequences.{kept}
-use Rattle.pg_machine.proofs.Plain.{plain_from_start}
+use Rattle.pg_step.proofs.PgMachine.Steps.{changes}
+use Rattle.pg_step.proofs.PgMachine.Sequences.{kept}
+use Rattle.pg_step.proofs.PgMachine.Plain.{plain_from_start}
 use Rattle.pg_history.specs.Reached.{TimedFrameWorld, Reaches, HasEndedAt}
 use Rattle.pg_history.specs.Sent.{end_of, ends_in}
 use Rattle.pg_history.proofs.steps.Ways.{all_both, all_behind, all_since, told_append, WayAfter, Grown}

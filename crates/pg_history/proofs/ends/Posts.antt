@@ -3,16 +3,16 @@ use Rattle.std.proofs.Common.{◌≡◌, ◌≢◌, ℕ, Bool, true, false, not,
 use Rattle.std.proofs.Common.{[], ◌∷◌, ◌++◌, None, Ok, Err, refl, ap, sym, ◌∙◌, subst}
 use Rattle.std.specs.List.{IsDistinct}
 use Rattle.pg_term.specs.Same.{same_atom}
-use Rattle.pg_group.specs.Functions.{upd}
-use Rattle.pg_group.proofs.Changes.{upd_at, upd_by}
-use Rattle.pg_exchange.specs.GroupList.{GroupList}
-use Rattle.pg_message.specs.declared.message.Message.{Message}
-use Rattle.pg_message.specs.declared.message.Message.TheVariants.{Call, Reply, DelLock, Exchange, Down}
-use Rattle.pg_message.specs.declared.message.Request.TheVariants.{SetLock, Change}
-use Rattle.pg_machine.specs.Places.{is_place, is_pair}
-use Rattle.pg_machine.specs.Machine.{Event, Input, Taken, node_of, start_of}
-use Rattle.pg_machine.specs.Happened.{Happened}
-use Rattle.pg_machine.specs.Clocked.{plain}
+use Rattle.pg_step.specs.PgGroup.Functions.{upd}
+use Rattle.pg_step.proofs.PgGroup.Changes.{upd_at, upd_by}
+use Rattle.pg_step.specs.PgExchange.GroupList.{GroupList}
+use Rattle.pg_step.specs.PgMessage.declared.message.Message.{Message}
+use Rattle.pg_step.specs.PgMessage.declared.message.Message.TheVariants.{Call, Reply, DelLock, Exchange, Down}
+use Rattle.pg_step.specs.PgMessage.declared.message.Request.TheVariants.{SetLock, Change}
+use Rattle.pg_step.specs.PgMachine.Places.{is_place, is_pair}
+use Rattle.pg_step.specs.PgMachine.Machine.{Event, Input, Taken, node_of, start_of}
+use Rattle.pg_step.specs.PgMachine.Happened.{Happened}
+use Rattle.pg_step.specs.PgMachine.Clocked.{plain}
 use Rattle.pg_step.specs.Nodes.{Node}
 use Rattle.pg_step.specs.State.{State}
 use Rattle.pg_step.specs.Turns.{NodeTurn}
@@ -22,9 +22,9 @@ use Rattle.pg_step.specs.Step.{CLOCK_LIMIT, Action, taken}
 use Rattle.pg_step.specs.Config.{Config, names_of, name_at, nodes_at, groups_at}
 use Rattle.pg_step.specs.FrameMachine.{placed, node_step, machine_of, FrameWorld}
 use Rattle.pg_step.proofs.Once.{is_same}
-use Rattle.pg_machine.proofs.Steps.{pair_apart}
-use Rattle.pg_machine.proofs.Sequences.{kept}
-use Rattle.pg_machine.proofs.Plain.{plain_from_start}
+use Rattle.pg_step.proofs.PgMachine.Steps.{pair_apart}
+use Rattle.pg_step.proofs.PgMachine.Sequences.{kept}
+use Rattle.pg_step.proofs.PgMachine.Plain.{plain_from_start}
 use Rattle.pg_history.specs.Reached.{TimedFrameWorld, Reaches}
 use Rattle.pg_history.specs.Sent.{exchange_of, exchanges_in, is_reply}
 use Rattle.pg_history.proofs.ends.Apart.{same_place, pair_second, pair_swapped}

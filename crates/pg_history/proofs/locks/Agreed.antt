@@ -3,9 +3,9 @@ use Rattle.std.proofs.Common.{ℕ, Bool, refl, length-append, ◌+◌, ◌<◌, 
 use Rattle.std.proofs.Common.{◌≡◌, true, false, List, [], ◌∷◌, ◌++◌, None, ap, sym, ◌∙◌, inl, inr, ◌⊎◌}
 use Rattle.std.proofs.lemmas.List.{same_from_push}
 use Rattle.pg_term.specs.declared.term.Term.{Term}
-use Rattle.pg_refs.specs.Numbered.{numbered}
-use Rattle.pg_group.specs.declared.update.Update.{Update}
-use Rattle.pg_lock.specs.Locks.{is_holder}
+use Rattle.pg_step.specs.PgRefs.Numbered.{numbered}
+use Rattle.pg_step.specs.PgGroup.declared.update.Update.{Update}
+use Rattle.pg_step.specs.PgLock.Locks.{is_holder}
 use Rattle.pg_step.specs.Nodes.{Node}
 use Rattle.pg_step.specs.declared.command.OpId.{OpId}
 use Rattle.pg_step.specs.State.{Use}

@@ -4,11 +4,11 @@ use Rattle.std.proofs.Common.{Some, None, nat_eq, refl, ap, sym, ◌∙◌, subs
 use Rattle.std.proofs.Math.Path.{fun_ext}
 use Rattle.std.proofs.lemmas.List.{append_assoc}
 use Rattle.pg_term.specs.Same.{same_atom}
-use Rattle.pg_group.specs.declared.update.Update.{Update}
-use Rattle.pg_group.specs.Functions.{upd}
-use Rattle.pg_message.specs.declared.message.Message.{Message}
+use Rattle.pg_step.specs.PgGroup.declared.update.Update.{Update}
+use Rattle.pg_step.specs.PgGroup.Functions.{upd}
+use Rattle.pg_step.specs.PgMessage.declared.message.Message.{Message}
 use Rattle.pg_step.specs.declared.command.OpId.{OpId}
-use Rattle.pg_lock.specs.Attempts.{after_round, does_wait}
+use Rattle.pg_step.specs.PgLock.Attempts.{after_round, does_wait}
 use Rattle.pg_step.specs.Nodes.{Node, Nodes, every, greatest}
 use Rattle.pg_step.specs.State.{State, Status, Use}
 use Rattle.pg_step.specs.State.Status.{Unasked, Asked, Yes, No}

@@ -3,8 +3,8 @@ use Rattle.std.proofs.Common.{◌≡◌, ℕ, List, [], ◌∷◌, ◌++◌, Non
 use Rattle.std.specs.List.{AllByRecursion}
 use Rattle.pg_term.specs.declared.term.Term.{Term}
 use Rattle.pg_term.specs.RefParts.{RefParts}
-use Rattle.pg_refs.specs.Numbered.{numbered}
-use Rattle.pg_lock.specs.Locks.{is_holder}
+use Rattle.pg_step.specs.PgRefs.Numbered.{numbered}
+use Rattle.pg_step.specs.PgLock.Locks.{is_holder}
 use Rattle.pg_step.specs.declared.command.OpId.{OpId}
 use Rattle.pg_step.specs.Nodes.{Node}
 use Rattle.pg_step.specs.State.Use.{Fresh}

@@ -1,9 +1,9 @@
 -- Whatever a node does in a world, all stays that is held of it, and no reply is odd.
 use Rattle.std.proofs.Common.{◌≡◌, ℕ, List, ◌∷◌, None, Ok, sym, subst}
 use Rattle.pg_term.specs.RefParts.{RefParts}
-use Rattle.pg_message.specs.declared.message.Message.{Message}
-use Rattle.pg_message.specs.declared.message.Message.TheVariants.{Reply}
-use Rattle.pg_message.specs.declared.message.Said.{Said}
+use Rattle.pg_step.specs.PgMessage.declared.message.Message.{Message}
+use Rattle.pg_step.specs.PgMessage.declared.message.Message.TheVariants.{Reply}
+use Rattle.pg_step.specs.PgMessage.declared.message.Said.{Said}
 use Rattle.pg_step.specs.Nodes.{Node, Nodes}
 use Rattle.pg_step.specs.Turns.{NodeTurn}
 use Rattle.pg_step.specs.Step.{Action, acted, taken}

@@ -1,6 +1,6 @@
 -- A node tells of no odd reply but for one that completes nothing.
 use Rattle.std.proofs.Common.{◌≡◌, ℕ, Bool, true, false, cond, nat_lt, None, Ok, Err, ap, sym, ◌∙◌}
-use Rattle.pg_group.specs.declared.update.Update.{Update}
+use Rattle.pg_step.specs.PgGroup.declared.update.Update.{Update}
 use Rattle.pg_step.specs.declared.command.Command.{Command}
 use Rattle.pg_step.specs.declared.command.OpId.{OpId}
 use Rattle.pg_step.specs.Nodes.{Node, Nodes}

@@ -6,20 +6,20 @@ use Rattle.std.proofs.lemmas.Nat.{div-add-mod'}
 use Rattle.pg_term.specs.RefParts.{RefParts, ref_eq}
 use Rattle.pg_term.specs.declared.pid.Pid.{Pid}
 use Rattle.pg_term.specs.declared.term.Term.{Term}
-use Rattle.pg_refs.specs.Numbered.{numbered, number_in}
-use Rattle.pg_group.specs.declared.update.Update.{Update}
-use Rattle.pg_exchange.specs.GroupList.{GroupList}
-use Rattle.pg_message.specs.declared.message.Message.{Message}
-use Rattle.pg_message.specs.declared.message.Message.TheVariants.{Call, Reply, DelLock, Exchange, Down}
-use Rattle.pg_message.specs.declared.message.Request.TheVariants.{SetLock, Change}
-use Rattle.pg_message.specs.declared.message.Said.{Said}
-use Rattle.pg_message.specs.declared.message.Said.TheVariants.{Granted, Denied, Applied}
+use Rattle.pg_step.specs.PgRefs.Numbered.{numbered, number_in}
+use Rattle.pg_step.specs.PgGroup.declared.update.Update.{Update}
+use Rattle.pg_step.specs.PgExchange.GroupList.{GroupList}
+use Rattle.pg_step.specs.PgMessage.declared.message.Message.{Message}
+use Rattle.pg_step.specs.PgMessage.declared.message.Message.TheVariants.{Call, Reply, DelLock, Exchange, Down}
+use Rattle.pg_step.specs.PgMessage.declared.message.Request.TheVariants.{SetLock, Change}
+use Rattle.pg_step.specs.PgMessage.declared.message.Said.{Said}
+use Rattle.pg_step.specs.PgMessage.declared.message.Said.TheVariants.{Granted, Denied, Applied}
 use Rattle.pg_step.specs.declared.command.OpId.{OpId}
-use Rattle.pg_multicall.specs.Gathered.{what_of}
+use Rattle.pg_step.specs.PgMulticall.Gathered.{what_of}
 use Rattle.pg_term.specs.Same.{same_atom, same_pid}
-use Rattle.pg_group.specs.Functions.{upd}
-use Rattle.pg_group.specs.Table.{without}
-use Rattle.pg_exchange.specs.GroupList.{all_merged}
+use Rattle.pg_step.specs.PgGroup.Functions.{upd}
+use Rattle.pg_step.specs.PgGroup.Table.{without}
+use Rattle.pg_step.specs.PgExchange.GroupList.{all_merged}
 use Rattle.pg_step.specs.Nodes.{Node, Nodes}
 use Rattle.pg_step.specs.State.{State, Status, Use}
 use Rattle.pg_step.specs.State.Status.{Yes, No}

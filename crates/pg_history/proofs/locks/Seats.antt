@@ -4,7 +4,7 @@ use Rattle.std.proofs.Common.{List, [], ◌∷◌, refl, ap, sym, ◌∙◌, inl
 use Rattle.std.specs.List.{list_all, list_any}
 use Rattle.std.specs.Cmp.{first_so, second_so}
 use Rattle.pg_term.specs.Same.{same_atom}
-use Rattle.pg_message.specs.declared.message.Message.{Message}
+use Rattle.pg_step.specs.PgMessage.declared.message.Message.{Message}
 use Rattle.pg_step.specs.Nodes.{Node, Nodes, is_peer, is_node, every, to_peers}
 use Rattle.pg_history.proofs.references.Keys.{atoms, split, differ, same_is}
 use Rattle.pg_history.proofs.locks.Kept.{Near}

@@ -1,7 +1,7 @@
 -- Commands by their stages, and what a node keeps where a turn leaves its references and commands.
 use Rattle.std.proofs.Common.{◌≡◌, ◌&&◌, nat_eq, ap, sym, ◌∙◌}
 use Rattle.std.specs.Cmp.{first_so, second_so}
-use Rattle.pg_group.specs.Functions.{upd}
+use Rattle.pg_step.specs.PgGroup.Functions.{upd}
 use Rattle.pg_step.specs.declared.command.OpId.{OpId}
 use Rattle.pg_step.specs.State.{Stage}
 use Rattle.pg_step.specs.Attempts.{same_op}

@@ -5,12 +5,12 @@ use Rattle.std.specs.List.{AllByRecursion}
 use Rattle.std.specs.Cmp.{second_so}
 use Rattle.pg_term.specs.declared.term.Term.{Term}
 use Rattle.pg_term.specs.Same.{same_atom}
-use Rattle.pg_refs.specs.Numbered.{numbered}
-use Rattle.pg_lock.specs.Locks.{Locks, after_ask, given_up, held, is_free, is_holder}
-use Rattle.pg_message.specs.declared.message.Message.{Message}
-use Rattle.pg_message.specs.declared.message.Message.TheVariants.{Call, Reply, DelLock}
-use Rattle.pg_message.specs.declared.message.Request.TheVariants.{SetLock}
-use Rattle.pg_message.specs.declared.message.Said.{Said}
+use Rattle.pg_step.specs.PgRefs.Numbered.{numbered}
+use Rattle.pg_step.specs.PgLock.Locks.{Locks, after_ask, given_up, held, is_free, is_holder}
+use Rattle.pg_step.specs.PgMessage.declared.message.Message.{Message}
+use Rattle.pg_step.specs.PgMessage.declared.message.Message.TheVariants.{Call, Reply, DelLock}
+use Rattle.pg_step.specs.PgMessage.declared.message.Request.TheVariants.{SetLock}
+use Rattle.pg_step.specs.PgMessage.declared.message.Said.{Said}
 use Rattle.pg_step.specs.Nodes.{Node, Nodes, to_one}
 use Rattle.pg_step.specs.State.{State, Use, formed}
 use Rattle.pg_step.specs.Turns.{NodeTurn, becomes_and_sends}

@@ -2,7 +2,7 @@
 use Rattle.std.proofs.Common.{◌≡◌, ℕ, ◌+◌, ◌≤◌, Bool, true, false, not, ◌&&◌, cond, List, [], ◌∷◌}
 use Rattle.std.proofs.Common.{◌++◌, refl, ap, sym, ◌∙◌, subst, inl, inr, ◌⊎◌, ◌≢◌, arith, append-nil}
 use Rattle.pg_term.specs.Same.{same_atom}
-use Rattle.pg_group.specs.declared.update.Update.{Update}
+use Rattle.pg_step.specs.PgGroup.declared.update.Update.{Update}
 use Rattle.pg_step.specs.Nodes.{Node}
 use Rattle.pg_history.proofs.references.Keys.{atoms, split, same_is, differ}
 use Rattle.pg_history.proofs.references.References.{cond_append}

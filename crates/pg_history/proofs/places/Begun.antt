@@ -4,16 +4,16 @@ use Rattle.std.proofs.Common.{Option, Some, None, refl, ap, sym, ◌∙◌, subs
 use Rattle.std.specs.List.{list_all}
 use Rattle.std.specs.Cmp.{first_so}
 use Rattle.pg_term.specs.Same.{same_atom}
-use Rattle.pg_group.specs.declared.update.Update.{Update}
-use Rattle.pg_group.specs.Functions.{upd}
-use Rattle.pg_group.specs.Value.{name_of}
-use Rattle.pg_group.proofs.Changes.{upd_by}
-use Rattle.pg_lock.specs.Locks.{is_free}
-use Rattle.pg_exchange.specs.GroupList.{GroupList}
-use Rattle.pg_message.specs.declared.message.Message.{Message}
-use Rattle.pg_message.specs.declared.message.Message.TheVariants.{Down}
+use Rattle.pg_step.specs.PgGroup.declared.update.Update.{Update}
+use Rattle.pg_step.specs.PgGroup.Functions.{upd}
+use Rattle.pg_step.specs.PgGroup.Value.{name_of}
+use Rattle.pg_step.proofs.PgGroup.Changes.{upd_by}
+use Rattle.pg_step.specs.PgLock.Locks.{is_free}
+use Rattle.pg_step.specs.PgExchange.GroupList.{GroupList}
+use Rattle.pg_step.specs.PgMessage.declared.message.Message.{Message}
+use Rattle.pg_step.specs.PgMessage.declared.message.Message.TheVariants.{Down}
 use Rattle.pg_step.specs.declared.command.OpId.{OpId}
-use Rattle.pg_machine.specs.Machine.{Input, Turn, Taken, Own}
+use Rattle.pg_step.specs.PgMachine.Machine.{Input, Turn, Taken, Own}
 use Rattle.pg_step.specs.Nodes.{Node, Nodes, is_node, to_peers}
 use Rattle.pg_step.specs.State.{State, Status, Use, formed}
 use Rattle.pg_step.specs.State.Status.{Unasked, Asked, Yes, No}

@@ -7,14 +7,14 @@ use Rattle.std.proofs.lemmas.List.{append-nil}
 use Rattle.pg_term.specs.declared.term.Term.{Term}
 use Rattle.pg_term.specs.RefParts.{RefParts}
 use Rattle.pg_term.specs.Same.{same_atom}
-use Rattle.pg_group.specs.declared.update.Update.{Update}
-use Rattle.pg_message.specs.declared.message.Message.{Message}
-use Rattle.pg_message.specs.declared.message.Message.TheVariants.{Exchange}
+use Rattle.pg_step.specs.PgGroup.declared.update.Update.{Update}
+use Rattle.pg_step.specs.PgMessage.declared.message.Message.{Message}
+use Rattle.pg_step.specs.PgMessage.declared.message.Message.TheVariants.{Exchange}
 use Rattle.pg_step.specs.declared.command.OpId.{OpId}
-use Rattle.pg_machine.specs.Places.{is_pair, set_way}
-use Rattle.pg_machine.specs.Machine.{Turn, Event, Take, Do, node_of, start_of, perform as perform_at}
-use Rattle.pg_machine.specs.Happened.{Happened, Took}
-use Rattle.pg_machine.specs.Runs.{Leads}
+use Rattle.pg_step.specs.PgMachine.Places.{is_pair, set_way}
+use Rattle.pg_step.specs.PgMachine.Machine.{Turn, Event, Take, Do, node_of, start_of, perform as perform_at}
+use Rattle.pg_step.specs.PgMachine.Happened.{Happened, Took}
+use Rattle.pg_step.specs.PgMachine.Runs.{Leads}
 use Rattle.pg_step.specs.Nodes.{Node}
 use Rattle.pg_step.specs.State.{State, formed}
 use Rattle.pg_step.specs.Turns.{Report}
@@ -23,9 +23,9 @@ use Rattle.pg_step.specs.Config.{Config, names_of, name_at, nodes_at, ports_at, 
 use Rattle.pg_step.specs.FrameMachine.{node_step, machine_of, FrameWorld}
 use Rattle.pg_history.specs.History.{entries, entry_of as begun_by, update_of, applied_by}
 use Rattle.pg_step.proofs.Once.{clash}
-use Rattle.pg_machine.proofs.Options.{some_is}
-use Rattle.pg_machine.proofs.Steps.{took, happens_so, changes}
-use Rattle.pg_machine.proofs.Sequences.{kept}
+use Rattle.pg_step.proofs.PgMachine.Options.{some_is}
+use Rattle.pg_step.proofs.PgMachine.Steps.{took, happens_so, changes}
+use Rattle.pg_step.proofs.PgMachine.Sequences.{kept}
 use Rattle.pg_history.proofs.steps.Ways.{all_both, state_after, own_place}
 use Rattle.pg_history.proofs.steps.Grows.{entries_append}
 use Rattle.pg_history.proofs.steps.Lossless.{NobodyLost, took_all, did_all, event_nobody}

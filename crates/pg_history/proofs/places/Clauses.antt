@@ -8,16 +8,16 @@ use Rattle.pg_term.specs.declared.pid.Pid.{Pid}
 use Rattle.pg_term.specs.declared.term.Term.{Term}
 use Rattle.pg_term.specs.Same.{same_atom}
 use Rattle.pg_term.specs.RefParts.{RefParts}
-use Rattle.pg_group.specs.Value.{name_of, less}
-use Rattle.pg_refs.specs.Numbered.{numbered}
-use Rattle.pg_lock.specs.Locks.{is_holder}
-use Rattle.pg_message.specs.declared.message.Message.{Message}
-use Rattle.pg_message.specs.declared.message.Message.TheVariants.{Call, Reply, DelLock, Exchange, Down}
-use Rattle.pg_message.specs.declared.message.Said.{Said}
-use Rattle.pg_machine.specs.Places.{is_pair, is_place}
-use Rattle.pg_machine.specs.Machine.{Event, Taken, start_of}
-use Rattle.pg_machine.specs.Runs.{Leads, run, ran}
-use Rattle.pg_machine.specs.Clocked.{plain}
+use Rattle.pg_step.specs.PgGroup.Value.{name_of, less}
+use Rattle.pg_step.specs.PgRefs.Numbered.{numbered}
+use Rattle.pg_step.specs.PgLock.Locks.{is_holder}
+use Rattle.pg_step.specs.PgMessage.declared.message.Message.{Message}
+use Rattle.pg_step.specs.PgMessage.declared.message.Message.TheVariants.{Call, Reply, DelLock, Exchange, Down}
+use Rattle.pg_step.specs.PgMessage.declared.message.Said.{Said}
+use Rattle.pg_step.specs.PgMachine.Places.{is_pair, is_place}
+use Rattle.pg_step.specs.PgMachine.Machine.{Event, Taken, start_of}
+use Rattle.pg_step.specs.PgMachine.Runs.{Leads, run, ran}
+use Rattle.pg_step.specs.PgMachine.Clocked.{plain}
 use Rattle.pg_step.specs.State.{State}
 use Rattle.pg_step.specs.Turns.{NodeTurn, Report}
 use Rattle.pg_step.specs.Step.{CLOCK_LIMIT, Action, taken, node_takes}
@@ -28,8 +28,8 @@ use Rattle.pg_history.specs.History.{Entry, entries, of_group, history, updates_
 use Rattle.pg_history.specs.History.{replay, known, base, is_formed, has_groups, LockFree, NonePending, applied_by}
 use Rattle.pg_history.specs.Headline.{HoldsAnswered, AppliesHistory, HasTables, GoesOnFromAll, HarmsNobody, OneHistory}
 use Rattle.pg_step.proofs.Once.{clash}
-use Rattle.pg_machine.proofs.Plain.{plain_from_start}
-use Rattle.pg_machine.proofs.Sequences.{leads_ran}
+use Rattle.pg_step.proofs.PgMachine.Plain.{plain_from_start}
+use Rattle.pg_step.proofs.PgMachine.Sequences.{leads_ran}
 use Rattle.pg_history.specs.Reached.{TimedFrameWorld, Reaches}
 use Rattle.pg_history.proofs.ends.Homes.{homed_timed}
 use Rattle.pg_history.proofs.steps.Lossless.{takes_all}

@@ -5,7 +5,7 @@ use Rattle.std.specs.List.{AllByRecursion, IsDistinct, list_any, remove}
 use Rattle.std.proofs.lemmas.Bool.{cases_eq, eq-eqb, ne_eqb}
 use Rattle.std.proofs.lemmas.Map.Keys.{IsDistinct-head, IsDistinct-tail}
 use Rattle.pg_term.specs.Same.{same_atom}
-use Rattle.pg_machine.specs.Places.{is_place}
+use Rattle.pg_step.specs.PgMachine.Places.{is_place}
 use Rattle.pg_step.specs.Nodes.{Node}
 use Rattle.pg_step.specs.Config.{Config, names_of, name_at}
 use Rattle.pg_history.proofs.references.Keys.{atoms, differ}

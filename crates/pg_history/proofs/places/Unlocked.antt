@@ -7,13 +7,13 @@ use Rattle.std.proofs.lemmas.Bool.{and_from}
 use Rattle.pg_term.specs.declared.term.Term.{Term}
 use Rattle.pg_term.specs.RefParts.{RefParts}
 use Rattle.pg_term.specs.Same.{same_atom, same_term}
-use Rattle.pg_group.specs.Functions.{upd}
-use Rattle.pg_group.proofs.Changes.{upd_by}
-use Rattle.pg_lock.specs.Locks.{Locks, held, is_free, after_ask, given_up}
-use Rattle.pg_message.specs.declared.message.Message.{Message}
-use Rattle.pg_machine.specs.Machine.{Input, Turn, Event, Taken, Own, node_of, start_of}
-use Rattle.pg_machine.specs.Happened.{Happened}
-use Rattle.pg_machine.specs.Clocked.{plain}
+use Rattle.pg_step.specs.PgGroup.Functions.{upd}
+use Rattle.pg_step.proofs.PgGroup.Changes.{upd_by}
+use Rattle.pg_step.specs.PgLock.Locks.{Locks, held, is_free, after_ask, given_up}
+use Rattle.pg_step.specs.PgMessage.declared.message.Message.{Message}
+use Rattle.pg_step.specs.PgMachine.Machine.{Input, Turn, Event, Taken, Own, node_of, start_of}
+use Rattle.pg_step.specs.PgMachine.Happened.{Happened}
+use Rattle.pg_step.specs.PgMachine.Clocked.{plain}
 use Rattle.pg_step.specs.Nodes.{Node, Nodes}
 use Rattle.pg_step.specs.State.{State, formed}
 use Rattle.pg_step.specs.Turns.{NodeTurn, Report}
@@ -22,8 +22,8 @@ use Rattle.pg_step.specs.Config.{Config, name_at, nodes_at, ports_at}
 use Rattle.pg_step.specs.FrameMachine.{node_step, machine_of, FrameWorld}
 use Rattle.pg_step.specs.Peers.{exchange}
 use Rattle.pg_step.proofs.Once.{clash}
-use Rattle.pg_machine.proofs.Sequences.{kept}
-use Rattle.pg_machine.proofs.Plain.{plain_from_start}
+use Rattle.pg_step.proofs.PgMachine.Sequences.{kept}
+use Rattle.pg_step.proofs.PgMachine.Plain.{plain_from_start}
 use Rattle.pg_history.specs.Reached.{TimedFrameWorld, Reaches}
 use Rattle.pg_history.proofs.steps.Single.{Any, AnyUpdate, OfSingle, acted_so, taken_so}
 use Rattle.pg_history.proofs.steps.Lossless.{NoneLost, NobodyLost, took_all, did_all, event_nobody}

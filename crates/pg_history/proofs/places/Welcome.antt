@@ -4,19 +4,19 @@ use Rattle.std.proofs.Common.{length, List, ◌∷◌, ◌++◌, None, Result, O
 use Rattle.std.specs.List.{IsDistinct}
 use Rattle.pg_term.specs.RefParts.{RefParts, ref_eq}
 use Rattle.pg_term.specs.Same.{same_atom}
-use Rattle.pg_refs.specs.Numbered.{number_in}
-use Rattle.pg_multicall.specs.Gathered.{what_of}
-use Rattle.pg_multicall.specs.declared.gather.Taken.{Taken}
-use Rattle.pg_multicall.specs.declared.gather.Taken.TheVariants as what
-use Rattle.pg_message.specs.declared.message.Message.{Message}
-use Rattle.pg_message.specs.declared.message.Message.TheVariants.{Call, Reply, DelLock, Exchange, Down}
-use Rattle.pg_message.specs.declared.message.Request.TheVariants.{SetLock, Change}
-use Rattle.pg_message.specs.declared.message.Said.{Said}
-use Rattle.pg_machine.specs.Clocked.{Stamped, plain, packets_of}
-use Rattle.pg_machine.specs.Machine.{Event, start_of}
-use Rattle.pg_machine.specs.Places.{is_pair}
-use Rattle.pg_machine.specs.Runs.{Leads}
-use Rattle.pg_machine.proofs.Sequences.{whole}
+use Rattle.pg_step.specs.PgRefs.Numbered.{number_in}
+use Rattle.pg_step.specs.PgMulticall.Gathered.{what_of}
+use Rattle.pg_step.specs.PgMulticall.declared.gather.Taken.{Taken}
+use Rattle.pg_step.specs.PgMulticall.declared.gather.Taken.TheVariants as what
+use Rattle.pg_step.specs.PgMessage.declared.message.Message.{Message}
+use Rattle.pg_step.specs.PgMessage.declared.message.Message.TheVariants.{Call, Reply, DelLock, Exchange, Down}
+use Rattle.pg_step.specs.PgMessage.declared.message.Request.TheVariants.{SetLock, Change}
+use Rattle.pg_step.specs.PgMessage.declared.message.Said.{Said}
+use Rattle.pg_step.specs.PgMachine.Clocked.{Stamped, plain, packets_of}
+use Rattle.pg_step.specs.PgMachine.Machine.{Event, start_of}
+use Rattle.pg_step.specs.PgMachine.Places.{is_pair}
+use Rattle.pg_step.specs.PgMachine.Runs.{Leads}
+use Rattle.pg_step.proofs.PgMachine.Sequences.{whole}
 use Rattle.pg_step.specs.Nodes.{Node, Nodes}
 use Rattle.pg_step.specs.State.{State, Use}
 use Rattle.pg_step.specs.State.Use.{Fresh, Locking, Owning, Updating, Spent}

@@ -7,12 +7,12 @@ use Rattle.std.proofs.lemmas.Bool.{cases_eq, cases_lt, eq-eqb}
 use Rattle.std.proofs.lemmas.Bool.Decides.{Decides-ltb}
 use Rattle.std.proofs.lemmas.List.{length-append}
 use Rattle.pg_term.specs.Same.{same_atom}
-use Rattle.pg_message.specs.declared.message.Message.{Message}
-use Rattle.pg_machine.specs.Clocked.{plain}
-use Rattle.pg_machine.specs.Happened.{Happened}
-use Rattle.pg_machine.specs.Machine.{Event, Input, Taken, Own, Take, Do, first_from, happens, node_of, start_of}
-use Rattle.pg_machine.specs.Places.{is_place}
-use Rattle.pg_machine.specs.Runs.{Leads}
+use Rattle.pg_step.specs.PgMessage.declared.message.Message.{Message}
+use Rattle.pg_step.specs.PgMachine.Clocked.{plain}
+use Rattle.pg_step.specs.PgMachine.Happened.{Happened}
+use Rattle.pg_step.specs.PgMachine.Machine.{Event, Input, Taken, Own, Take, Do, first_from, happens, node_of, start_of}
+use Rattle.pg_step.specs.PgMachine.Places.{is_place}
+use Rattle.pg_step.specs.PgMachine.Runs.{Leads}
 use Rattle.pg_step.specs.declared.answer.Reply.TheVariants as reply
 use Rattle.pg_step.specs.declared.command.OpId.{OpId}
 use Rattle.pg_step.specs.State.{State, Response}
@@ -21,10 +21,10 @@ use Rattle.pg_step.specs.Step.{CLOCK_LIMIT, Action, Issue, Retry}
 use Rattle.pg_step.specs.Config.{Config, names_of, ports_at}
 use Rattle.pg_step.specs.FrameMachine.{frame_machine, machine_of, FrameWorld}
 use Rattle.pg_step.proofs.Once.{clash}
-use Rattle.pg_machine.proofs.Options.{some_is}
-use Rattle.pg_machine.proofs.Plain.{plain_leads}
-use Rattle.pg_machine.proofs.Sequences.{whole}
-use Rattle.pg_machine.proofs.Steps.{happened}
+use Rattle.pg_step.proofs.PgMachine.Options.{some_is}
+use Rattle.pg_step.proofs.PgMachine.Plain.{plain_leads}
+use Rattle.pg_step.proofs.PgMachine.Sequences.{whole}
+use Rattle.pg_step.proofs.PgMachine.Steps.{happened}
 use Rattle.pg_history.specs.Counted.{is_open, open_at, open_in}
 use Rattle.pg_history.specs.History.{IsAnsweredOk, answers_by, has_answer}
 use Rattle.pg_history.specs.Quiet.{HasClockRoom, IsQuiet, NoneOpen, OnlyTakes}

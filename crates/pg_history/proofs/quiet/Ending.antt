@@ -5,24 +5,24 @@ use Rattle.std.specs.List.{IsDistinct}
 use Rattle.std.proofs.lemmas.Bool.{cases_eq}
 use Rattle.std.proofs.lemmas.Bool.Decides.{Decides-ltb}
 use Rattle.pg_term.specs.Same.{same_atom}
-use Rattle.pg_message.specs.declared.message.Message.{Message}
-use Rattle.pg_message.specs.declared.message.Message.TheVariants.{Call, Reply, DelLock, Exchange, Down}
-use Rattle.pg_machine.specs.Clocked.{Stamped, packets_of, plain}
-use Rattle.pg_machine.specs.Happened.{Happened, Changes}
-use Rattle.pg_machine.specs.Machine.{Event, Take, Do, happens, start_of}
-use Rattle.pg_machine.specs.Places.{is_pair}
-use Rattle.pg_machine.specs.Runs.{Leads}
-use Rattle.pg_machine.specs.Timely.{IsTimely}
+use Rattle.pg_step.specs.PgMessage.declared.message.Message.{Message}
+use Rattle.pg_step.specs.PgMessage.declared.message.Message.TheVariants.{Call, Reply, DelLock, Exchange, Down}
+use Rattle.pg_step.specs.PgMachine.Clocked.{Stamped, packets_of, plain}
+use Rattle.pg_step.specs.PgMachine.Happened.{Happened, Changes}
+use Rattle.pg_step.specs.PgMachine.Machine.{Event, Take, Do, happens, start_of}
+use Rattle.pg_step.specs.PgMachine.Places.{is_pair}
+use Rattle.pg_step.specs.PgMachine.Runs.{Leads}
+use Rattle.pg_step.specs.PgMachine.Timely.{IsTimely}
 use Rattle.pg_step.specs.Nodes.{Nodes, to_one}
 use Rattle.pg_step.specs.Turns.{NodeTurn}
 use Rattle.pg_step.specs.Step.{CLOCK_LIMIT, Action}
 use Rattle.pg_step.specs.Config.{Config, names_of, name_at, nodes_at}
 use Rattle.pg_step.specs.FrameMachine.{frame_machine, machine_of, FrameWorld}
 use Rattle.pg_step.proofs.Once.{clash}
-use Rattle.pg_machine.proofs.Plain.{plain_event, plain_leads}
-use Rattle.pg_machine.proofs.Sequences.{whole}
-use Rattle.pg_machine.proofs.Steps.{changes, happened, pair_apart}
-use Rattle.pg_machine.proofs.Timing.{timely_run, timely_start}
+use Rattle.pg_step.proofs.PgMachine.Plain.{plain_event, plain_leads}
+use Rattle.pg_step.proofs.PgMachine.Sequences.{whole}
+use Rattle.pg_step.proofs.PgMachine.Steps.{changes, happened, pair_apart}
+use Rattle.pg_step.proofs.PgMachine.Timing.{timely_run, timely_start}
 use Rattle.pg_history.specs.Quiet.{HasClockRoom, IsQuiet, OnlyTakes, most_takes}
 use Rattle.pg_history.specs.Reached.{TimedFrameWorld, Reaches}
 use Rattle.pg_history.proofs.ends.Apart.{pair_first, pair_second, pair_swapped}

@@ -6,14 +6,14 @@ use Rattle.std.proofs.lemmas.Bool.{cases_eq, cases_lt, le-ltb, lt-ltb}
 use Rattle.std.proofs.lemmas.Bool.Decides.{Decides-ltb}
 use Rattle.pg_term.specs.RefParts.{RefParts}
 use Rattle.pg_term.specs.Same.{same_atom}
-use Rattle.pg_group.specs.declared.update.Update.{Update}
-use Rattle.pg_group.specs.Value.{name_of}
-use Rattle.pg_message.specs.declared.message.Message.{Message}
-use Rattle.pg_machine.specs.Clocked.{Stamped, packets_of, plain}
-use Rattle.pg_machine.specs.Happened.{Changes, Happened}
-use Rattle.pg_machine.specs.Machine.{Event, Take, Do, Turn, happens, start_of}
-use Rattle.pg_machine.specs.Places.{is_pair}
-use Rattle.pg_machine.specs.Runs.{Leads}
+use Rattle.pg_step.specs.PgGroup.declared.update.Update.{Update}
+use Rattle.pg_step.specs.PgGroup.Value.{name_of}
+use Rattle.pg_step.specs.PgMessage.declared.message.Message.{Message}
+use Rattle.pg_step.specs.PgMachine.Clocked.{Stamped, packets_of, plain}
+use Rattle.pg_step.specs.PgMachine.Happened.{Changes, Happened}
+use Rattle.pg_step.specs.PgMachine.Machine.{Event, Take, Do, Turn, happens, start_of}
+use Rattle.pg_step.specs.PgMachine.Places.{is_pair}
+use Rattle.pg_step.specs.PgMachine.Runs.{Leads}
 use Rattle.pg_step.specs.declared.command.OpId.{OpId}
 use Rattle.pg_step.specs.declared.refusal.Refusal.TheVariants.{NoSuchPlace, NotWaiting}
 use Rattle.pg_step.specs.Nodes.{Nodes}
@@ -27,12 +27,12 @@ use Rattle.pg_step.specs.Step.{CLOCK_LIMIT, Action, Retry, acted}
 use Rattle.pg_step.specs.Config.{Config, names_of, name_at, nodes_at, ports_at}
 use Rattle.pg_step.specs.FrameMachine.{frame_machine, machine_of, node_step, place_turn, placed, FrameWorld}
 use Rattle.pg_step.proofs.Once.{clash}
-use Rattle.pg_machine.proofs.Options.{some_is}
-use Rattle.pg_machine.proofs.Plain.{plain_leads}
-use Rattle.pg_machine.proofs.Sequences.{whole}
-use Rattle.pg_machine.proofs.Steps.{changes, happened, pair_apart}
-use Rattle.pg_machine.proofs.Timing.{timely_run, timely_start}
-use Rattle.pg_machine.specs.Timely.{IsTimely}
+use Rattle.pg_step.proofs.PgMachine.Options.{some_is}
+use Rattle.pg_step.proofs.PgMachine.Plain.{plain_leads}
+use Rattle.pg_step.proofs.PgMachine.Sequences.{whole}
+use Rattle.pg_step.proofs.PgMachine.Steps.{changes, happened, pair_apart}
+use Rattle.pg_step.proofs.PgMachine.Timing.{timely_run, timely_start}
+use Rattle.pg_step.specs.PgMachine.Timely.{IsTimely}
 use Rattle.pg_history.specs.Counted.{is_open}
 use Rattle.pg_history.specs.History.{IsAnsweredOk, answers_by}
 use Rattle.pg_history.specs.Quiet.{HasClockRoom, IsQuiet, OnlyTakes, RetryGoes, is_waiting, peer_count}

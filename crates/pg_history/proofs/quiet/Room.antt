@@ -4,24 +4,24 @@ use Rattle.std.proofs.Common.{List, ◌∷◌, Option, Some, None, refl, ap, sym
 use Rattle.std.specs.List.{AllByRecursion}
 use Rattle.std.specs.Option.{option_map_or}
 use Rattle.std.proofs.lemmas.Bool.{cases_eq, le-leb}
-use Rattle.pg_message.specs.declared.message.Message.{Message}
-use Rattle.pg_machine.specs.Clocked.{Stamped, next_clock, packets_of, plain, clock_allows}
-use Rattle.pg_machine.specs.Happened.{Happened}
-use Rattle.pg_machine.specs.Machine.{Event, Input, Turn, Taken, Own, Take, Do, node_of}
-use Rattle.pg_machine.specs.Machine.{first_from, happens, perform, without_input}
-use Rattle.pg_machine.specs.Places.{is_pair}
-use Rattle.pg_machine.specs.Timely.{IsTimely}
+use Rattle.pg_step.specs.PgMessage.declared.message.Message.{Message}
+use Rattle.pg_step.specs.PgMachine.Clocked.{Stamped, next_clock, packets_of, plain, clock_allows}
+use Rattle.pg_step.specs.PgMachine.Happened.{Happened}
+use Rattle.pg_step.specs.PgMachine.Machine.{Event, Input, Turn, Taken, Own, Take, Do, node_of}
+use Rattle.pg_step.specs.PgMachine.Machine.{first_from, happens, perform, without_input}
+use Rattle.pg_step.specs.PgMachine.Places.{is_pair}
+use Rattle.pg_step.specs.PgMachine.Timely.{IsTimely}
 use Rattle.pg_step.specs.Step.{CLOCK_LIMIT, Action}
 use Rattle.pg_step.specs.State.{State}
 use Rattle.pg_step.specs.Turns.{Report}
 use Rattle.pg_step.specs.Config.{Config}
 use Rattle.pg_step.specs.FrameMachine.{FrameWorld, frame_machine, machine_of, node_step}
-use Rattle.pg_machine.proofs.Options.{map_is_some}
-use Rattle.pg_machine.proofs.Plain.{plain_happens}
-use Rattle.pg_machine.proofs.Steps.{happened, happens_so}
-use Rattle.pg_machine.specs.Runs.{Leads}
-use Rattle.pg_machine.proofs.Timing.{ticks}
-use Rattle.pg_machine.proofs.Timing.{timely as on_time_after}
+use Rattle.pg_step.proofs.PgMachine.Options.{map_is_some}
+use Rattle.pg_step.proofs.PgMachine.Plain.{plain_happens}
+use Rattle.pg_step.proofs.PgMachine.Steps.{happened, happens_so}
+use Rattle.pg_step.specs.PgMachine.Runs.{Leads}
+use Rattle.pg_step.proofs.PgMachine.Timing.{ticks}
+use Rattle.pg_step.proofs.PgMachine.Timing.{timely as on_time_after}
 use Rattle.pg_history.specs.Quiet.{HasClockRoom}
 use Rattle.pg_history.specs.Reached.{TimedFrameWorld}
 use Rattle.pg_history.proofs.ends.Apart.{pair_first, pair_second}

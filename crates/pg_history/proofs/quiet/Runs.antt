@@ -3,21 +3,21 @@ use Rattle.std.proofs.Common.{◌≡◌, ℕ, length, List, ◌∷◌, Some, ref
 use Rattle.std.specs.List.{AllByRecursion, IsDistinct}
 use Rattle.pg_term.specs.RefParts.{RefParts}
 use Rattle.pg_term.specs.Same.{same_atom}
-use Rattle.pg_refs.specs.Numbered.{numbered}
-use Rattle.pg_message.specs.declared.message.Message.{Message}
-use Rattle.pg_message.specs.declared.message.Message.TheVariants.{Call, Reply, DelLock, Exchange, Down}
-use Rattle.pg_message.specs.declared.message.Request.TheVariants.{SetLock, Change}
-use Rattle.pg_machine.specs.Machine.{Input, Turn, Event, Taken, Own, node_of, start_of}
-use Rattle.pg_machine.specs.Happened.{Happened}
-use Rattle.pg_machine.specs.Clocked.{plain}
-use Rattle.pg_machine.specs.Runs.{Leads}
+use Rattle.pg_step.specs.PgRefs.Numbered.{numbered}
+use Rattle.pg_step.specs.PgMessage.declared.message.Message.{Message}
+use Rattle.pg_step.specs.PgMessage.declared.message.Message.TheVariants.{Call, Reply, DelLock, Exchange, Down}
+use Rattle.pg_step.specs.PgMessage.declared.message.Request.TheVariants.{SetLock, Change}
+use Rattle.pg_step.specs.PgMachine.Machine.{Input, Turn, Event, Taken, Own, node_of, start_of}
+use Rattle.pg_step.specs.PgMachine.Happened.{Happened}
+use Rattle.pg_step.specs.PgMachine.Clocked.{plain}
+use Rattle.pg_step.specs.PgMachine.Runs.{Leads}
 use Rattle.pg_step.specs.State.{State}
 use Rattle.pg_step.specs.Turns.{Report}
 use Rattle.pg_step.specs.Step.{CLOCK_LIMIT, Action}
 use Rattle.pg_step.specs.Config.{Config, names_of, name_at, nodes_at, ports_at}
 use Rattle.pg_step.specs.FrameMachine.{node_step, machine_of, FrameWorld}
-use Rattle.pg_machine.proofs.Plain.{plain_from_start}
-use Rattle.pg_machine.proofs.Sequences.{kept}
+use Rattle.pg_step.proofs.PgMachine.Plain.{plain_from_start}
+use Rattle.pg_step.proofs.PgMachine.Sequences.{kept}
 use Rattle.pg_history.specs.Reached.{TimedFrameWorld, Reaches}
 use Rattle.pg_history.proofs.ends.Apart.{pair_second}
 use Rattle.pg_history.proofs.locks.Kept.{IsOurs}

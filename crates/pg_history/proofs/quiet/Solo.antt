@@ -7,20 +7,20 @@ use Rattle.std.proofs.lemmas.Bool.{and_from, cases_eq, eq-eqb, ne_eqb}
 use Rattle.std.proofs.lemmas.Bool.Decides.{Decides-ltb}
 use Rattle.std.proofs.lemmas.List.Elements.{Contains-append_left, Contains-push}
 use Rattle.pg_term.specs.Same.{same_atom}
-use Rattle.pg_refs.specs.Numbered.{numbered}
-use Rattle.pg_group.specs.declared.update.Update.{Update}
-use Rattle.pg_group.specs.Functions.{upd}
-use Rattle.pg_group.specs.Value.{name_of}
-use Rattle.pg_lock.specs.Locks.{is_free}
-use Rattle.pg_message.specs.declared.message.Message.{Message}
-use Rattle.pg_message.specs.declared.message.Message.TheVariants.{Call, Reply, DelLock}
-use Rattle.pg_message.specs.declared.message.Request.TheVariants.{SetLock, Change}
-use Rattle.pg_message.specs.declared.message.Said.{Said}
-use Rattle.pg_message.specs.declared.message.Said.TheVariants.{Granted, Applied}
-use Rattle.pg_multicall.specs.Gathered.{what_of}
-use Rattle.pg_machine.specs.Machine.{Take}
-use Rattle.pg_machine.specs.Happened.{Happened, Changes}
-use Rattle.pg_machine.specs.Places.{is_pair}
+use Rattle.pg_step.specs.PgRefs.Numbered.{numbered}
+use Rattle.pg_step.specs.PgGroup.declared.update.Update.{Update}
+use Rattle.pg_step.specs.PgGroup.Functions.{upd}
+use Rattle.pg_step.specs.PgGroup.Value.{name_of}
+use Rattle.pg_step.specs.PgLock.Locks.{is_free}
+use Rattle.pg_step.specs.PgMessage.declared.message.Message.{Message}
+use Rattle.pg_step.specs.PgMessage.declared.message.Message.TheVariants.{Call, Reply, DelLock}
+use Rattle.pg_step.specs.PgMessage.declared.message.Request.TheVariants.{SetLock, Change}
+use Rattle.pg_step.specs.PgMessage.declared.message.Said.{Said}
+use Rattle.pg_step.specs.PgMessage.declared.message.Said.TheVariants.{Granted, Applied}
+use Rattle.pg_step.specs.PgMulticall.Gathered.{what_of}
+use Rattle.pg_step.specs.PgMachine.Machine.{Take}
+use Rattle.pg_step.specs.PgMachine.Happened.{Happened, Changes}
+use Rattle.pg_step.specs.PgMachine.Places.{is_pair}
 use Rattle.pg_step.specs.declared.answer.Reply.TheVariants as reply
 use Rattle.pg_step.specs.declared.command.OpId.{OpId}
 use Rattle.pg_step.specs.Nodes.{Node, Nodes}
@@ -35,7 +35,7 @@ use Rattle.pg_step.specs.Attempts.{reply_by, reply_under, reply_taken, lock_entr
 use Rattle.pg_step.specs.Step.{Action, taken}
 use Rattle.pg_step.specs.Config.{Config, names_of, name_at, nodes_at}
 use Rattle.pg_step.specs.FrameMachine.{machine_of, FrameWorld}
-use Rattle.pg_machine.proofs.Steps.{changes, pair_apart}
+use Rattle.pg_step.proofs.PgMachine.Steps.{changes, pair_apart}
 use Rattle.pg_step.proofs.Once.{clash}
 use Rattle.pg_history.specs.History.{IsAnsweredOk, answer_at, answer_by, answers_by}
 use Rattle.pg_history.proofs.ends.Apart.{pair_second, pair_swapped, place_below, same_place}

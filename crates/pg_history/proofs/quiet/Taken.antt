@@ -1,15 +1,15 @@
 -- A packet that is taken: what was first on its way, and what its node made of it.
 use Rattle.std.proofs.Common.{◌≡◌, ℕ, true, cond, [], ◌∷◌, ◌++◌, Some, Ok, refl, ap, sym, ◌∙◌}
-use Rattle.pg_message.specs.declared.message.Message.{Message}
-use Rattle.pg_machine.specs.Machine.{Taken, Take, Turn, first_from}
-use Rattle.pg_machine.specs.Happened.{Happened, Changes}
+use Rattle.pg_step.specs.PgMessage.declared.message.Message.{Message}
+use Rattle.pg_step.specs.PgMachine.Machine.{Taken, Take, Turn, first_from}
+use Rattle.pg_step.specs.PgMachine.Happened.{Happened, Changes}
 use Rattle.pg_step.specs.State.{State, formed}
 use Rattle.pg_step.specs.Turns.{NodeTurn, Report}
 use Rattle.pg_step.specs.Step.{Action, taken}
 use Rattle.pg_step.specs.Config.{Config, name_at, nodes_at}
 use Rattle.pg_step.specs.FrameMachine.{node_step, machine_of, place_turn, FrameWorld}
-use Rattle.pg_machine.proofs.Options.{some_is}
-use Rattle.pg_machine.proofs.Steps.{changes}
+use Rattle.pg_step.proofs.PgMachine.Options.{some_is}
+use Rattle.pg_step.proofs.PgMachine.Steps.{changes}
 use Rattle.pg_history.proofs.places.Shown.{IsHere}
 use Rattle.pg_history.proofs.steps.Lasting.{all_stay, event_lasts}
 use Rattle.pg_history.proofs.steps.Lossless.{NobodyLost, took_all}

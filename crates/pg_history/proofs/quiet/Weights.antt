@@ -5,18 +5,18 @@ use Rattle.std.proofs.Common.{cond, nat_eq, List, [], ◌∷◌, ◌++◌, Ok, E
 use Rattle.std.proofs.lemmas.Bool.{cases_lt}
 use Rattle.pg_term.specs.RefParts.{RefParts, ref_eq}
 use Rattle.pg_term.specs.Same.{same_atom}
-use Rattle.pg_group.specs.declared.update.Update.{Update}
-use Rattle.pg_group.specs.Functions.{upd}
-use Rattle.pg_group.specs.Value.{name_of}
-use Rattle.pg_refs.specs.Numbered.{number_in}
-use Rattle.pg_lock.specs.Attempts.{after_round, does_wait}
-use Rattle.pg_message.specs.declared.message.Message.{Message}
-use Rattle.pg_message.specs.declared.message.Message.TheVariants.{Call, Reply, DelLock, Exchange, Down}
-use Rattle.pg_message.specs.declared.message.Request.TheVariants.{SetLock, Change}
-use Rattle.pg_message.specs.declared.message.Said.{Said}
-use Rattle.pg_message.specs.declared.message.Said.TheVariants.{Granted, Denied, Applied}
-use Rattle.pg_multicall.specs.Gathered.{what_of}
-use Rattle.pg_multicall.specs.declared.gather.Taken.TheVariants as what
+use Rattle.pg_step.specs.PgGroup.declared.update.Update.{Update}
+use Rattle.pg_step.specs.PgGroup.Functions.{upd}
+use Rattle.pg_step.specs.PgGroup.Value.{name_of}
+use Rattle.pg_step.specs.PgRefs.Numbered.{number_in}
+use Rattle.pg_step.specs.PgLock.Attempts.{after_round, does_wait}
+use Rattle.pg_step.specs.PgMessage.declared.message.Message.{Message}
+use Rattle.pg_step.specs.PgMessage.declared.message.Message.TheVariants.{Call, Reply, DelLock, Exchange, Down}
+use Rattle.pg_step.specs.PgMessage.declared.message.Request.TheVariants.{SetLock, Change}
+use Rattle.pg_step.specs.PgMessage.declared.message.Said.{Said}
+use Rattle.pg_step.specs.PgMessage.declared.message.Said.TheVariants.{Granted, Denied, Applied}
+use Rattle.pg_step.specs.PgMulticall.Gathered.{what_of}
+use Rattle.pg_step.specs.PgMulticall.declared.gather.Taken.TheVariants as what
 use Rattle.pg_step.specs.declared.command.OpId.{OpId}
 use Rattle.pg_step.specs.declared.refusal.Refusal.TheVariants.{NotAMessage}
 use Rattle.pg_step.specs.Nodes.{Node, Nodes, every, is_peer, to_one, to_peers}

@@ -3,10 +3,10 @@ use Rattle.std.proofs.Common.{◌≡◌, ◌≢◌, Bool, ℕ, ◌+◌, ◌<◌,
 use Rattle.std.specs.Cmp.{first_so, second_so}
 use Rattle.std.proofs.lemmas.Bool.{eq-eqb, ne_eqb, eqb-true}
 use Rattle.pg_term.specs.declared.term.Term.{Term}
-use Rattle.pg_group.specs.declared.update.Update.{Update}
-use Rattle.pg_group.specs.Functions.{upd}
-use Rattle.pg_group.specs.Value.{name_of}
-use Rattle.pg_group.proofs.Changes.{upd_at, upd_other, upd_by}
+use Rattle.pg_step.specs.PgGroup.declared.update.Update.{Update}
+use Rattle.pg_step.specs.PgGroup.Functions.{upd}
+use Rattle.pg_step.specs.PgGroup.Value.{name_of}
+use Rattle.pg_step.proofs.PgGroup.Changes.{upd_at, upd_other, upd_by}
 use Rattle.pg_step.specs.declared.command.OpId.{OpId}
 use Rattle.pg_step.specs.State.{State, Use, Stage, Status}
 use Rattle.pg_step.specs.State.Use.{Fresh, Locking, Owning, Updating, Spent}

@@ -1,12 +1,12 @@
 -- The references, commands and counts of each node belong together in each run.
 use Rattle.std.proofs.Common.{◌≡◌, ℕ, ◌+◌, nat_eq, List, refl, sym, subst, arith, Some}
 use Rattle.std.proofs.lemmas.Bool.{eq-eqb}
-use Rattle.pg_group.specs.Functions.{upd}
-use Rattle.pg_group.proofs.Changes.{upd_at}
-use Rattle.pg_message.specs.declared.message.Message.{Message}
-use Rattle.pg_machine.specs.Machine.{Input, Turn, Event, Taken, Own, node_of, start_of}
-use Rattle.pg_machine.specs.Happened.{Happened}
-use Rattle.pg_machine.specs.Clocked.{plain}
+use Rattle.pg_step.specs.PgGroup.Functions.{upd}
+use Rattle.pg_step.proofs.PgGroup.Changes.{upd_at}
+use Rattle.pg_step.specs.PgMessage.declared.message.Message.{Message}
+use Rattle.pg_step.specs.PgMachine.Machine.{Input, Turn, Event, Taken, Own, node_of, start_of}
+use Rattle.pg_step.specs.PgMachine.Happened.{Happened}
+use Rattle.pg_step.specs.PgMachine.Clocked.{plain}
 use Rattle.pg_step.specs.Nodes.{Nodes}
 use Rattle.pg_step.specs.State.{State, live_nodes}
 use Rattle.pg_step.specs.Turns.{Report}
@@ -14,8 +14,8 @@ use Rattle.pg_step.specs.Step.{CLOCK_LIMIT, Action}
 use Rattle.pg_step.specs.Commands.{next_op, count_command}
 use Rattle.pg_step.specs.Config.{Config, name_at, nodes_at, ports_at}
 use Rattle.pg_step.specs.FrameMachine.{node_step, machine_of, FrameWorld}
-use Rattle.pg_machine.proofs.Sequences.{kept}
-use Rattle.pg_machine.proofs.Plain.{plain_from_start}
+use Rattle.pg_step.proofs.PgMachine.Sequences.{kept}
+use Rattle.pg_step.proofs.PgMachine.Plain.{plain_from_start}
 use Rattle.pg_history.specs.Reached.{TimedFrameWorld, Reaches}
 use Rattle.pg_history.specs.ReferencesFit.{ReferencesFit}
 use Rattle.pg_history.proofs.steps.Single.{AnyUpdate, OfSingle, acted_so, taken_so}

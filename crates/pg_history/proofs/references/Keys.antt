@@ -6,7 +6,7 @@ use Rattle.std.proofs.lemmas.Bool.{eqb-true, eq-eqb}
 use Rattle.pg_term.specs.Same.{same_atom, same_term}
 use Rattle.pg_term.specs.contracts.term.TermEq.TheImpl.Laws as term_laws
 use Rattle.pg_term.proofs.Same as decided
-use Rattle.pg_group.specs.Functions.{upd}
+use Rattle.pg_step.specs.PgGroup.Functions.{upd}
 
 -- the test says whether two keys are one
 pub record Decides {K : Type 0} (same : K → K → Bool) : Type 0 where

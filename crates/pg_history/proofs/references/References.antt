@@ -7,11 +7,11 @@ use Rattle.std.specs.Cmp.Lexicographic.{pointwise, bytes_decides}
 use Rattle.pg_term.specs.declared.term.Term.{Term}
 use Rattle.pg_term.specs.RefParts.{RefParts, ref_eq}
 use Rattle.pg_term.specs.Same.{same_atom, same_term}
-use Rattle.pg_refs.specs.Numbered.{numbered}
+use Rattle.pg_step.specs.PgRefs.Numbered.{numbered}
 use Rattle.std.proofs.lemmas.Nat.{div-add-mod'}
-use Rattle.pg_lock.specs.Locks.{Locks, held, is_holder}
-use Rattle.pg_message.specs.declared.message.Message.{Message}
-use Rattle.pg_message.specs.declared.message.Message.TheVariants.{Call, Reply, DelLock}
+use Rattle.pg_step.specs.PgLock.Locks.{Locks, held, is_holder}
+use Rattle.pg_step.specs.PgMessage.declared.message.Message.{Message}
+use Rattle.pg_step.specs.PgMessage.declared.message.Message.TheVariants.{Call, Reply, DelLock}
 use Rattle.pg_history.proofs.references.Keys.{Decides, atoms, terms, numbers, cases, differ, same_is}
 
 -- ---- references

@@ -2,22 +2,22 @@
 use Rattle.std.proofs.Common.{◌≡◌, ℕ, ◌+◌, ◌*◌, ◌<◌, ◌≤◌, Bool, true, false, cond, nat_le}
 use Rattle.std.proofs.Common.{nat_lt, Option, Some, None, Ok, Err, refl, sym, subst, arith, List}
 use Rattle.pg_term.specs.Same.{same_atom}
-use Rattle.pg_refs.specs.Numbered.{number_in}
-use Rattle.pg_group.specs.declared.update.Update.{Update}
-use Rattle.pg_group.specs.declared.update.Update.TheVariants as update
-use Rattle.pg_group.specs.Value.{name_of}
-use Rattle.pg_message.specs.declared.message.Message.{Message}
-use Rattle.pg_message.specs.declared.message.Message.TheVariants.{Call, Reply, DelLock, Exchange, Down}
-use Rattle.pg_message.specs.declared.message.Request.TheVariants.{SetLock, Change}
-use Rattle.pg_message.specs.declared.message.Said.{Said}
+use Rattle.pg_step.specs.PgRefs.Numbered.{number_in}
+use Rattle.pg_step.specs.PgGroup.declared.update.Update.{Update}
+use Rattle.pg_step.specs.PgGroup.declared.update.Update.TheVariants as update
+use Rattle.pg_step.specs.PgGroup.Value.{name_of}
+use Rattle.pg_step.specs.PgMessage.declared.message.Message.{Message}
+use Rattle.pg_step.specs.PgMessage.declared.message.Message.TheVariants.{Call, Reply, DelLock, Exchange, Down}
+use Rattle.pg_step.specs.PgMessage.declared.message.Request.TheVariants.{SetLock, Change}
+use Rattle.pg_step.specs.PgMessage.declared.message.Said.{Said}
 use Rattle.pg_step.specs.declared.command.Command.{Command}
 use Rattle.pg_step.specs.declared.command.Command.TheVariants as command
 use Rattle.pg_step.specs.declared.command.OpId.{OpId}
 use Rattle.pg_step.specs.declared.answer.Reply.{Reply as Answer}
-use Rattle.pg_machine.specs.Machine.{Input, Turn, Event, Taken, Own, node_of, start_of}
-use Rattle.pg_machine.specs.Happened.{Happened}
-use Rattle.pg_machine.specs.Clocked.{Timed, Stamped, unstamped, next_clock, timed, timed_turn}
-use Rattle.pg_lock.specs.Attempts.{after_round, does_wait}
+use Rattle.pg_step.specs.PgMachine.Machine.{Input, Turn, Event, Taken, Own, node_of, start_of}
+use Rattle.pg_step.specs.PgMachine.Happened.{Happened}
+use Rattle.pg_step.specs.PgMachine.Clocked.{Timed, Stamped, unstamped, next_clock, timed, timed_turn}
+use Rattle.pg_step.specs.PgLock.Attempts.{after_round, does_wait}
 use Rattle.pg_step.specs.Nodes.{Node, Nodes, every, greatest}
 use Rattle.pg_step.specs.State.{State, Use, Stage, live_nodes}
 use Rattle.pg_step.specs.State.Status.{Unasked}
@@ -34,8 +34,8 @@ use Rattle.pg_step.specs.Step.{CLOCK_LIMIT, Action, Issue, Retry, taken, acted}
 use Rattle.pg_step.specs.declared.refusal.Refusal.TheVariants.{NotAMessage, NoSuchPlace, NotWaiting}
 use Rattle.pg_step.specs.Config.{Config, name_at, nodes_at, ports_at}
 use Rattle.pg_step.specs.FrameMachine.{node_step, frame_machine}
-use Rattle.pg_machine.proofs.Options.{some_is}
-use Rattle.pg_machine.proofs.Sequences.{kept}
+use Rattle.pg_step.proofs.PgMachine.Options.{some_is}
+use Rattle.pg_step.proofs.PgMachine.Sequences.{kept}
 use Rattle.pg_history.specs.Reached.{TimedFrameWorld, Reaches}
 use Rattle.pg_history.proofs.steps.Single.{Makes, ok_is, judged}
 use Rattle.pg_history.proofs.steps.Made.{took_so, did_so}

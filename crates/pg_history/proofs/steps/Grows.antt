@@ -3,11 +3,11 @@ use Rattle.std.proofs.Common.{◌≡◌, Bool, true, false, cond, List, [], ◌�
 use Rattle.std.proofs.lemmas.List.{append_assoc}
 use Rattle.pg_term.specs.declared.term.Term.{Term}
 use Rattle.pg_term.specs.Same.{same_term}
-use Rattle.pg_group.specs.Value.{name_of}
-use Rattle.pg_message.specs.declared.message.Message.{Message}
-use Rattle.pg_machine.specs.Machine.{Event}
-use Rattle.pg_machine.specs.Clocked.{TimedWorld, plain}
-use Rattle.pg_machine.specs.Runs.{Leads}
+use Rattle.pg_step.specs.PgGroup.Value.{name_of}
+use Rattle.pg_step.specs.PgMessage.declared.message.Message.{Message}
+use Rattle.pg_step.specs.PgMachine.Machine.{Event}
+use Rattle.pg_step.specs.PgMachine.Clocked.{TimedWorld, plain}
+use Rattle.pg_step.specs.PgMachine.Runs.{Leads}
 use Rattle.pg_step.specs.State.{State}
 use Rattle.pg_step.specs.Turns.{Report}
 use Rattle.pg_step.specs.Step.{CLOCK_LIMIT, Action}
@@ -15,8 +15,8 @@ use Rattle.pg_step.specs.Config.{Config}
 use Rattle.pg_step.specs.FrameMachine.{machine_of, frame_machine, FrameWorld}
 use Rattle.pg_history.specs.History.{Entry, entry_of, entries, of_group, history}
 use Rattle.pg_history.specs.Headline.{GoesOn}
-use Rattle.pg_machine.proofs.Sequences.{tells}
-use Rattle.pg_machine.proofs.Plain.{plain_leads}
+use Rattle.pg_step.proofs.PgMachine.Sequences.{tells}
+use Rattle.pg_step.proofs.PgMachine.Plain.{plain_leads}
 
 pub entries_append : (ts us : List (ℕ × Report)) → entries (ts ++ us) ≡ entries ts ++ entries us
 entries_append [] us = refl

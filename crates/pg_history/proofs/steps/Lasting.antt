@@ -4,14 +4,14 @@ use Rattle.std.specs.Cmp.{first_so, second_so}
 use Rattle.std.specs.List.{list_all}
 use Rattle.pg_term.specs.declared.pid.Pid.{Pid}
 use Rattle.pg_term.specs.Same.{same_atom, same_pid}
-use Rattle.pg_group.proofs.Changes.{upd_by}
-use Rattle.pg_message.specs.declared.message.Message.{Message}
-use Rattle.pg_machine.specs.Clocked.{plain}
-use Rattle.pg_machine.specs.Happened.{Happened}
-use Rattle.pg_machine.specs.Machine.{Event, Input, Turn, node_of}
-use Rattle.pg_machine.specs.Runs.{Leads}
-use Rattle.pg_machine.proofs.Plain.{plain_leads}
-use Rattle.pg_machine.proofs.Sequences.{kept, tells}
+use Rattle.pg_step.proofs.PgGroup.Changes.{upd_by}
+use Rattle.pg_step.specs.PgMessage.declared.message.Message.{Message}
+use Rattle.pg_step.specs.PgMachine.Clocked.{plain}
+use Rattle.pg_step.specs.PgMachine.Happened.{Happened}
+use Rattle.pg_step.specs.PgMachine.Machine.{Event, Input, Turn, node_of}
+use Rattle.pg_step.specs.PgMachine.Runs.{Leads}
+use Rattle.pg_step.proofs.PgMachine.Plain.{plain_leads}
+use Rattle.pg_step.proofs.PgMachine.Sequences.{kept, tells}
 use Rattle.pg_step.specs.Config.{Config, nodes_at}
 use Rattle.pg_step.specs.FrameMachine.{FrameWorld, frame_machine, machine_of, node_step, place_turn}
 use Rattle.pg_step.specs.Nodes.{Node}

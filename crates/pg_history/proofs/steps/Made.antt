@@ -6,11 +6,11 @@ use Rattle.pg_term.specs.declared.pid.Pid.{Pid}
 use Rattle.pg_term.specs.Same.{same_atom, same_pid}
 use Rattle.pg_term.specs.contracts.pid.PidEq.TheImpl.Laws as pid_laws
 use Rattle.pg_term.proofs.Same.{pid_is}
-use Rattle.pg_group.proofs.Changes.{upd_at, upd_by}
-use Rattle.pg_exchange.specs.GroupList.{GroupList}
-use Rattle.pg_message.specs.declared.message.Message.{Message}
-use Rattle.pg_message.specs.declared.message.Message.TheVariants.{Call, Reply, DelLock, Exchange, Down}
-use Rattle.pg_machine.specs.Machine.{Input, Turn, Taken, Own}
+use Rattle.pg_step.proofs.PgGroup.Changes.{upd_at, upd_by}
+use Rattle.pg_step.specs.PgExchange.GroupList.{GroupList}
+use Rattle.pg_step.specs.PgMessage.declared.message.Message.{Message}
+use Rattle.pg_step.specs.PgMessage.declared.message.Message.TheVariants.{Call, Reply, DelLock, Exchange, Down}
+use Rattle.pg_step.specs.PgMachine.Machine.{Input, Turn, Taken, Own}
 use Rattle.pg_step.specs.Nodes.{Node, Nodes, is_peer, to_peers}
 use Rattle.pg_step.specs.State.{State, live_nodes}
 use Rattle.pg_step.specs.Turns.{NodeTurn, Report, becomes_and_sends}
@@ -20,9 +20,9 @@ use Rattle.pg_step.specs.declared.refusal.Refusal.{Refusal}
 use Rattle.pg_step.specs.declared.refusal.Refusal.TheVariants.{NotAMessage, NodeLost}
 use Rattle.pg_step.specs.Config.{Config, name_at, nodes_at, ports_at}
 use Rattle.pg_step.specs.FrameMachine.{place_turn, placed, node_step}
-use Rattle.pg_machine.proofs.Options.{some_is}
+use Rattle.pg_step.proofs.PgMachine.Options.{some_is}
 use Rattle.pg_step.proofs.Once.{same_is}
-use Rattle.pg_machine.specs.Places.{is_place}
+use Rattle.pg_step.specs.PgMachine.Places.{is_place}
 use Rattle.pg_history.specs.Sent.{exchange_of, exchanges_in, end_of, ends_in}
 use Rattle.pg_history.proofs.steps.Single.{Any, AnyUpdate, Makes, ok_is, acted_so, taken_so}
 use Rattle.pg_history.proofs.ends.Talk.{Talks, sent_nothing, talks_singly}

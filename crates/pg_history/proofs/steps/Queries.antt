@@ -2,11 +2,11 @@
 use Rattle.std.proofs.Common.{◌≡◌, ℕ, true, false, cond, List, [], ◌∷◌, ◌++◌, Some, refl, ap, ◌∙◌, subst}
 use Rattle.std.proofs.lemmas.Bool.{eq-eqb}
 use Rattle.std.proofs.lemmas.List.{append_assoc, append-nil}
-use Rattle.pg_machine.specs.Clocked.{plain}
-use Rattle.pg_machine.specs.Machine.{Event, Do, start_of}
-use Rattle.pg_machine.specs.Runs.{Leads}
-use Rattle.pg_machine.proofs.Plain.{plain_event, plain_leads}
-use Rattle.pg_machine.proofs.Sequences.{one_world, parts, tells}
+use Rattle.pg_step.specs.PgMachine.Clocked.{plain}
+use Rattle.pg_step.specs.PgMachine.Machine.{Event, Do, start_of}
+use Rattle.pg_step.specs.PgMachine.Runs.{Leads}
+use Rattle.pg_step.proofs.PgMachine.Plain.{plain_event, plain_leads}
+use Rattle.pg_step.proofs.PgMachine.Sequences.{one_world, parts, tells}
 use Rattle.pg_step.specs.declared.command.Command.{Command}
 use Rattle.pg_step.specs.declared.command.OpId.{OpId}
 use Rattle.pg_step.specs.Commands.{has_large_name, next_op}

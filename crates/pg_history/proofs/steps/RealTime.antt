@@ -4,12 +4,12 @@ use Rattle.std.proofs.Common.{List, [], ◌∷◌, ◌++◌, Some, None, refl, a
 use Rattle.std.proofs.lemmas.List.{append_assoc}
 use Rattle.pg_term.specs.declared.term.Term.{Term}
 use Rattle.pg_term.specs.Same.{same_term}
-use Rattle.pg_group.specs.Value.{name_of}
-use Rattle.pg_machine.specs.Clocked.{plain}
-use Rattle.pg_machine.specs.Machine.{Event, start_of}
-use Rattle.pg_machine.specs.Runs.{Leads}
-use Rattle.pg_machine.proofs.Plain.{plain_leads}
-use Rattle.pg_machine.proofs.Sequences.{one_world, parts, tells}
+use Rattle.pg_step.specs.PgGroup.Value.{name_of}
+use Rattle.pg_step.specs.PgMachine.Clocked.{plain}
+use Rattle.pg_step.specs.PgMachine.Machine.{Event, start_of}
+use Rattle.pg_step.specs.PgMachine.Runs.{Leads}
+use Rattle.pg_step.proofs.PgMachine.Plain.{plain_leads}
+use Rattle.pg_step.proofs.PgMachine.Sequences.{one_world, parts, tells}
 use Rattle.pg_step.specs.Attempts.{same_op}
 use Rattle.pg_step.specs.declared.command.Command.{Command}
 use Rattle.pg_step.specs.declared.command.OpId.{OpId}

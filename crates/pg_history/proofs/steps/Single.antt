@@ -6,18 +6,18 @@ use Rattle.pg_term.specs.declared.term.Term.{Term}
 use Rattle.pg_term.specs.declared.pid.Pid.{Pid}
 use Rattle.pg_term.specs.RefParts.{RefParts, ref_eq}
 use Rattle.pg_term.specs.Same.{same_atom}
-use Rattle.pg_group.specs.declared.update.Update.{Update}
-use Rattle.pg_group.specs.declared.update.Update.TheVariants as update
-use Rattle.pg_group.specs.Value.{name_of}
-use Rattle.pg_group.proofs.Changes.{upd_at}
-use Rattle.pg_refs.specs.Numbered.{number_in}
-use Rattle.pg_ends.specs.Numbers.{is_among}
-use Rattle.pg_exchange.specs.GroupList.{GroupList}
-use Rattle.pg_message.specs.declared.message.Message.{Message}
-use Rattle.pg_message.specs.declared.message.Message.TheVariants.{Call, Reply, DelLock, Exchange, Down}
-use Rattle.pg_message.specs.declared.message.Request.TheVariants.{SetLock, Change}
-use Rattle.pg_message.specs.declared.message.Said.{Said}
-use Rattle.pg_message.specs.declared.message.Said.TheVariants.{Applied}
+use Rattle.pg_step.specs.PgGroup.declared.update.Update.{Update}
+use Rattle.pg_step.specs.PgGroup.declared.update.Update.TheVariants as update
+use Rattle.pg_step.specs.PgGroup.Value.{name_of}
+use Rattle.pg_step.proofs.PgGroup.Changes.{upd_at}
+use Rattle.pg_step.specs.PgRefs.Numbered.{number_in}
+use Rattle.pg_step.specs.PgEnds.Numbers.{is_among}
+use Rattle.pg_step.specs.PgExchange.GroupList.{GroupList}
+use Rattle.pg_step.specs.PgMessage.declared.message.Message.{Message}
+use Rattle.pg_step.specs.PgMessage.declared.message.Message.TheVariants.{Call, Reply, DelLock, Exchange, Down}
+use Rattle.pg_step.specs.PgMessage.declared.message.Request.TheVariants.{SetLock, Change}
+use Rattle.pg_step.specs.PgMessage.declared.message.Said.{Said}
+use Rattle.pg_step.specs.PgMessage.declared.message.Said.TheVariants.{Applied}
 use Rattle.pg_step.specs.declared.command.Command.{Command}
 use Rattle.pg_step.specs.declared.command.Command.TheVariants as command
 use Rattle.pg_step.specs.declared.command.OpId.{OpId}
@@ -25,10 +25,10 @@ use Rattle.pg_step.specs.declared.answer.Odd.{Odd}
 use Rattle.pg_step.specs.declared.answer.Odd.TheVariants.{Stranger, Double}
 use Rattle.pg_step.specs.declared.answer.Reply.{Reply as Answer}
 use Rattle.pg_step.specs.declared.answer.Reply.TheVariants as reply
-use Rattle.pg_multicall.specs.Gathered.{what_of}
-use Rattle.pg_multicall.specs.declared.gather.Taken.{Taken as Heard}
-use Rattle.pg_multicall.specs.declared.gather.Taken.TheVariants as what
-use Rattle.pg_lock.specs.Attempts.{after_round, does_wait}
+use Rattle.pg_step.specs.PgMulticall.Gathered.{what_of}
+use Rattle.pg_step.specs.PgMulticall.declared.gather.Taken.{Taken as Heard}
+use Rattle.pg_step.specs.PgMulticall.declared.gather.Taken.TheVariants as what
+use Rattle.pg_step.specs.PgLock.Attempts.{after_round, does_wait}
 use Rattle.pg_step.specs.Nodes.{Node, Nodes, every, greatest, to_peers}
 use Rattle.pg_step.specs.State.{State, Status, Use, Stage, Response, formed}
 use Rattle.pg_step.specs.State.Status.{Unasked, Asked, Yes, No}

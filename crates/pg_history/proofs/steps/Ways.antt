@@ -3,13 +3,13 @@ use Rattle.std.proofs.Common.{◌≡◌, ◌≢◌, ◌⊎◌, inl, inr, ℕ, Li
 use Rattle.std.specs.List.{AllByRecursion}
 use Rattle.std.proofs.lemmas.Bool.{cases_eq}
 use Rattle.std.proofs.lemmas.List.{append_assoc, append-nil}
-use Rattle.pg_machine.specs.Machine.{Input, Machine, Event, World, Taken, Own, Take, Do, node_of, first_from}
+use Rattle.pg_step.specs.PgMachine.Machine.{Input, Machine, Event, World, Taken, Own, Take, Do, node_of, first_from}
 use Rattle.std.specs.Cmp.{first_so}
 use Rattle.std.proofs.Common.{true}
-use Rattle.pg_machine.specs.Places.{is_place, is_pair}
-use Rattle.pg_machine.specs.Happened.{Happened, Changes}
-use Rattle.pg_machine.proofs.Options.{some_is}
-use Rattle.pg_machine.proofs.Steps.{changes}
+use Rattle.pg_step.specs.PgMachine.Places.{is_place, is_pair}
+use Rattle.pg_step.specs.PgMachine.Happened.{Happened, Changes}
+use Rattle.pg_step.proofs.PgMachine.Options.{some_is}
+use Rattle.pg_step.proofs.PgMachine.Steps.{changes}
 use Rattle.pg_history.specs.History.{all_reported}
 
 -- ---- lists

@@ -8,13 +8,13 @@ use Rattle.std.proofs.lemmas.List.{length-map}
 use Rattle.std.proofs.lemmas.Bool.Decides.{Decides-ltb}
 use Rattle.pg_term.specs.declared.term.Term.{Term}
 use Rattle.pg_term.specs.Same.{same_atom}
-use Rattle.pg_machine.specs.Places.{is_pair}
+use Rattle.pg_step.specs.PgMachine.Places.{is_pair}
 use Rattle.pg_step.specs.Nodes.{Node}
 use Rattle.pg_step.specs.State.{State, formed}
 use Rattle.pg_step.specs.Config.{Config, names_of, name_at, nodes_at}
 use Rattle.pg_history.specs.History.{known, base}
 use Rattle.pg_step.proofs.Once.{is_same, clash}
-use Rattle.pg_machine.proofs.Steps.{pair_apart}
+use Rattle.pg_step.proofs.PgMachine.Steps.{pair_apart}
 use Rattle.pg_history.proofs.ends.Apart.{name_of_place, pair_second}
 use Rattle.pg_history.proofs.tables.Values.{known_same}
 use Rattle.pg_history.proofs.tables.Tabled.{has}

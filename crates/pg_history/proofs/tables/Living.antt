@@ -3,17 +3,17 @@ use Rattle.std.proofs.Common.{◌≡◌, ℕ, Bool, true, false, cond, List, [],
 use Rattle.pg_term.specs.declared.pid.Pid.{Pid}
 use Rattle.pg_term.specs.declared.term.Term.{Term}
 use Rattle.pg_term.specs.Same.{same_pid, same_term}
-use Rattle.pg_group.specs.declared.update.Update.{Update}
-use Rattle.pg_group.specs.Functions.{upd}
-use Rattle.pg_group.specs.Value.{Value, less, name_of, NoneEnded}
-use Rattle.pg_group.specs.Table.{Table, applied, changed, exchanged, merged}
-use Rattle.pg_group.proofs.Changes.{upd_by}
-use Rattle.pg_group.proofs.Thinned.{kept as kept_applied, kept_exchanged}
-use Rattle.pg_exchange.specs.GroupList.{GroupList, all_merged}
-use Rattle.pg_message.specs.declared.message.Message.{Message}
-use Rattle.pg_machine.specs.Machine.{Input, Turn, Event, Taken, Own, node_of, start_of}
-use Rattle.pg_machine.specs.Happened.{Happened}
-use Rattle.pg_machine.specs.Clocked.{plain}
+use Rattle.pg_step.specs.PgGroup.declared.update.Update.{Update}
+use Rattle.pg_step.specs.PgGroup.Functions.{upd}
+use Rattle.pg_step.specs.PgGroup.Value.{Value, less, name_of, NoneEnded}
+use Rattle.pg_step.specs.PgGroup.Table.{Table, applied, changed, exchanged, merged}
+use Rattle.pg_step.proofs.PgGroup.Changes.{upd_by}
+use Rattle.pg_step.proofs.PgGroup.Thinned.{kept as kept_applied, kept_exchanged}
+use Rattle.pg_step.specs.PgExchange.GroupList.{GroupList, all_merged}
+use Rattle.pg_step.specs.PgMessage.declared.message.Message.{Message}
+use Rattle.pg_step.specs.PgMachine.Machine.{Input, Turn, Event, Taken, Own, node_of, start_of}
+use Rattle.pg_step.specs.PgMachine.Happened.{Happened}
+use Rattle.pg_step.specs.PgMachine.Clocked.{plain}
 use Rattle.pg_step.specs.Nodes.{Nodes}
 use Rattle.pg_step.specs.State.{State, live_nodes}
 use Rattle.pg_step.specs.Turns.{NodeTurn, Report}
@@ -21,8 +21,8 @@ use Rattle.pg_step.specs.Peers.{ended_in}
 use Rattle.pg_step.specs.Step.{CLOCK_LIMIT, Action}
 use Rattle.pg_step.specs.Config.{Config, name_at, nodes_at, ports_at}
 use Rattle.pg_step.specs.FrameMachine.{node_step, machine_of, FrameWorld}
-use Rattle.pg_machine.proofs.Sequences.{kept}
-use Rattle.pg_machine.proofs.Plain.{plain_from_start}
+use Rattle.pg_step.proofs.PgMachine.Sequences.{kept}
+use Rattle.pg_step.proofs.PgMachine.Plain.{plain_from_start}
 use Rattle.pg_history.specs.Reached.{TimedFrameWorld, Reaches}
 use Rattle.pg_history.proofs.steps.Single.{Any, AnyUpdate, OfSingle, acted_so, taken_so}
 use Rattle.pg_history.proofs.steps.Made.{took_so, did_so}

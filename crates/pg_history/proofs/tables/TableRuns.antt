@@ -6,14 +6,14 @@ use Rattle.std.proofs.lemmas.Bool.{eq-eqb, ne_eqb}
 use Rattle.std.proofs.lemmas.List.{append-nil, length-append}
 use Rattle.pg_term.specs.declared.term.Term.{Term}
 use Rattle.pg_term.specs.Same.{same_atom, same_term}
-use Rattle.pg_group.specs.declared.update.Update.{Update}
-use Rattle.pg_group.specs.Value.{name_of}
-use Rattle.pg_exchange.specs.GroupList.{GroupList}
-use Rattle.pg_message.specs.declared.message.Message.TheVariants.{Exchange}
-use Rattle.pg_machine.specs.Places.{is_place}
-use Rattle.pg_machine.specs.Machine.{Event, Taken, node_of, start_of}
-use Rattle.pg_machine.specs.Happened.{Happened}
-use Rattle.pg_machine.specs.Runs.{Leads}
+use Rattle.pg_step.specs.PgGroup.declared.update.Update.{Update}
+use Rattle.pg_step.specs.PgGroup.Value.{name_of}
+use Rattle.pg_step.specs.PgExchange.GroupList.{GroupList}
+use Rattle.pg_step.specs.PgMessage.declared.message.Message.TheVariants.{Exchange}
+use Rattle.pg_step.specs.PgMachine.Places.{is_place}
+use Rattle.pg_step.specs.PgMachine.Machine.{Event, Taken, node_of, start_of}
+use Rattle.pg_step.specs.PgMachine.Happened.{Happened}
+use Rattle.pg_step.specs.PgMachine.Runs.{Leads}
 use Rattle.pg_step.specs.Nodes.{Node}
 use Rattle.pg_step.specs.State.{formed}
 use Rattle.pg_step.specs.Turns.{NodeTurn, Report}
@@ -22,8 +22,8 @@ use Rattle.pg_step.specs.Step.{Action}
 use Rattle.pg_step.specs.Config.{Config, names_of, name_at, groups_at, nodes_at}
 use Rattle.pg_step.specs.FrameMachine.{machine_of, FrameWorld}
 use Rattle.pg_history.specs.History.{is_formed, applied_count, is_update_of, update_of, update_by, applied_by}
-use Rattle.pg_machine.proofs.Steps.{changes, happens_so}
-use Rattle.pg_machine.proofs.Sequences.{kept, whole}
+use Rattle.pg_step.proofs.PgMachine.Steps.{changes, happens_so}
+use Rattle.pg_step.proofs.PgMachine.Sequences.{kept, whole}
 use Rattle.pg_history.specs.Sent.{exchanges_in}
 use Rattle.pg_history.proofs.steps.Ways.{told_append, state_after, packet_there, pair_there}
 use Rattle.pg_history.proofs.ends.Posts.{Posted, posted_start, posted_event, taken_post}

@@ -10,13 +10,13 @@ use Rattle.pg_term.specs.declared.term.Term.{Term}
 use Rattle.pg_term.specs.Same.{same_atom, same_pid, same_term}
 use Rattle.pg_term.specs.contracts.term.TermEq.TheImpl.Laws as term_laws
 use Rattle.pg_term.proofs.Same.{same_term as term_is}
-use Rattle.pg_group.specs.declared.update.Update.{Update}
-use Rattle.pg_group.specs.Functions.{upd}
-use Rattle.pg_group.specs.Value.{Value, less, merge, name_of}
-use Rattle.pg_group.specs.Table.{Table, applied}
-use Rattle.pg_group.proofs.Changes.{upd_by}
-use Rattle.pg_machine.specs.Places.{is_place, is_pair}
-use Rattle.pg_machine.specs.Machine.{start_of}
+use Rattle.pg_step.specs.PgGroup.declared.update.Update.{Update}
+use Rattle.pg_step.specs.PgGroup.Functions.{upd}
+use Rattle.pg_step.specs.PgGroup.Value.{Value, less, merge, name_of}
+use Rattle.pg_step.specs.PgGroup.Table.{Table, applied}
+use Rattle.pg_step.proofs.PgGroup.Changes.{upd_by}
+use Rattle.pg_step.specs.PgMachine.Places.{is_place, is_pair}
+use Rattle.pg_step.specs.PgMachine.Machine.{start_of}
 use Rattle.pg_step.specs.Nodes.{Node}
 use Rattle.pg_step.specs.State.{State}
 use Rattle.pg_step.specs.Turns.{NodeTurn}
@@ -24,13 +24,13 @@ use Rattle.pg_step.specs.Peers.{exchange}
 use Rattle.pg_step.specs.Config.{Config, names_of, name_at, groups_at, first_table}
 use Rattle.pg_step.specs.FrameMachine.{machine_of}
 use Rattle.pg_history.specs.History.{replay, known, update_of}
-use Rattle.pg_machine.proofs.Steps.{pair_apart}
+use Rattle.pg_step.proofs.PgMachine.Steps.{pair_apart}
 use Rattle.pg_history.proofs.ends.Apart.{same_place, pair_first, pair_second}
 use Rattle.pg_history.proofs.tables.Applied.{Tables, Applying, EndingOne}
 use Rattle.pg_history.specs.Lasting.{with_applied}
 use Rattle.pg_history.proofs.tables.Values.{applied_less, less_one, less_nobody, replay_append}
 use Rattle.pg_history.proofs.tables.Values.{merged_told, and_one, known_more, or_false}
-use Rattle.pg_group.proofs.Merges.{less_merge}
+use Rattle.pg_step.proofs.PgGroup.Merges.{less_merge}
 
 -- whose groups a node has, by its state
 abbrev pub has : Config → ℕ → State → Node → Bool

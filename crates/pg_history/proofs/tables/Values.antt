@@ -8,14 +8,14 @@ use Rattle.pg_term.specs.declared.pid.Pid.{Pid}
 use Rattle.pg_term.specs.declared.term.Term.{Term}
 use Rattle.pg_term.specs.Same.{same_atom, same_pid}
 use Rattle.pg_term.proofs.Same.{same_term as term_is}
-use Rattle.pg_group.specs.declared.update.Update.{Update}
-use Rattle.pg_group.specs.Functions.{upd}
-use Rattle.pg_group.specs.Value.{Value, apply, less, merge, NoneEnded}
-use Rattle.pg_group.specs.Table.{Table, applied}
-use Rattle.pg_group.proofs.Merges.{merge_commutes, merge_associates, less_merge, less_apply}
-use Rattle.pg_group.proofs.Thinned.{value}
-use Rattle.pg_exchange.specs.GroupList.{GroupList, all_merged, announced_table}
-use Rattle.pg_exchange.proofs.Tables.{all_announced}
+use Rattle.pg_step.specs.PgGroup.declared.update.Update.{Update}
+use Rattle.pg_step.specs.PgGroup.Functions.{upd}
+use Rattle.pg_step.specs.PgGroup.Value.{Value, apply, less, merge, NoneEnded}
+use Rattle.pg_step.specs.PgGroup.Table.{Table, applied}
+use Rattle.pg_step.proofs.PgGroup.Merges.{merge_commutes, merge_associates, less_merge, less_apply}
+use Rattle.pg_step.proofs.PgGroup.Thinned.{value}
+use Rattle.pg_step.specs.PgExchange.GroupList.{GroupList, all_merged, announced_table}
+use Rattle.pg_step.proofs.PgExchange.Tables.{all_announced}
 use Rattle.pg_step.specs.declared.start.Start.{Start}
 use Rattle.pg_step.specs.Nodes.{Node}
 use Rattle.pg_step.specs.Config.{Config, names_of, name_at, groups_at, first_table}

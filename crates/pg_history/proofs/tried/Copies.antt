@@ -8,16 +8,16 @@ use Rattle.pg_term.specs.declared.pid.Pid.{Pid}
 use Rattle.pg_term.specs.declared.term.Term.{Term}
 use Rattle.pg_term.specs.RefParts.{RefParts}
 use Rattle.pg_term.specs.Same.{same_atom, same_term}
-use Rattle.pg_group.specs.declared.update.Update.{Update}
-use Rattle.pg_group.specs.Functions.{upd}
-use Rattle.pg_group.specs.Value.{Counts, Value, less, listed, name_of}
-use Rattle.pg_group.specs.Table.{Table, changed}
-use Rattle.pg_lock.specs.Attempts.{after_round, does_wait}
-use Rattle.pg_lock.specs.Locks.{Locks, after_ask, given_up, is_free, is_holder}
-use Rattle.pg_exchange.specs.GroupList.{GroupList}
-use Rattle.pg_message.specs.declared.message.Message.TheVariants.{Call, Reply}
-use Rattle.pg_message.specs.declared.message.Request.TheVariants.{Change}
-use Rattle.pg_message.specs.declared.message.Said.TheVariants.{Applied}
+use Rattle.pg_step.specs.PgGroup.declared.update.Update.{Update}
+use Rattle.pg_step.specs.PgGroup.Functions.{upd}
+use Rattle.pg_step.specs.PgGroup.Value.{Counts, Value, less, listed, name_of}
+use Rattle.pg_step.specs.PgGroup.Table.{Table, changed}
+use Rattle.pg_step.specs.PgLock.Attempts.{after_round, does_wait}
+use Rattle.pg_step.specs.PgLock.Locks.{Locks, after_ask, given_up, is_free, is_holder}
+use Rattle.pg_step.specs.PgExchange.GroupList.{GroupList}
+use Rattle.pg_step.specs.PgMessage.declared.message.Message.TheVariants.{Call, Reply}
+use Rattle.pg_step.specs.PgMessage.declared.message.Request.TheVariants.{Change}
+use Rattle.pg_step.specs.PgMessage.declared.message.Said.TheVariants.{Applied}
 use Rattle.pg_step.specs.declared.command.OpId.{OpId}
 use Rattle.pg_step.specs.Nodes.{Node, Nodes, all_of, to_one, to_peers}
 use Rattle.pg_step.specs.State.{State, Status, Use, formed}

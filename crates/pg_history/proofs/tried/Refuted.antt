@@ -5,18 +5,18 @@ use Rattle.pg_term.specs.declared.pid.Pid.{Pid}
 use Rattle.pg_term.specs.declared.term.Term.{Term}
 use Rattle.pg_term.specs.RefParts.{RefParts, ref_eq}
 use Rattle.pg_term.specs.Same.{same_pid, same_term}
-use Rattle.pg_refs.specs.Numbered.{numbered}
-use Rattle.pg_group.specs.declared.update.Update.{Update}
-use Rattle.pg_group.specs.declared.update.Update.TheVariants.{Create, Join}
-use Rattle.pg_group.specs.Functions.{upd}
-use Rattle.pg_group.specs.Value.{Counts, greater, name_of, nobody, NoneEnded}
-use Rattle.pg_group.specs.Table.{Table, applied, changed}
-use Rattle.pg_group.proofs.Changes.{upd_at}
-use Rattle.pg_lock.specs.Locks.{Locks, after_ask, held, is_free, is_holder}
-use Rattle.pg_message.specs.declared.message.Message.{Message}
-use Rattle.pg_message.specs.declared.message.Message.TheVariants.{Call, Reply, Exchange}
-use Rattle.pg_message.specs.declared.message.Request.TheVariants.{Change}
-use Rattle.pg_message.specs.declared.message.Said.TheVariants.{Applied, Denied}
+use Rattle.pg_step.specs.PgRefs.Numbered.{numbered}
+use Rattle.pg_step.specs.PgGroup.declared.update.Update.{Update}
+use Rattle.pg_step.specs.PgGroup.declared.update.Update.TheVariants.{Create, Join}
+use Rattle.pg_step.specs.PgGroup.Functions.{upd}
+use Rattle.pg_step.specs.PgGroup.Value.{Counts, greater, name_of, nobody, NoneEnded}
+use Rattle.pg_step.specs.PgGroup.Table.{Table, applied, changed}
+use Rattle.pg_step.proofs.PgGroup.Changes.{upd_at}
+use Rattle.pg_step.specs.PgLock.Locks.{Locks, after_ask, held, is_free, is_holder}
+use Rattle.pg_step.specs.PgMessage.declared.message.Message.{Message}
+use Rattle.pg_step.specs.PgMessage.declared.message.Message.TheVariants.{Call, Reply, Exchange}
+use Rattle.pg_step.specs.PgMessage.declared.message.Request.TheVariants.{Change}
+use Rattle.pg_step.specs.PgMessage.declared.message.Said.TheVariants.{Applied, Denied}
 use Rattle.pg_step.specs.declared.command.OpId.{OpId}
 use Rattle.pg_step.specs.Attempts.{is_complete, none_missing}
 use Rattle.pg_step.specs.Config.{Config, groups_at, name_at}

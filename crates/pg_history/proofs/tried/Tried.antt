@@ -8,19 +8,19 @@ use Rattle.pg_term.specs.declared.pid.Pid.{Pid}
 use Rattle.pg_term.specs.declared.term.Term.{Term}
 use Rattle.pg_term.specs.RefParts.{RefParts}
 use Rattle.pg_term.specs.Same.{same_atom, same_term}
-use Rattle.pg_refs.specs.Numbered.{numbered}
-use Rattle.pg_group.specs.declared.update.Update.{Update}
-use Rattle.pg_group.specs.Functions.{upd}
-use Rattle.pg_group.specs.Value.{Counts, Value, less, listed, merge}
-use Rattle.pg_group.specs.Table.{Table, merged}
-use Rattle.pg_lock.specs.Attempts.{after_round, does_wait}
-use Rattle.pg_lock.specs.Locks.{Locks, after_ask, given_up, held, is_holder}
-use Rattle.pg_exchange.specs.GroupList.{GroupList, all_merged}
-use Rattle.pg_message.specs.declared.message.Message.{Message}
-use Rattle.pg_message.specs.declared.message.Message.TheVariants.{Call}
-use Rattle.pg_message.specs.declared.message.Request.TheVariants.{SetLock}
+use Rattle.pg_step.specs.PgRefs.Numbered.{numbered}
+use Rattle.pg_step.specs.PgGroup.declared.update.Update.{Update}
+use Rattle.pg_step.specs.PgGroup.Functions.{upd}
+use Rattle.pg_step.specs.PgGroup.Value.{Counts, Value, less, listed, merge}
+use Rattle.pg_step.specs.PgGroup.Table.{Table, merged}
+use Rattle.pg_step.specs.PgLock.Attempts.{after_round, does_wait}
+use Rattle.pg_step.specs.PgLock.Locks.{Locks, after_ask, given_up, held, is_holder}
+use Rattle.pg_step.specs.PgExchange.GroupList.{GroupList, all_merged}
+use Rattle.pg_step.specs.PgMessage.declared.message.Message.{Message}
+use Rattle.pg_step.specs.PgMessage.declared.message.Message.TheVariants.{Call}
+use Rattle.pg_step.specs.PgMessage.declared.message.Request.TheVariants.{SetLock}
 use Rattle.pg_step.specs.declared.command.OpId.{OpId}
-use Rattle.pg_machine.specs.Places.{is_pair}
+use Rattle.pg_step.specs.PgMachine.Places.{is_pair}
 use Rattle.pg_step.specs.Nodes.{Node, Nodes}
 use Rattle.pg_step.specs.State.{State, Status, formed}
 use Rattle.pg_step.specs.State.Status.{Yes}

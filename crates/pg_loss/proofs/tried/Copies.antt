@@ -3,28 +3,28 @@
 use Rattle.std.specs.Prelude.{true, not, cond, [], ◌∷◌, Option, None, Result, Err, option_map}
 use Rattle.std.specs.List.{filter}
 use Rattle.pg_term.specs.Same.{same_atom}
-use Rattle.pg_group.specs.Ended.{ended_with}
-use Rattle.pg_group.specs.Functions.{upd}
-use Rattle.pg_group.specs.Table.{without_node}
-use Rattle.pg_lock.specs.Locks.{without_node as locks_without}
-use Rattle.pg_message.specs.declared.message.Message.{Message}
-use Rattle.pg_machine.specs.Losing.{LosingWorld}
-use Rattle.pg_machine.specs.Machine.{Event, Machine, happens, node_of}
-use Rattle.pg_step.specs.Commands.{ends_again, ends_unformed, ends_unmade}
-use Rattle.pg_step.specs.Commands.{has_foreign_pid, has_large_name, passes_limit}
-use Rattle.pg_step.specs.Faults.{first_that_holds}
-use Rattle.pg_step.specs.Losses.{forgets}
-use Rattle.pg_step.specs.Nodes.{Node, Nodes}
-use Rattle.pg_step.specs.State.{State, Status, live_nodes}
-use Rattle.pg_step.specs.State.Status.{Unasked}
-use Rattle.pg_step.specs.Step.{taken}
-use Rattle.pg_step.specs.Turns.{NodeTurn, becomes}
-use Rattle.pg_step.specs.declared.command.Command.{Command}
-use Rattle.pg_step.specs.declared.command_fault.CommandFault.{CommandFault}
-use Rattle.pg_step.specs.declared.command_fault.CommandFault.TheVariants.{NameTooLarge, ForeignPid, NotFormed}
-use Rattle.pg_step.specs.declared.command_fault.CommandFault.TheVariants.{NotMade, AlreadyEnded, ProcessLimit}
-use Rattle.pg_step.specs.declared.refusal.Refusal.{Refusal}
-use Rattle.pg_step.specs.declared.refusal.Refusal.TheVariants.{NodeLost}
+use Rattle.pg_history.specs.PgGroup.Ended.{ended_with}
+use Rattle.pg_history.specs.PgGroup.Functions.{upd}
+use Rattle.pg_history.specs.PgGroup.Table.{without_node}
+use Rattle.pg_history.specs.PgLock.Locks.{without_node as locks_without}
+use Rattle.pg_history.specs.PgMessage.declared.message.Message.{Message}
+use Rattle.pg_history.specs.PgMachine.Losing.{LosingWorld}
+use Rattle.pg_history.specs.PgMachine.Machine.{Event, Machine, happens, node_of}
+use Rattle.pg_history.specs.PgStep.Commands.{ends_again, ends_unformed, ends_unmade}
+use Rattle.pg_history.specs.PgStep.Commands.{has_foreign_pid, has_large_name, passes_limit}
+use Rattle.pg_history.specs.PgStep.Faults.{first_that_holds}
+use Rattle.pg_history.specs.PgStep.Losses.{forgets}
+use Rattle.pg_history.specs.PgStep.Nodes.{Node, Nodes}
+use Rattle.pg_history.specs.PgStep.State.{State, Status, live_nodes}
+use Rattle.pg_history.specs.PgStep.State.Status.{Unasked}
+use Rattle.pg_history.specs.PgStep.Step.{taken}
+use Rattle.pg_history.specs.PgStep.Turns.{NodeTurn, becomes}
+use Rattle.pg_history.specs.PgStep.declared.command.Command.{Command}
+use Rattle.pg_history.specs.PgStep.declared.command_fault.CommandFault.{CommandFault}
+use Rattle.pg_history.specs.PgStep.declared.command_fault.CommandFault.TheVariants.{NameTooLarge, ForeignPid, NotFormed}
+use Rattle.pg_history.specs.PgStep.declared.command_fault.CommandFault.TheVariants.{NotMade, AlreadyEnded, ProcessLimit}
+use Rattle.pg_history.specs.PgStep.declared.refusal.Refusal.{Refusal}
+use Rattle.pg_history.specs.PgStep.declared.refusal.Refusal.TheVariants.{NodeLost}
 
 -- a loss is seen
 abbrev pub copied_see_loss : Node → State → NodeTurn

@@ -7,14 +7,14 @@ use Rattle.pg_term.specs.declared.term.Term.{Term}
 use Rattle.pg_term.specs.RefParts.{RefParts}
 use Rattle.pg_term.specs.Same.{same_atom, same_pid}
 use Rattle.pg_term.specs.contracts.pid.PidEq.TheImpl.Laws as pid_laws
-use Rattle.pg_group.specs.Functions.{upd}
-use Rattle.pg_group.proofs.Changes.{upd_at}
-use Rattle.pg_ends.specs.Numbers.{is_among}
-use Rattle.pg_step.specs.Attempts.{is_asked, none_missing}
-use Rattle.pg_step.specs.Nodes.{Node}
-use Rattle.pg_step.specs.Peers.{ended_in}
-use Rattle.pg_step.specs.State.{State, Status}
-use Rattle.pg_step.specs.State.Status.{Asked, Unasked, Yes}
+use Rattle.pg_history.specs.PgGroup.Functions.{upd}
+use Rattle.pg_history.proofs.PgGroup.Changes.{upd_at}
+use Rattle.pg_history.specs.PgEnds.Numbers.{is_among}
+use Rattle.pg_history.specs.PgStep.Attempts.{is_asked, none_missing}
+use Rattle.pg_history.specs.PgStep.Nodes.{Node}
+use Rattle.pg_history.specs.PgStep.Peers.{ended_in}
+use Rattle.pg_history.specs.PgStep.State.{State, Status}
+use Rattle.pg_history.specs.PgStep.State.Status.{Asked, Unasked, Yes}
 use Rattle.pg_history.proofs.quiet.Weights.{status_weight}
 use Rattle.pg_history.proofs.references.Keys.{atoms, read_at, same_is}
 use Rattle.pg_loss.proofs.Tabled.{HasEndedLost}

@@ -5,20 +5,20 @@ use Rattle.std.specs.Prelude.{option_map}
 use Rattle.std.specs.List.{list_all}
 use Rattle.pg_term.specs.declared.pid.Pid.{Pid}
 use Rattle.pg_term.specs.Same.{same_atom}
-use Rattle.pg_group.specs.Functions.{upd}
-use Rattle.pg_group.specs.Scope.{at_node}
-use Rattle.pg_group.proofs.Changes.{upd_other}
-use Rattle.pg_ends.specs.Numbers.{is_among}
-use Rattle.pg_message.specs.declared.message.Message.{Message}
-use Rattle.pg_machine.specs.Losing.{LosingWorld}
-use Rattle.pg_machine.specs.Machine.{Event, Machine, happens, node_of}
-use Rattle.pg_step.specs.Nodes.{Node, Nodes}
-use Rattle.pg_step.specs.State.{State, Status, formed, live_nodes}
-use Rattle.pg_step.specs.State.Status.{Unasked}
-use Rattle.pg_step.specs.Step.{taken}
-use Rattle.pg_step.specs.Turns.{NodeTurn}
-use Rattle.pg_step.specs.declared.command.Command.TheVariants.{Finish}
-use Rattle.pg_step.specs.declared.refusal.Refusal.TheVariants.{NodeLost}
+use Rattle.pg_history.specs.PgGroup.Functions.{upd}
+use Rattle.pg_history.specs.PgGroup.Scope.{at_node}
+use Rattle.pg_history.proofs.PgGroup.Changes.{upd_other}
+use Rattle.pg_history.specs.PgEnds.Numbers.{is_among}
+use Rattle.pg_history.specs.PgMessage.declared.message.Message.{Message}
+use Rattle.pg_history.specs.PgMachine.Losing.{LosingWorld}
+use Rattle.pg_history.specs.PgMachine.Machine.{Event, Machine, happens, node_of}
+use Rattle.pg_history.specs.PgStep.Nodes.{Node, Nodes}
+use Rattle.pg_history.specs.PgStep.State.{State, Status, formed, live_nodes}
+use Rattle.pg_history.specs.PgStep.State.Status.{Unasked}
+use Rattle.pg_history.specs.PgStep.Step.{taken}
+use Rattle.pg_history.specs.PgStep.Turns.{NodeTurn}
+use Rattle.pg_history.specs.PgStep.declared.command.Command.TheVariants.{Finish}
+use Rattle.pg_history.specs.PgStep.declared.refusal.Refusal.TheVariants.{NodeLost}
 use Rattle.pg_history.proofs.quiet.Weights.{status_weight}
 use Rattle.pg_history.proofs.references.Keys.{atoms, read_other, split}
 use Rattle.pg_history.proofs.references.Keys.{upd_other as upd_not, upd_same}

@@ -2,18 +2,15 @@
 
 ghost use Rattle.std.specs.Prelude.{◌≡◌, ◌≤◌, ◌+◌, ◌^◌, true, false, length};
 ghost use Rattle.std.specs.Prelude.{take, min, Some, Ok, Err, IfOk, IfErr, IfSome, OnOk, OnErr};
-ghost use Rattle.pg_writer.specs.declared.size.TheConstants.{MAX_SMALL_LEN};
+ghost use Rattle.pg_replica.specs.PgWriter.declared.size.TheConstants.{MAX_SMALL_LEN};
 ghost use Rattle.pg_node.specs.Bytes.{damages};
 
 use bytes::BytesMut;
-use pg_frame::Deframer;
-use pg_message::Packet;
-use pg_node_state::NodeFault;
-use pg_reader::{OwnReply, read_own_reply, read_packet};
+use pg_replica::{
+    Deframer, MAX_SMALL_LEN, NodeFault, OwnReply, Packet, Refusal, read_own_reply, read_packet,
+};
 use pg_ring::{Inlet, Link};
-use pg_step::Refusal;
 use pg_term::Atom;
-use pg_writer::MAX_SMALL_LEN;
 use std::alloc::{AllocError, Global};
 
 /// What came in from a peer and what goes out to it.
@@ -28,10 +25,10 @@ pub(crate) struct Wire {
 }
 
 impl Wire {
-    ghost use Rattle.pg_message.specs.Members.{IsShort};
-    ghost use Rattle.pg_node_state.specs.declared.state.fault.NodeFault.TheVariants.{Damaged, OutOfMemory};
+    ghost use Rattle.pg_replica.specs.PgMessage.Members.{IsShort};
+    ghost use Rattle.pg_replica.specs.PgNodeState.declared.state.fault.NodeFault.TheVariants.{Damaged, OutOfMemory};
     ghost use Rattle.pg_node.specs.Links.{idle_link, link_of, with_more, with_fed, without_front, HasFrameRoom};
-    ghost use Rattle.pg_reader.specs.Own.{own_reply};
+    ghost use Rattle.pg_replica.specs.PgReader.Own.{own_reply};
     ghost use Rattle.pg_node.specs.Bytes.{next_packet, ReadsNext, marked, passed, closed, is_drained, is_idle};
 
     /// A link where nothing came in and nothing goes out. It takes no memory yet.

@@ -1,19 +1,17 @@
 //! How a command is counted at its port, and answered.
 
 ghost use Rattle.std.specs.Prelude.{◌<◌, IfOk};
-ghost use Rattle.pg_step.specs.State.{Response};
+ghost use Rattle.pg_ports.specs.PgStep.State.{Response};
 
 use crate::state::NodeState;
-use pg_group::GroupTable;
-use pg_ports::{give, reserve_answer};
+use pg_ports::{GroupTable, Reply, give, reserve_answer};
 use pg_sends::{Done, Outgoing};
-use pg_step::Reply;
 use std::alloc::AllocError;
 
 impl<T: GroupTable + Drop> NodeState<T> {
-    ghost use Rattle.pg_opens.specs.Places.{name_at};
-    ghost use Rattle.pg_step.specs.Commands.{Answers, answer};
-    ghost use Rattle.pg_step.specs.Step.{at_clock};
+    ghost use Rattle.pg_ports.specs.PgOpens.Places.{name_at};
+    ghost use Rattle.pg_ports.specs.PgStep.Commands.{Answers, answer};
+    ghost use Rattle.pg_ports.specs.PgStep.Step.{at_clock};
     ghost use Rattle.pg_node_state.specs.Clocks.{IsNow};
     ghost use Rattle.pg_node_state.specs.Issued.{op_issued, ports_of};
     ghost use Rattle.pg_node_state.specs.States.{Stays};

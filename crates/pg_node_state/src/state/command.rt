@@ -1,23 +1,20 @@
 //! What a node makes of a command.
 
 ghost use Rattle.std.specs.Prelude.{◌≡◌, ◌<◌, ◌+◌, true, None, IfOk};
-ghost use Rattle.pg_message.specs.declared.packet.TheConstants.{MAX_STAMP};
+ghost use Rattle.pg_ports.specs.PgMessage.declared.packet.TheConstants.{MAX_STAMP};
 
 use crate::state::{NodeFault, NodeState};
 use bytes::BytesMut;
-use pg_group::GroupTable;
-use pg_message::MAX_STAMP;
-use pg_ports::query_reply;
+use pg_ports::{Command, GroupTable, MAX_STAMP, Refusal, Reply, query_reply};
 use pg_sends::{Done, Outgoing};
-use pg_step::{Command, Refusal, Reply};
 use std::alloc::AllocError;
 
 impl<T: GroupTable + Drop> NodeState<T> {
-    ghost use Rattle.pg_step.specs.Commands.{carried_out, fault_of, answer};
-    ghost use Rattle.pg_step.specs.Commands as commands;
-    ghost use Rattle.pg_step.specs.State.Response.{Read};
-    ghost use Rattle.pg_step.specs.StepLaws.{is_query};
-    ghost use Rattle.pg_step.specs.Step.{Issue, step_act, at_clock};
+    ghost use Rattle.pg_ports.specs.PgStep.Commands.{carried_out, fault_of, answer};
+    ghost use Rattle.pg_ports.specs.PgStep.Commands as commands;
+    ghost use Rattle.pg_ports.specs.PgStep.State.Response.{Read};
+    ghost use Rattle.pg_ports.specs.PgStep.StepLaws.{is_query};
+    ghost use Rattle.pg_ports.specs.PgStep.Step.{Issue, step_act, at_clock};
     ghost use Rattle.pg_node_state.specs.Clocks.{IsNow};
     ghost use Rattle.pg_node_state.specs.Issued.{op_issued, ports_of};
     ghost use Rattle.pg_sends.specs.Sendable.{AreSendable};

@@ -6,20 +6,15 @@ ghost use Rattle.std.specs.Option.{option_copied};
 ghost use Rattle.pg_term.specs.Same.{same_atom};
 ghost use Rattle.pg_term.specs.declared.pid.Pid.{Pid};
 ghost use Rattle.pg_term.specs.declared.term.Term.{Term};
-ghost use Rattle.pg_group.specs.Value.{count_in};
-ghost use Rattle.pg_ends.specs.Numbers.{ended_among};
-ghost use Rattle.pg_ends.specs.declared.processes.TheConstants.{MAX_PROCESSES};
+ghost use Rattle.pg_ports.specs.PgGroup.Value.{count_in};
+ghost use Rattle.pg_ports.specs.PgEnds.Numbers.{ended_among};
+ghost use Rattle.pg_ports.specs.PgEnds.declared.processes.TheConstants.{MAX_PROCESSES};
 
 use crate::state::NodeState;
-use pg_ends::Processes;
-use pg_exchange::Formation;
-use pg_group::{Ended, GroupTable};
-use pg_lock::LockTable;
-use pg_message::Packet;
-use pg_opens::Opens;
-use pg_ports::idle_ports;
+use pg_ports::{
+    Answer, Ended, Formation, GroupTable, LockTable, OpId, Opens, Packet, Processes, idle_ports,
+};
 use pg_sends::opening;
-use pg_step::{Answer, OpId};
 use pg_term::{Atom, Pid, Reference, Term};
 use std::alloc::{AllocError, Global};
 
@@ -36,8 +31,8 @@ pub struct NodeConfig {
     pub ports: u16,
 }
 
-ghost use Rattle.pg_opens.specs.Places.{name_at};
-ghost use Rattle.pg_step.specs.State.{new_state, formed};
+ghost use Rattle.pg_ports.specs.PgOpens.Places.{name_at};
+ghost use Rattle.pg_ports.specs.PgStep.State.{new_state, formed};
 ghost use Rattle.pg_node_state.specs.Issued.{ports_of};
 ghost use Rattle.pg_sends.specs.Opening.{Announces};
 ghost use Rattle.pg_node_state.specs.States.{names_of, nodes_of, live_of, kept_by, state_of, answers_of};

@@ -1,19 +1,17 @@
 //! What a node makes of a reply that is read as numbers.
 
 ghost use Rattle.std.specs.Prelude.{◌≡◌, ◌≢◌, ◌<◌, ◌+◌, true, Err, IfOk, length};
-ghost use Rattle.pg_message.specs.declared.message.Message.TheVariants as messages;
+ghost use Rattle.pg_ports.specs.PgMessage.declared.message.Message.TheVariants as messages;
 
 use crate::state::{NodeFault, NodeState};
 use bytes::BytesMut;
-use pg_group::GroupTable;
-use pg_message::{MAX_STAMP, Said};
+use pg_ports::{GroupTable, MAX_STAMP, Refusal, Said};
 use pg_sends::{Done, Outgoing};
-use pg_step::Refusal;
 
 impl<T: GroupTable + Drop> NodeState<T> {
-    ghost use Rattle.pg_refs.specs.Numbered.{numbered};
-    ghost use Rattle.pg_opens.specs.Places.{name_at};
-    ghost use Rattle.pg_step.specs.Step.{step_take};
+    ghost use Rattle.pg_ports.specs.PgRefs.Numbered.{numbered};
+    ghost use Rattle.pg_ports.specs.PgOpens.Places.{name_at};
+    ghost use Rattle.pg_ports.specs.PgStep.Step.{step_take};
     ghost use Rattle.pg_node_state.specs.declared.state.fault.NodeFault.TheVariants.{OutOfMemory};
     ghost use Rattle.pg_node_state.specs.States.{Stays};
     ghost use Rattle.pg_node_state.specs.States.{names_of, nodes_of, live_of, kept_by, state_of};

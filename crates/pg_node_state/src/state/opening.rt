@@ -1,12 +1,11 @@
 //! What a node announces as it begins.
 
 ghost use Rattle.std.specs.Prelude.{IfOk};
-ghost use Rattle.pg_opens.specs.Places.{name_at};
+ghost use Rattle.pg_ports.specs.PgOpens.Places.{name_at};
 ghost use Rattle.pg_sends.specs.Opening.{IsAnnouncement};
 
 use crate::state::NodeState;
-use pg_group::GroupTable;
-use pg_message::Packet;
+use pg_ports::{GroupTable, Packet};
 use pg_sends::announced;
 use std::alloc::AllocError;
 

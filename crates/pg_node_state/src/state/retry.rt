@@ -1,20 +1,17 @@
 //! How a command that waits is tried again.
 
 ghost use Rattle.std.specs.Prelude.{◌≡◌, ◌<◌, IfOk};
-ghost use Rattle.pg_message.specs.declared.packet.TheConstants.{MAX_STAMP};
+ghost use Rattle.pg_ports.specs.PgMessage.declared.packet.TheConstants.{MAX_STAMP};
 
 use crate::state::{NodeFault, NodeState};
 use bytes::BytesMut;
-use pg_group::GroupTable;
-use pg_message::MAX_STAMP;
-use pg_opens::{Gathering, Stage};
+use pg_ports::{Gathering, GroupTable, MAX_STAMP, OpId, Refusal, Stage};
 use pg_sends::{Done, Outgoing};
-use pg_step::{OpId, Refusal};
 use std::alloc::AllocError;
 
 impl<T: GroupTable + Drop> NodeState<T> {
-    ghost use Rattle.pg_step.specs.Attempts.{go_on, replies_in, tried_again, is_complete};
-    ghost use Rattle.pg_step.specs.Step.{Retry, at_clock, step_act};
+    ghost use Rattle.pg_ports.specs.PgStep.Attempts.{go_on, replies_in, tried_again, is_complete};
+    ghost use Rattle.pg_ports.specs.PgStep.Step.{Retry, at_clock, step_act};
     ghost use Rattle.pg_node_state.specs.Clocks.{IsNow};
     ghost use Rattle.pg_node_state.specs.Issued.{ports_of};
     ghost use Rattle.pg_sends.specs.Sendable.{AreSendable};

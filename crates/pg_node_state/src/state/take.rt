@@ -1,20 +1,18 @@
 //! What a node makes of a packet.
 
 ghost use Rattle.std.specs.Prelude.{◌≡◌, ◌≢◌, ◌<◌, ◌+◌, ◌^◌, true, Err, IfOk, length};
-ghost use Rattle.pg_message.specs.Members.{IsShort, HasFewMembers};
-ghost use Rattle.pg_message.specs.declared.packet.TheConstants.{MAX_STAMP};
+ghost use Rattle.pg_ports.specs.PgMessage.Members.{IsShort, HasFewMembers};
+ghost use Rattle.pg_ports.specs.PgMessage.declared.packet.TheConstants.{MAX_STAMP};
 
 use crate::state::{NodeFault, NodeState};
 use bytes::BytesMut;
-use pg_group::GroupTable;
-use pg_message::{MAX_STAMP, Message, Packet, Request};
+use pg_ports::{GroupTable, MAX_STAMP, Message, Packet, Refusal, Request};
 use pg_sends::{Done, Outgoing};
-use pg_step::Refusal;
 use pg_term::{Atom, Items, Pid, Term};
 
 impl<T: GroupTable + Drop> NodeState<T> {
-    ghost use Rattle.pg_opens.specs.Places.{name_at};
-    ghost use Rattle.pg_step.specs.Step.{step_take};
+    ghost use Rattle.pg_ports.specs.PgOpens.Places.{name_at};
+    ghost use Rattle.pg_ports.specs.PgStep.Step.{step_take};
     ghost use Rattle.pg_node_state.specs.declared.state.fault.NodeFault.TheVariants.{OutOfMemory};
     ghost use Rattle.pg_node_state.specs.States.{Stays};
     ghost use Rattle.pg_node_state.specs.States.{names_of, nodes_of, live_of, kept_by, state_of};

@@ -1,37 +1,35 @@
 //! What follows once answers to a command of the node are in.
 
 ghost use Rattle.std.specs.Prelude.{◌≡◌, ◌<◌, ◌+◌, Bool, true, false, IfOk};
-ghost use Rattle.pg_group.specs.declared.update.Update.{Update};
-ghost use Rattle.pg_group.specs.Value.{name_of};
-ghost use Rattle.pg_opens.specs.Outlooks.{turn_by};
-ghost use Rattle.pg_opens.specs.Readings.{is_locking};
-ghost use Rattle.pg_opens.specs.declared.outlook.Outlook.TheVariants as outlooks;
-ghost use Rattle.pg_step.specs.declared.command.OpId.{OpId};
-ghost use Rattle.pg_step.specs.Nodes.{Node, is_peer};
-ghost use Rattle.pg_step.specs.Peers.{would_grant};
-ghost use Rattle.pg_step.specs.State.{Status};
-ghost use Rattle.pg_step.specs.State.Use.{Locking, Updating};
+ghost use Rattle.pg_ports.specs.PgGroup.declared.update.Update.{Update};
+ghost use Rattle.pg_ports.specs.PgGroup.Value.{name_of};
+ghost use Rattle.pg_ports.specs.PgOpens.Outlooks.{turn_by};
+ghost use Rattle.pg_ports.specs.PgOpens.Readings.{is_locking};
+ghost use Rattle.pg_ports.specs.PgOpens.declared.outlook.Outlook.TheVariants as outlooks;
+ghost use Rattle.pg_ports.specs.PgStep.declared.command.OpId.{OpId};
+ghost use Rattle.pg_ports.specs.PgStep.Nodes.{Node, is_peer};
+ghost use Rattle.pg_ports.specs.PgStep.Peers.{would_grant};
+ghost use Rattle.pg_ports.specs.PgStep.State.{Status};
+ghost use Rattle.pg_ports.specs.PgStep.State.Use.{Locking, Updating};
 
 use crate::state::NodeState;
 use bytes::BytesMut;
-use pg_group::GroupTable;
-use pg_marks::Asked;
-use pg_opens::{Outlook, steps_go_by_outlook};
-use pg_ports::{keep_reserved, reserve_answer};
+use pg_ports::{
+    Asked, GroupTable, OpId, Outlook, Reply, keep_reserved, reserve_answer, steps_go_by_outlook,
+};
 use pg_sends::{
     Done, Outgoing, apply_own, ask_own, asked, begun, ended, free_own, freed, give_up_own,
     has_peer, own_under, update_under,
 };
-use pg_step::{OpId, Reply};
 use pg_term::equality;
 use std::alloc::AllocError;
 
 impl<T: GroupTable + Drop> NodeState<T> {
-    ghost use Rattle.pg_opens.specs.Readings.{gathering_of};
-    ghost use Rattle.pg_opens.specs.declared.command.Gathering.TheVariants as gatherings;
-    ghost use Rattle.pg_step.specs.Attempts.{ask, begin, finish, give_up, go_on};
-    ghost use Rattle.pg_step.specs.Step.{at_clock};
-    ghost use Rattle.pg_step.specs.Turns.{becomes};
+    ghost use Rattle.pg_ports.specs.PgOpens.Readings.{gathering_of};
+    ghost use Rattle.pg_ports.specs.PgOpens.declared.command.Gathering.TheVariants as gatherings;
+    ghost use Rattle.pg_ports.specs.PgStep.Attempts.{ask, begin, finish, give_up, go_on};
+    ghost use Rattle.pg_ports.specs.PgStep.Step.{at_clock};
+    ghost use Rattle.pg_ports.specs.PgStep.Turns.{becomes};
     ghost use Rattle.pg_node_state.specs.Clocks.{IsNow};
     ghost use Rattle.pg_node_state.specs.Issued.{ports_of};
     ghost use Rattle.pg_node_state.specs.States.{Stays};

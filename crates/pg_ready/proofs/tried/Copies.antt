@@ -2,13 +2,13 @@
 -- of it is proved in `Tried`.
 use Rattle.std.specs.Prelude.{ℕ, Bool, false, not, cond}
 use Rattle.pg_term.specs.Same.{same_atom}
-use Rattle.pg_group.specs.Functions.{upd}
-use Rattle.pg_step.specs.Attempts.{finish, is_asked}
-use Rattle.pg_step.specs.Nodes.{Node, Nodes, every}
-use Rattle.pg_step.specs.State.{State, Use}
-use Rattle.pg_step.specs.State.Status.{Unasked}
-use Rattle.pg_step.specs.State.Use.{Locking, Updating}
-use Rattle.pg_step.specs.Turns.{NodeTurn, becomes}
+use Rattle.pg_left.specs.PgGroup.Functions.{upd}
+use Rattle.pg_left.specs.PgStep.Attempts.{finish, is_asked}
+use Rattle.pg_left.specs.PgStep.Nodes.{Node, Nodes, every}
+use Rattle.pg_left.specs.PgStep.State.{State, Use}
+use Rattle.pg_left.specs.PgStep.State.Status.{Unasked}
+use Rattle.pg_left.specs.PgStep.State.Use.{Locking, Updating}
+use Rattle.pg_left.specs.PgStep.Turns.{NodeTurn, becomes}
 
 -- all has come that a reference gathers
 abbrev pub copied_complete : Nodes → Use → Bool

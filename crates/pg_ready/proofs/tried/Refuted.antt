@@ -3,16 +3,16 @@ use Rattle.std.proofs.Common.{◌≡◌, ℕ, Bool, true, false, not, ◌&&◌, 
 use Rattle.std.specs.Cmp.{first_so, second_so}
 use Rattle.std.specs.List.{list_all}
 use Rattle.pg_term.specs.Same.{same_term}
-use Rattle.pg_group.specs.declared.update.Update.{Update}
-use Rattle.pg_group.specs.Value.{name_of}
-use Rattle.pg_lock.specs.Locks.{Locks, given_up, held, is_holder}
-use Rattle.pg_step.specs.Attempts.{finish, is_asked, is_unasked, own_reference}
-use Rattle.pg_step.specs.Nodes.{Node, Nodes, every}
-use Rattle.pg_step.specs.State.{State, Status}
-use Rattle.pg_step.specs.State.Status.{Unasked}
-use Rattle.pg_step.specs.declared.command.OpId.{OpId}
-use Rattle.pg_history.proofs.references.Keys.{terms}
-use Rattle.pg_history.proofs.references.References.{numbered_same}
+use Rattle.pg_left.specs.PgGroup.declared.update.Update.{Update}
+use Rattle.pg_left.specs.PgGroup.Value.{name_of}
+use Rattle.pg_left.specs.PgLock.Locks.{Locks, given_up, held, is_holder}
+use Rattle.pg_left.specs.PgStep.Attempts.{finish, is_asked, is_unasked, own_reference}
+use Rattle.pg_left.specs.PgStep.Nodes.{Node, Nodes, every}
+use Rattle.pg_left.specs.PgStep.State.{State, Status}
+use Rattle.pg_left.specs.PgStep.State.Status.{Unasked}
+use Rattle.pg_left.specs.PgStep.declared.command.OpId.{OpId}
+use Rattle.pg_left.proofs.PgHistory.references.Keys.{terms}
+use Rattle.pg_left.proofs.PgHistory.references.References.{numbered_same}
 
 -- a node that was never asked is waited for: the retry is refused each time
 pub unasked_missed : (own peer : Node) (st : Node → Status) → st peer ≡ Unasked

@@ -4,16 +4,16 @@ use Rattle.std.proofs.Common.{Some, refl, ap, sym, ◌∙◌}
 use Rattle.std.specs.List.{list_all, list_any}
 use Rattle.std.proofs.lemmas.Bool.{and_from}
 use Rattle.pg_term.specs.Same.{same_atom}
-use Rattle.pg_group.specs.declared.update.Update.{Update}
-use Rattle.pg_step.specs.Attempts.{finish, is_asked}
-use Rattle.pg_step.specs.Nodes.{Node, Nodes, all_of, every, is_node}
-use Rattle.pg_step.specs.State.{State, Status}
-use Rattle.pg_step.specs.State.Status.{Unasked}
-use Rattle.pg_step.specs.State.Use.{Locking, Updating}
-use Rattle.pg_step.specs.Turns.{becomes}
-use Rattle.pg_step.specs.declared.command.OpId.{OpId}
-use Rattle.pg_group.specs.Functions.{upd}
-use Rattle.pg_history.proofs.references.Keys.{atoms, at_upd, upd_other}
+use Rattle.pg_left.specs.PgGroup.declared.update.Update.{Update}
+use Rattle.pg_left.specs.PgStep.Attempts.{finish, is_asked}
+use Rattle.pg_left.specs.PgStep.Nodes.{Node, Nodes, all_of, every, is_node}
+use Rattle.pg_left.specs.PgStep.State.{State, Status}
+use Rattle.pg_left.specs.PgStep.State.Status.{Unasked}
+use Rattle.pg_left.specs.PgStep.State.Use.{Locking, Updating}
+use Rattle.pg_left.specs.PgStep.Turns.{becomes}
+use Rattle.pg_left.specs.PgStep.declared.command.OpId.{OpId}
+use Rattle.pg_left.specs.PgGroup.Functions.{upd}
+use Rattle.pg_left.proofs.PgHistory.references.Keys.{atoms, at_upd, upd_other}
 use Rattle.pg_ready.proofs.tried.Copies.{copied_complete, copied_forgets, copied_replies_in}
 
 all_pass : (test : Node → Bool) → ((q : Node) → test q ≡ true) → (xs : List Node) → list_all test xs ≡ true

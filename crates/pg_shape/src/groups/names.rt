@@ -3,16 +3,15 @@
 ghost use Rattle.std.specs.Prelude.{◌≡◌, ◌<◌, ◌≤◌, ℕ, List, [], length, true, false};
 ghost use Rattle.std.specs.Prelude.{Ok, Some, None, IfOk, IfSome, MatchOption};
 ghost use Rattle.pg_term.specs.declared.term.Term.{Term};
-ghost use Rattle.pg_term_io.specs.Reading.{item_at};
+ghost use Rattle.pg_message.specs.PgTermIo.Reading.{item_at};
 ghost use Rattle.pg_message.specs.Groups.{IsNamed};
 ghost use Rattle.pg_message.specs.Name.{is_name};
 ghost use Rattle.pg_message.specs.Reading.{group_of, groups_of};
 
 use crate::groups::{is_list, past_members};
 use crate::shape::{is_atom, past_name};
-use pg_message::is_name;
+use pg_message::{NextElement, decode_item, is_name, next_element};
 use pg_term::{Term, TermFault};
-use pg_term_io::{NextElement, decode_item, next_element};
 use std::alloc::{AllocError, Global};
 use std::cmp::Ordering;
 use std::collections::BTreeSet;

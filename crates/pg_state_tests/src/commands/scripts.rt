@@ -1,8 +1,7 @@
 use crate::commands::sights::Sight::{self, *};
 use crate::commands::steps::Step::{self, *};
-use pg_multicall::Taken::{Counted, Double, Stranger};
-use pg_opens::{Gathering, Outlook, Stage};
-use pg_step::OpId;
+use pg_opens::Taken::{Counted, Double, Stranger};
+use pg_opens::{Gathering, OpId, Outlook, Stage};
 
 /// Steps, and what is seen then.
 pub type Row = (&'static [Step], &'static [Sight]);

@@ -1,9 +1,6 @@
 use crate::commands::steps::op;
 use crate::samples::atom;
-use pg_marks::Asked;
-use pg_multicall::Taken;
-use pg_opens::{Gathering, Opens, Outlook, Stage};
-use pg_step::OpId;
+use pg_opens::{Asked, Gathering, OpId, Opens, Outlook, Stage, Taken};
 use pg_term::Atom;
 use std::alloc::Global;
 use std::process::Abort;

@@ -2,10 +2,7 @@ ghost use Rattle.std.specs.Prelude.{◌≡◌, false};
 ghost use Rattle.pg_term.specs.Same.{same_atom};
 
 use crate::samples::atom;
-use pg_group::Update;
-use pg_marks::Asked;
-use pg_opens::{Opens, Stage};
-use pg_step::OpId;
+use pg_opens::{Asked, OpId, Opens, Stage, Update};
 use pg_term::{Atom, Term};
 use std::alloc::{AllocError, Global};
 use std::process::Abort;

@@ -1,6 +1,6 @@
 //! The requests of one port.
 
-use pg_step::Command;
+use pg_cluster::Command;
 use pg_term::Atom;
 use std::alloc::{AllocError, Global};
 use std::collections::VecDeque;

@@ -6,10 +6,10 @@ ghost use Rattle.pg_requests.specs.Members.{starts_said};
 ghost use Rattle.pg_talk.specs.declared.service.fault.ServiceFault.TheVariants.{BadText, OutOfMemory};
 
 use crate::service::fault::ServiceFault;
+use pg_cluster::Config;
 use pg_requests::starts_of;
 use pg_term::Atom;
 use pg_text::TextFault;
-use pg_world::Config;
 use std::alloc::Global;
 
 /// How many bytes a ring between two nodes has room for.

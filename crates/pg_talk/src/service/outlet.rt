@@ -2,11 +2,9 @@
 
 use crate::service::fault::ServiceFault;
 use bytes::BytesMut;
-use pg_frame::{FrameFault, frame_into};
-use pg_node::Sink;
+use pg_cluster::{FrameFault, Sink, encode_into, frame_into};
 use pg_requests::{numbered, refused};
 use pg_term::{Atom, Term, TermFault};
-use pg_term_writer::encode_into;
 use std::alloc::Global;
 
 /// The room for a frame that is written, and whether something was written that was not passed on.

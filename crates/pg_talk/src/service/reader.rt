@@ -2,11 +2,8 @@
 
 use crate::service::fault::ServiceFault;
 use crate::service::reading::{ReadOf, Reading, read_all};
-use pg_cluster::StartFault;
-use pg_frame::Deframer;
-use pg_node::Source;
+use pg_cluster::{Deframer, SlotIn, Source, StartFault, slot_pair, slots_together};
 use pg_requests::{Input, Layout};
-use pg_ring::{SlotIn, slot_pair, slots_together};
 use std::alloc::Global;
 use std::snapshot::Snapshot;
 use std::sync::Arc;
@@ -28,7 +25,7 @@ pub(crate) struct Reader<S: Source + Drop> {
 
 impl<S: Source + Send + Drop + 'static> Reader<S> {
     ghost use Rattle.std.specs.Prelude.{◌≡◌, ◌++◌, [], ℕ, List, Option, IfOk};
-    ghost use Rattle.pg_ring.specs.Slots.{taken};
+    ghost use Rattle.pg_cluster.specs.PgRing.Slots.{taken};
     ghost use Rattle.pg_requests.specs.declared.input.Input.{Input as InputValue};
     ghost use Rattle.pg_requests.specs.declared.layout.NodePorts.{NodePorts};
     ghost use Rattle.pg_talk.specs.Readers.{IsPaired, Reads};

@@ -3,12 +3,9 @@
 ghost use Rattle.std.specs.Prelude.{◌≡◌};
 ghost use Rattle.pg_talk.specs.ReadingThread.{EndsAt as ReadsToItsEnd, IsAsked, breaks as is_broken};
 
-use pg_faults::{OUT_OF_MEMORY, READ_FAULT, TRUNCATED};
-use pg_frame::Deframer;
-use pg_node::Source;
+use pg_cluster::{Deframer, SlotOut, Source, decode};
 use pg_requests::{Input, Layout, read_request};
-use pg_ring::SlotOut;
-use pg_term_io::decode;
+use pg_term::pg_faults::{OUT_OF_MEMORY, READ_FAULT, TRUNCATED};
 use std::alloc::{AllocError, Global};
 use std::snapshot::Snapshot;
 use std::sync::Arc;
@@ -58,8 +55,8 @@ impl<S: Source + Drop> Reading<S> {
     ghost use Rattle.std.specs.Prelude.{◌≡◌, ◌≢◌, ◌⊎◌, ◌<◌, ◌∷◌, ◌++◌, ◌-◌, [], false};
     ghost use Rattle.std.specs.Prelude.{None, Ok, IsTrue, IfSome, IfNone, length};
     ghost use Rattle.std.specs.Io.KnownBytes.{IsAtEnd};
-    ghost use Rattle.pg_frame.specs.Frames.{front_of};
-    ghost use Rattle.pg_ring.specs.Slots.{SameSlotOut, given};
+    ghost use Rattle.pg_cluster.specs.PgFrame.Frames.{front_of};
+    ghost use Rattle.pg_cluster.specs.PgRing.Slots.{SameSlotOut, given};
     ghost use Rattle.pg_talk.specs.Readings.{requests_in};
     ghost use Rattle.pg_talk.specs.ReadingThread.{EndsAt, GoesOn, IsWaiting, TakesFront};
 

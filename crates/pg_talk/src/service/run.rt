@@ -2,8 +2,8 @@
 
 ghost use Rattle.std.specs.Prelude.{◌≡◌, [], None, Option, ℕ, List, false, IfOk, map};
 ghost use Rattle.std.specs.List.{All};
-ghost use Rattle.pg_ring.specs.Slots.{taken};
-ghost use Rattle.pg_step.specs.Config.{Config as Starts};
+ghost use Rattle.pg_cluster.specs.PgRing.Slots.{taken};
+ghost use Rattle.pg_cluster.specs.PgStep.Config.{Config as Starts};
 ghost use Rattle.pg_talk.specs.Written.{ports_in};
 ghost use Rattle.pg_requests.specs.Layouts.{layout_of};
 ghost use Rattle.pg_talk.specs.Readers.{IsPaired, Reads};
@@ -15,10 +15,8 @@ use crate::service::fault::ServiceFault;
 use crate::service::reader::Reader;
 use crate::service::serving::{Desks, Serving};
 use crate::verdict::{Verdict, close_and_judge};
-use pg_cluster::{OpenGate, Running};
-use pg_node::{Sink, Source};
+use pg_cluster::{OpenGate, Running, Sink, Source, Start};
 use pg_requests::Layout;
-use pg_step::Start;
 use std::alloc::{AllocError, Global};
 use std::thread::Threads;
 

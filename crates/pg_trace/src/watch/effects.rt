@@ -6,10 +6,8 @@ use crate::texts::reference_text;
 use crate::watch::Watch;
 use crate::watch::locks::is_same;
 use crate::watch::ways::{node_at, outbox, peer_count};
-use pg_group::GroupTable;
-use pg_step::OpId;
 use pg_term::{Reference, Term};
-use pg_world::World;
+use pg_world::{GroupTable, OpId, World};
 use std::alloc::AllocError;
 
 impl Watch {

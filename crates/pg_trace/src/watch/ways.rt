@@ -1,7 +1,6 @@
 //! The packets on the way between nodes, by their numbers.
 
-use pg_group::GroupTable;
-use pg_world::World;
+use pg_world::{GroupTable, World};
 use std::alloc::{AllocError, Global};
 use std::collections::VecDeque;
 

@@ -1,8 +1,7 @@
 //! Packets that are made, not read, and why they are not written.
 
 use crate::samples::{atom, nested, pair, pid, reference};
-use pg_group::Update;
-use pg_message::{MAX_STAMP, Message, Packet, Request};
+use pg_message::{MAX_STAMP, Message, Packet, Request, Update};
 use pg_term::{Atom, Items, Pid, Term, TermFault};
 use std::alloc::Global;
 

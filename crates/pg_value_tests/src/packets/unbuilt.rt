@@ -3,9 +3,8 @@
 use super::bodies::EMPTY;
 use crate::rows::Edit::{self, At, Times};
 use crate::rows::{Row, check, edited, holds};
-use pg_message::MessageFault;
+use pg_message::{MessageFault, NextElement, next_element, skip_item};
 use pg_reader::read_packet;
-use pg_term_io::{NextElement, next_element, skip_item};
 use std::alloc::{AllocError, Global};
 use std::test::*;
 

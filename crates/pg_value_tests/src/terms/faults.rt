@@ -2,9 +2,8 @@
 
 use crate::rows::Edit::{self, Times};
 use crate::rows::{OUT_OF_MEMORY, Row, check, edited};
-use pg_message::MessageFault;
+use pg_message::{MessageFault, check_term, decode};
 use pg_term::TermFault::{self, *};
-use pg_term_io::{check_term, decode};
 use std::alloc::Global;
 use std::test::*;
 

@@ -3,10 +3,8 @@
 use crate::rows::Row;
 use crate::samples::{Sample, made};
 use bytes::BytesMut;
-use pg_message::MessageFault;
+use pg_message::{MessageFault, check_term, decode, encode, encode_into, encode_len};
 use pg_term::{Term, TermFault};
-use pg_term_io::{check_term, decode};
-use pg_term_writer::{encode, encode_into, encode_len};
 use std::alloc::Global;
 
 /// A term is written as so many bytes that begin with these, and is read from them and from each of the others.

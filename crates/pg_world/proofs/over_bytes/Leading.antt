@@ -4,26 +4,26 @@ use Rattle.std.proofs.Common.{Some, None, Result, Ok, Err, refl, sym, ap, ◌∙
 use Rattle.std.specs.Prelude.{slice_get, option_map, IfSome}
 use Rattle.std.specs.Option.{option_copied}
 use Rattle.std.specs.Borrow.{Bor}
-use Rattle.pg_group.specs.declared.table.GroupTable.{Ghosts}
+use Rattle.pg_frame_world.specs.PgGroup.declared.table.GroupTable.{Ghosts}
 use Rattle.pg_node.specs.declared.node.Node.{Node}
 use Rattle.pg_node.specs.Nodes.{links_of}
 use Rattle.std.proofs.lemmas.Bool.{eq-eqb, eqb-true}
 use Rattle.std.proofs.lemmas.Option.{get_or_from_slice_get, slice_get_within}
 use Rattle.pg_term.specs.declared.term.Term.{Term}
-use Rattle.pg_machine.specs.Losing.{Lose, LosingEvent, nobody_gone}
-use Rattle.pg_machine.specs.Losing.{Step as Happens}
-use Rattle.pg_machine.specs.Machine.{Do, Event, Take, start_of}
-use Rattle.pg_step.specs.declared.refusal.Refusal.{Refusal}
-use Rattle.pg_step.specs.declared.refusal.Refusal.TheVariants.{NotDrained}
-use Rattle.pg_step.specs.Config.{Config}
-use Rattle.pg_step.specs.FrameMachine.{frame_machine, losing_frame_machine}
-use Rattle.pg_step.specs.LossLaws.{LosingFrameWorld}
-use Rattle.pg_step.specs.Step.{Action, Issue, Retry}
-use Rattle.pg_history.specs.History.{Entry, history}
-use Rattle.pg_history.proofs.steps.Lossless.{NoneLost}
-use Rattle.pg_node_state.specs.declared.state.fault.NodeFault.{NodeFault}
-use Rattle.pg_node_state.specs.declared.state.fault.NodeFault.TheVariants.{Refused, OutOfMemory}
-use Rattle.pg_node_state.specs.declared.state.fault.NodeFault.TheVariants.{Message as BadMessage, TooLong, Damaged}
+use Rattle.pg_frame_world.specs.PgMachine.Losing.{Lose, LosingEvent, nobody_gone}
+use Rattle.pg_frame_world.specs.PgMachine.Losing.{Step as Happens}
+use Rattle.pg_frame_world.specs.PgMachine.Machine.{Do, Event, Take, start_of}
+use Rattle.pg_frame_world.specs.PgStep.declared.refusal.Refusal.{Refusal}
+use Rattle.pg_frame_world.specs.PgStep.declared.refusal.Refusal.TheVariants.{NotDrained}
+use Rattle.pg_frame_world.specs.PgStep.Config.{Config}
+use Rattle.pg_frame_world.specs.PgStep.FrameMachine.{frame_machine, losing_frame_machine}
+use Rattle.pg_frame_world.specs.PgStep.LossLaws.{LosingFrameWorld}
+use Rattle.pg_frame_world.specs.PgStep.Step.{Action, Issue, Retry}
+use Rattle.pg_frame_world.specs.PgHistory.History.{Entry, history}
+use Rattle.pg_frame_world.proofs.PgHistory.steps.Lossless.{NoneLost}
+use Rattle.pg_frame_world.specs.PgNodeState.declared.state.fault.NodeFault.{NodeFault}
+use Rattle.pg_frame_world.specs.PgNodeState.declared.state.fault.NodeFault.TheVariants.{Refused, OutOfMemory}
+use Rattle.pg_frame_world.specs.PgNodeState.declared.state.fault.NodeFault.TheVariants.{Message as BadMessage, TooLong, Damaged}
 use Rattle.pg_frame_world.specs.declared.step.FrameStep.{FrameStep}
 use Rattle.pg_frame_world.specs.declared.step.FrameStep.TheVariants as frames
 use Rattle.pg_world.specs.declared.step.Step.{Step}
@@ -37,7 +37,7 @@ use Rattle.pg_world.specs.BytesLosingRuns.{bytes_past_losses}
 use Rattle.pg_world.specs.BytesStart.{BytesBegin}
 use Rattle.pg_world.specs.Crossings.{Crossing, ShowsPast, node_of, no_links}
 use Rattle.pg_node.specs.Links.{Link}
-use Rattle.pg_machine.specs.Places.{is_pair}
+use Rattle.pg_frame_world.specs.PgMachine.Places.{is_pair}
 use Rattle.pg_frame_world.specs.Views.{peer_place, place_of_peer}
 use Rattle.pg_frame_world.proofs.Counted.{place_there}
 use Rattle.pg_frame_world.proofs.Peering.{known, own_place, same_place}
@@ -48,9 +48,9 @@ use Rattle.pg_frame_world.specs.Past.{HistoriesGrow, missed_in}
 use Rattle.pg_world.specs.Bars.{bytes_formed_after}
 use Rattle.pg_world.specs.BytesPast.{BytesFormedFirst, BytesHavePast, BytesGoOn, BytesMissed, BytesRunOn}
 use Rattle.pg_frame_world.specs.Pending.{AgreeOn, pending_of, sees_free}
-use Rattle.pg_starts.specs.Seen.{Seen}
-use Rattle.pg_account.specs.Histories.{Account}
-use Rattle.pg_account.specs.Losses.{is_lost}
+use Rattle.pg_frame_world.specs.PgStarts.Seen.{Seen}
+use Rattle.pg_frame_world.specs.PgAccount.Histories.{Account}
+use Rattle.pg_frame_world.specs.PgAccount.Losses.{is_lost}
 use Rattle.pg_frame_world.specs.Worlds.{TimedFrameWorld, ShowsNodes}
 use Rattle.pg_frame_world.proofs.AtLosses.{ToldBehind, none_told}
 use Rattle.pg_frame_world.proofs.FormedSeen.{ToldOf, loss_told, told_both}

@@ -6,29 +6,29 @@ use Rattle.std.specs.Prelude.{slice_get, slice_set}
 use Rattle.std.specs.List.{AllByRecursion}
 use Rattle.std.proofs.lemmas.Bool.{cases_eq}
 use Rattle.std.proofs.lemmas.List.{length-map, take-map}
-use Rattle.pg_frame.specs.declared.fault.TooLong.{TooLong}
-use Rattle.pg_frame.specs.Frames.{front_of}
-use Rattle.pg_message.specs.declared.message.Message.{Message}
-use Rattle.pg_message.specs.declared.packet.Packet.{Packet}
-use Rattle.pg_machine.specs.Places.{is_pair}
-use Rattle.pg_machine.specs.Clocked.{Timed, Stamped}
-use Rattle.pg_machine.specs.Losing.{can_keep}
-use Rattle.pg_frame.specs.Pieces.{Bytes, ArePackets, AreCut, AreShort, StayWhole}
-use Rattle.pg_opens.specs.Places.{name_at as place_name}
-use Rattle.pg_step.specs.declared.answer.Answer.{Answer}
-use Rattle.pg_step.specs.declared.refusal.Refusal.TheVariants.{NodeLost, NotLost, NotDrained}
-use Rattle.pg_step.specs.Config.{Config, name_at, names_of}
-use Rattle.pg_step.specs.LossLaws.{LosingFrameWorld, see_refusal}
-use Rattle.pg_step.specs.State.{State}
-use Rattle.pg_step.specs.Step.{TimedTurn, at_clock}
-use Rattle.pg_sends.specs.contracts.framing.FramedOutgoing.TheImpl as frames
-use Rattle.pg_sends.specs.Dones.{FramedDone}
-use Rattle.pg_node_state.specs.declared.state.fault.NodeFault.{NodeFault}
-use Rattle.pg_node_state.specs.declared.state.fault.NodeFault.TheVariants.{Refused}
+use Rattle.pg_frame_world.specs.PgFrame.declared.fault.TooLong.{TooLong}
+use Rattle.pg_frame_world.specs.PgFrame.Frames.{front_of}
+use Rattle.pg_frame_world.specs.PgMessage.declared.message.Message.{Message}
+use Rattle.pg_frame_world.specs.PgMessage.declared.packet.Packet.{Packet}
+use Rattle.pg_frame_world.specs.PgMachine.Places.{is_pair}
+use Rattle.pg_frame_world.specs.PgMachine.Clocked.{Timed, Stamped}
+use Rattle.pg_frame_world.specs.PgMachine.Losing.{can_keep}
+use Rattle.pg_frame_world.specs.PgFrame.Pieces.{Bytes, ArePackets, AreCut, AreShort, StayWhole}
+use Rattle.pg_frame_world.specs.PgOpens.Places.{name_at as place_name}
+use Rattle.pg_frame_world.specs.PgStep.declared.answer.Answer.{Answer}
+use Rattle.pg_frame_world.specs.PgStep.declared.refusal.Refusal.TheVariants.{NodeLost, NotLost, NotDrained}
+use Rattle.pg_frame_world.specs.PgStep.Config.{Config, name_at, names_of}
+use Rattle.pg_frame_world.specs.PgStep.LossLaws.{LosingFrameWorld, see_refusal}
+use Rattle.pg_frame_world.specs.PgStep.State.{State}
+use Rattle.pg_frame_world.specs.PgStep.Step.{TimedTurn, at_clock}
+use Rattle.pg_frame_world.specs.PgSends.contracts.framing.FramedOutgoing.TheImpl as frames
+use Rattle.pg_frame_world.specs.PgSends.Dones.{FramedDone}
+use Rattle.pg_frame_world.specs.PgNodeState.declared.state.fault.NodeFault.{NodeFault}
+use Rattle.pg_frame_world.specs.PgNodeState.declared.state.fault.NodeFault.TheVariants.{Refused}
 use Rattle.pg_node.specs.Bytes.{is_drained, has_frame}
 use Rattle.pg_node.specs.Links.{Link}
 use Rattle.pg_node.specs.Nodes.{step_lose}
-use Rattle.pg_node_state.specs.States.{Comes, Happens, step_see_loss}
+use Rattle.pg_frame_world.specs.PgNodeState.States.{Comes, Happens, step_see_loss}
 use Rattle.pg_frame_world.specs.declared.step.Stepped.TheVariants.{Happened, Gone}
 use Rattle.pg_world.specs.Bars.{has_bytes}
 use Rattle.pg_world.specs.BytesLosing.{ShowsLosingBytes, SightComesTo, LossComesTo}
@@ -37,10 +37,10 @@ use Rattle.pg_world.specs.Crossings.{packets_between, written_of, CanCross, IsOn
 use Rattle.pg_frame_world.specs.declared.effect.Effect.{Effect}
 use Rattle.pg_frame_world.specs.Effects.{no_effect}
 use Rattle.pg_frame_world.specs.Losing.{losing_of, is_cut_off, told_sight, LosingComesTo}
-use Rattle.pg_account.specs.Losses.{is_lost}
-use Rattle.pg_starts.specs.Seen.{Seen}
+use Rattle.pg_frame_world.specs.PgAccount.Losses.{is_lost}
+use Rattle.pg_frame_world.specs.PgStarts.Seen.{Seen}
 use Rattle.pg_frame_world.specs.Views.{peer_place}
-use Rattle.pg_account.specs.Histories.{Account}
+use Rattle.pg_frame_world.specs.PgAccount.Histories.{Account}
 use Rattle.pg_frame_world.specs.Worlds.{TimedFrameWorld, ShowsNodes}
 use Rattle.pg_world.proofs.over_bytes.Past.{sight_from}
 use Rattle.pg_world.proofs.Crossed.{all_short}

@@ -2,23 +2,23 @@
 use Rattle.std.proofs.Common.{◌≡◌, ℕ, Bool, true, false, not, ◌||◌, cond, length, List, [], ◌∷◌}
 use Rattle.std.proofs.Common.{Option, Some, None, Result, Ok, Err, refl, sym, ap, ◌∙◌, subst}
 use Rattle.std.specs.Prelude.{IfErr, nat_lt}
-use Rattle.pg_machine.specs.Places.{is_place, is_pair}
-use Rattle.pg_machine.specs.Machine.{Event, Take, Do, node_of, happens}
-use Rattle.pg_machine.specs.Losing.{LosingEvent, Step, losing_happens}
-use Rattle.pg_machine.proofs.Steps.{happened}
-use Rattle.pg_step.specs.declared.refusal.Refusal.{Refusal}
-use Rattle.pg_step.specs.declared.refusal.Refusal.TheVariants.{NoSuchPlace, NodeLost, NotDrained}
-use Rattle.pg_step.specs.declared.refusal.Refusal.TheVariants.{NotAMessage, NotWaiting, ClockFull, NotLost}
-use Rattle.pg_step.specs.Config.{Config, name_at}
-use Rattle.pg_step.specs.Faults.{first_that_holds}
-use Rattle.pg_step.specs.FrameMachine.{frame_machine, losing_frame_machine, last_notice}
-use Rattle.pg_step.specs.LossLaws.{LosingFrameWorld}
-use Rattle.pg_step.specs.Nodes.{Node}
-use Rattle.pg_step.specs.Step.{Action}
-use Rattle.pg_step.specs.StepLaws.{port_of}
-use Rattle.pg_node_state.specs.declared.state.fault.NodeFault.{NodeFault}
-use Rattle.pg_node_state.specs.declared.state.fault.NodeFault.TheVariants.{Refused, OutOfMemory}
-use Rattle.pg_node_state.specs.declared.state.fault.NodeFault.TheVariants.{Message as BadMessage, TooLong, Damaged}
+use Rattle.pg_frame_world.specs.PgMachine.Places.{is_place, is_pair}
+use Rattle.pg_frame_world.specs.PgMachine.Machine.{Event, Take, Do, node_of, happens}
+use Rattle.pg_frame_world.specs.PgMachine.Losing.{LosingEvent, Step, losing_happens}
+use Rattle.pg_frame_world.proofs.PgMachine.Steps.{happened}
+use Rattle.pg_frame_world.specs.PgStep.declared.refusal.Refusal.{Refusal}
+use Rattle.pg_frame_world.specs.PgStep.declared.refusal.Refusal.TheVariants.{NoSuchPlace, NodeLost, NotDrained}
+use Rattle.pg_frame_world.specs.PgStep.declared.refusal.Refusal.TheVariants.{NotAMessage, NotWaiting, ClockFull, NotLost}
+use Rattle.pg_frame_world.specs.PgStep.Config.{Config, name_at}
+use Rattle.pg_frame_world.specs.PgStep.Faults.{first_that_holds}
+use Rattle.pg_frame_world.specs.PgStep.FrameMachine.{frame_machine, losing_frame_machine, last_notice}
+use Rattle.pg_frame_world.specs.PgStep.LossLaws.{LosingFrameWorld}
+use Rattle.pg_frame_world.specs.PgStep.Nodes.{Node}
+use Rattle.pg_frame_world.specs.PgStep.Step.{Action}
+use Rattle.pg_frame_world.specs.PgStep.StepLaws.{port_of}
+use Rattle.pg_frame_world.specs.PgNodeState.declared.state.fault.NodeFault.{NodeFault}
+use Rattle.pg_frame_world.specs.PgNodeState.declared.state.fault.NodeFault.TheVariants.{Refused, OutOfMemory}
+use Rattle.pg_frame_world.specs.PgNodeState.declared.state.fault.NodeFault.TheVariants.{Message as BadMessage, TooLong, Damaged}
 use Rattle.pg_frame_world.specs.declared.effect.Effect.{Effect}
 use Rattle.pg_frame_world.specs.declared.step.FrameStep.{FrameStep}
 use Rattle.pg_frame_world.specs.declared.step.FrameStep.TheVariants as frames
@@ -31,9 +31,9 @@ use Rattle.pg_world.specs.Crossings.{Crossing, ShowsBytes, ShowsBytesPast, Event
 use Rattle.pg_frame_world.specs.Effects.{effect_in, losing_effect_in}
 use Rattle.pg_frame_world.specs.Losing.{SeenAreLost, account_with, formed_at, losing_of, is_cut_off, is_barred, Telling}
 use Rattle.pg_frame_world.specs.Losing.{told_take, told_own, told_of, LosingLed, LosingComesTo}
-use Rattle.pg_account.specs.Losses.{is_lost}
-use Rattle.pg_account.specs.Histories.{Account, account_formed}
-use Rattle.pg_starts.specs.Seen.{Seen}
+use Rattle.pg_frame_world.specs.PgAccount.Losses.{is_lost}
+use Rattle.pg_frame_world.specs.PgAccount.Histories.{Account, account_formed}
+use Rattle.pg_frame_world.specs.PgStarts.Seen.{Seen}
 use Rattle.pg_frame_world.specs.Worlds.{TimedFrameWorld, ShowsNodes, ShowsUpdates, has_port, has_places, told_event}
 use Rattle.pg_frame_world.proofs.Barred.{cut_is, barred_told, unplaced_told, take_cut, either_stays}
 use Rattle.pg_frame_world.proofs.Barred.{take_refused_so, take_busy_so, own_refused_so}

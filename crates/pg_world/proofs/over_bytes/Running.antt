@@ -2,18 +2,18 @@
 use Rattle.std.proofs.Common.{◌≡◌, inl, inr, ℕ, cond, Option, Result, Ok, Err}
 use Rattle.std.proofs.Common.{refl, sym, ap, subst, true, false, List, []}
 use Rattle.std.specs.Option.{option_map_or}
-use Rattle.pg_machine.specs.Losing.{LosingEvent, Lose, nobody_gone}
-use Rattle.pg_step.specs.declared.refusal.Refusal.{Refusal}
-use Rattle.pg_step.specs.declared.refusal.Refusal.TheVariants.{NoSuchPlace, NodeLost, NotDrained}
-use Rattle.pg_step.specs.declared.refusal.Refusal.TheVariants.{NotAMessage, NotWaiting, ClockFull, NotLost}
-use Rattle.pg_step.specs.Config.{Config, names_of}
-use Rattle.pg_step.specs.Faults.{refusal_number_of}
-use Rattle.pg_step.specs.LossLaws.{LosingFrameWorld}
-use Rattle.pg_step.specs.Step.{Action}
-use Rattle.pg_node_state.specs.NodeFault.{node_number_of}
-use Rattle.pg_node_state.specs.declared.state.fault.NodeFault.{NodeFault}
-use Rattle.pg_node_state.specs.declared.state.fault.NodeFault.TheVariants.{Refused, OutOfMemory}
-use Rattle.pg_node_state.specs.declared.state.fault.NodeFault.TheVariants.{Message as BadMessage, TooLong, Damaged}
+use Rattle.pg_frame_world.specs.PgMachine.Losing.{LosingEvent, Lose, nobody_gone}
+use Rattle.pg_frame_world.specs.PgStep.declared.refusal.Refusal.{Refusal}
+use Rattle.pg_frame_world.specs.PgStep.declared.refusal.Refusal.TheVariants.{NoSuchPlace, NodeLost, NotDrained}
+use Rattle.pg_frame_world.specs.PgStep.declared.refusal.Refusal.TheVariants.{NotAMessage, NotWaiting, ClockFull, NotLost}
+use Rattle.pg_frame_world.specs.PgStep.Config.{Config, names_of}
+use Rattle.pg_frame_world.specs.PgStep.Faults.{refusal_number_of}
+use Rattle.pg_frame_world.specs.PgStep.LossLaws.{LosingFrameWorld}
+use Rattle.pg_frame_world.specs.PgStep.Step.{Action}
+use Rattle.pg_frame_world.specs.PgNodeState.NodeFault.{node_number_of}
+use Rattle.pg_frame_world.specs.PgNodeState.declared.state.fault.NodeFault.{NodeFault}
+use Rattle.pg_frame_world.specs.PgNodeState.declared.state.fault.NodeFault.TheVariants.{Refused, OutOfMemory}
+use Rattle.pg_frame_world.specs.PgNodeState.declared.state.fault.NodeFault.TheVariants.{Message as BadMessage, TooLong, Damaged}
 use Rattle.pg_frame_world.specs.declared.step.FrameStep.TheVariants as frames
 use Rattle.pg_world.specs.declared.step.Step.{Step}
 use Rattle.pg_world.specs.declared.step.Step.TheVariants as steps
@@ -26,13 +26,13 @@ use Rattle.pg_frame_world.specs.Losing.{Telling, LosingComesTo, told_of, told_ta
 use Rattle.pg_frame_world.specs.LosingRuns.{LosingStepsTo, IsToldEvent, IsLeftOut, LosingGoesTo, RanLosing}
 use Rattle.std.specs.List.{IsDistinct}
 use Rattle.pg_term.specs.Same.{same_atom}
-use Rattle.pg_machine.specs.Machine.{start_of}
-use Rattle.pg_step.specs.FrameMachine.{frame_machine, losing_frame_machine}
-use Rattle.pg_loss.specs.Reached.{LosingReaches}
-use Rattle.pg_retries.specs.Survived.{LossesSurvived}
+use Rattle.pg_frame_world.specs.PgMachine.Machine.{start_of}
+use Rattle.pg_frame_world.specs.PgStep.FrameMachine.{frame_machine, losing_frame_machine}
+use Rattle.pg_frame_world.specs.PgLoss.Reached.{LosingReaches}
+use Rattle.pg_frame_world.specs.PgRetries.Survived.{LossesSurvived}
 use Rattle.pg_world.specs.BytesStart.{BytesBegin}
 use Rattle.pg_world.specs.Crossings.{Crossing}
-use Rattle.pg_account.specs.Histories.{Account}
+use Rattle.pg_frame_world.specs.PgAccount.Histories.{Account}
 use Rattle.pg_frame_world.proofs.LosingRunning.{ran_past_so, start_is}
 
 -- what came of a step, by its number: it is no fault, or the fault's number

@@ -2,22 +2,22 @@
 use Rattle.std.proofs.Common.{◌≡◌, ◌≢◌, ℕ, ◌+◌, ◌<◌, true, false, get_or}
 use Rattle.std.proofs.Common.{length, List, Result, refl, sym, ap, ◌∙◌, subst}
 use Rattle.std.specs.Prelude.{slice_set}
-use Rattle.pg_group.specs.declared.table.GroupTable.{Ghosts}
-use Rattle.pg_machine.specs.Places.{is_pair}
-use Rattle.pg_machine.specs.Clocked.{Timed}
-use Rattle.pg_opens.specs.Places.{name_at}
-use Rattle.pg_step.specs.Config.{Config}
-use Rattle.pg_step.specs.State.{State}
+use Rattle.pg_frame_world.specs.PgGroup.declared.table.GroupTable.{Ghosts}
+use Rattle.pg_frame_world.specs.PgMachine.Places.{is_pair}
+use Rattle.pg_frame_world.specs.PgMachine.Clocked.{Timed}
+use Rattle.pg_frame_world.specs.PgOpens.Places.{name_at}
+use Rattle.pg_frame_world.specs.PgStep.Config.{Config}
+use Rattle.pg_frame_world.specs.PgStep.State.{State}
 use Rattle.pg_node.specs.declared.node.Node.{Node}
-use Rattle.pg_sends.specs.Dones.{FramedDone}
-use Rattle.pg_node_state.specs.declared.state.fault.NodeFault.{NodeFault}
+use Rattle.pg_frame_world.specs.PgSends.Dones.{FramedDone}
+use Rattle.pg_frame_world.specs.PgNodeState.declared.state.fault.NodeFault.{NodeFault}
 use Rattle.pg_node.specs.Bytes.{closed}
 use Rattle.pg_node.specs.Links.{Link, at_link}
 use Rattle.pg_node.specs.Nodes.{held_by, links_of, step_lose}
-use Rattle.pg_node_state.specs.States.{names_of, state_of, answers_of, Comes}
+use Rattle.pg_frame_world.specs.PgNodeState.States.{names_of, state_of, answers_of, Comes}
 use Rattle.pg_world.specs.declared.rings.Rings.{Rings}
 use Rattle.pg_world.specs.Crossings.{crossing_in, node_of, link_at, bytes_at}
-use Rattle.pg_account.specs.Losses.{is_lost}
+use Rattle.pg_frame_world.specs.PgAccount.Losses.{is_lost}
 use Rattle.pg_frame_world.specs.Views.{peer_place, place_of_peer}
 use Rattle.pg_frame_world.specs.Worlds.{TimedFrameWorld, ShowsNodes}
 use Rattle.pg_world.proofs.Linked.{seen_there, changed_else, part_kept}

@@ -1,14 +1,14 @@
 -- What comes of an event over bytes that names a place that is not there, or for which memory ran out.
 use Rattle.std.proofs.Common.{◌≡◌, true, false, Err, refl, sym, ap, ◌∙◌}
 use Rattle.std.specs.Prelude.{List}
-use Rattle.pg_machine.specs.Places.{is_place, is_pair}
-use Rattle.pg_step.specs.Config.{Config}
-use Rattle.pg_step.specs.Step.{Issue, Retry}
-use Rattle.pg_step.specs.declared.refusal.Refusal.TheVariants.{NoSuchPlace}
-use Rattle.pg_node_state.specs.declared.state.fault.NodeFault.TheVariants.{Refused, OutOfMemory}
+use Rattle.pg_frame_world.specs.PgMachine.Places.{is_place, is_pair}
+use Rattle.pg_frame_world.specs.PgStep.Config.{Config}
+use Rattle.pg_frame_world.specs.PgStep.Step.{Issue, Retry}
+use Rattle.pg_frame_world.specs.PgStep.declared.refusal.Refusal.TheVariants.{NoSuchPlace}
+use Rattle.pg_frame_world.specs.PgNodeState.declared.state.fault.NodeFault.TheVariants.{Refused, OutOfMemory}
 use Rattle.pg_frame_world.specs.declared.step.FrameStep.{FrameStep}
 use Rattle.pg_frame_world.specs.declared.step.FrameStep.TheVariants as steps
-use Rattle.pg_starts.specs.Seen.{Seen}
+use Rattle.pg_frame_world.specs.PgStarts.Seen.{Seen}
 use Rattle.pg_frame_world.specs.Worlds.{TimedFrameWorld, ShowsNodes, has_places}
 use Rattle.pg_world.specs.Crossings.{FrameComesTo}
 use Rattle.pg_frame_world.proofs.Unplaced.{acts_nowhere, taken_nowhere, unseen_nowhere}

@@ -1,29 +1,25 @@
 //! How a world of bytes begins.
 
 ghost use Rattle.std.specs.Prelude.{◌≡◌, [], true, ◌<◌, ◌-◌, ℕ, IfOk, IfErr, length, map, get_or};
-ghost use Rattle.pg_ring.specs.Capacity.{IsCapacity};
-ghost use Rattle.pg_step.specs.Config.{IsConfig};
+ghost use Rattle.pg_frame_world.specs.PgRing.Capacity.{IsCapacity};
+ghost use Rattle.pg_frame_world.specs.PgStep.Config.{IsConfig};
 ghost use Rattle.pg_node.specs.Nodes.{links_of};
 ghost use Rattle.pg_world.specs.Crossings.{node_of, no_links, idle_crossing};
-ghost use Rattle.pg_account.specs.Histories.{no_account};
+ghost use Rattle.pg_frame_world.specs.PgAccount.Histories.{no_account};
 ghost use Rattle.pg_frame_world.specs.Openings.{AreReady, CantOpen, CantStart, opening_fault_of};
-ghost use Rattle.pg_starts.specs.Firsts.{seen_first, firsts};
+ghost use Rattle.pg_frame_world.specs.PgStarts.Firsts.{seen_first, firsts};
 ghost use Rattle.pg_world.specs.BytesStart.{OpensLinks};
 
 use crate::bytes::ByteNodes;
-use pg_config::{Config, WorldFault};
-use pg_frame_world::ready;
-use pg_index::IndexTable;
+use pg_frame_world::{Config, IndexTable, Start, WorldFault, node_at, ready};
 use pg_node::{Node, NodeFault};
-use pg_starts::node_at;
-use pg_step::Start;
 use std::alloc::Global;
 
 impl ByteNodes<IndexTable> {
-    ghost use Rattle.pg_account.specs.Histories.{account_of};
+    ghost use Rattle.pg_frame_world.specs.PgAccount.Histories.{account_of};
     ghost use Rattle.pg_world.specs.BytesStart.{BytesBegin, OpensBytes};
     ghost use Rattle.pg_world.specs.Crossings.{crossing_of, room_of};
-    ghost use Rattle.pg_account.specs.Losses.{lost_in};
+    ghost use Rattle.pg_frame_world.specs.PgAccount.Losses.{lost_in};
     ghost use Rattle.pg_frame_world.specs.Openings.{AllFit, CantBegin, CantStart, AreReady};
 
     /// The nodes of a configuration as they start, where what each of them announces of its groups is in its outbox

@@ -1,8 +1,8 @@
 //! Runs of steps over bytes from a configuration.
 
 ghost use Rattle.std.specs.Prelude.{◌≡◌, [], false, IfOk, IfErr, length};
-ghost use Rattle.pg_ring.specs.Capacity.{IsCapacity};
-ghost use Rattle.pg_step.specs.Config.{Config as Configuration, IsConfig};
+ghost use Rattle.pg_frame_world.specs.PgRing.Capacity.{IsCapacity};
+ghost use Rattle.pg_frame_world.specs.PgStep.Config.{Config as Configuration, IsConfig};
 ghost use Rattle.pg_world.specs.BytesLosing.{ShowsLosingBytes as shows_losing};
 ghost use Rattle.pg_world.specs.BytesLosingRuns.{bytes_past_losses as over_bytes_past};
 ghost use Rattle.pg_world.specs.ByteWorlds.{account_of as kept_of, crossing_of as shown_by};
@@ -16,18 +16,16 @@ ghost use Rattle.pg_world.specs.BytesRuns.{NobodyLost as NoneIsLost, over_bytes}
 
 use crate::byte_world::World;
 use crate::step::Step;
-use pg_config::{Config, WorldFault};
-use pg_group::GroupTable;
-use pg_history::one_history;
-use pg_index::IndexTable;
-use pg_retries::each_world_past_losses;
+use pg_frame_world::{
+    Config, GroupTable, IndexTable, WorldFault, each_world_past_losses, one_history,
+};
 use std::alloc::Global;
 
 impl<T: GroupTable + Drop> World<T> {
     ghost use Rattle.pg_world.specs.ByteWorlds.{account_of, crossing_of, given_of, lost_of, room_of};
     ghost use Rattle.pg_world.specs.Crossings.{ShowsBytes, is_loss_in};
     ghost use Rattle.pg_frame_world.specs.Worlds.{IsReached};
-    ghost use Rattle.pg_step.specs.LossLaws.{LosingFrameWorld};
+    ghost use Rattle.pg_frame_world.specs.PgStep.LossLaws.{LosingFrameWorld};
     ghost use Rattle.pg_world.specs.BytesLosing.{ShowsLosingBytes};
     ghost use Rattle.pg_frame_world.specs.Losing.{IsReachedLosing};
     ghost use Rattle.pg_world.specs.BytesLosingRuns.{bytes_past_losses};

@@ -2,8 +2,8 @@ use Rattle.std.proofs.Common.{rules, arith, ◌≡◌, ◌∷◌, [], length, ma
 use Rattle.std.specs.Prelude.{vec_capacity}
 use Rattle.std.specs.Vec.Iter.{into_iter_items}
 use Rattle.std.proofs.lemmas.List.{length-map, map-append, nil_from_length}
-use Rattle.pg_run.specs.Follows.{node_of, peers_of, log_of}
-use Rattle.pg_run.specs.Runs.{notices_at}
+use Rattle.pg_joining.specs.PgRun.Follows.{node_of, peers_of, log_of}
+use Rattle.pg_joining.specs.PgRun.Runs.{notices_at}
 use Rattle.pg_cluster.specs.Clients.{ports_ended}
 use Rattle.pg_cluster.specs.Threads.{node_in, row_in, log_in, turns_in, rows_ended, notices_ended}
 use Rattle.pg_cluster.proofs.Opening.{ports_none_moved, ports_moved, ports_all_moved, room_for_one}

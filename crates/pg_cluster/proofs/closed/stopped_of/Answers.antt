@@ -1,7 +1,7 @@
 use Rattle.std.proofs.Common.{◌≡◌, length, ap, sym, ◌∙◌, subst}
 use Rattle.std.proofs.lemmas.List.{length-map}
 use Rattle.pg_ring.specs.Slots.{AreSlots}
-use Rattle.pg_run.specs.Ports.{ArePort, Meets}
+use Rattle.pg_joining.specs.PgRun.Ports.{ArePort, Meets}
 use Rattle.pg_cluster.specs.Clients.{AllPairs}
 use Rattle.pg_cluster.specs.Ended.{AreJoined, AllArrived}
 use Rattle.pg_cluster.specs.Notices.{Told}

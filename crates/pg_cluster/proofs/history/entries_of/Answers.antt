@@ -1,6 +1,6 @@
 use Rattle.std.proofs.Common.{◌∙◌, ◌++◌, ap, map}
 use Rattle.std.specs.Option.{option_copied, option_to_list}
-use Rattle.pg_account.specs.Histories.{as_entry}
+use Rattle.pg_joining.specs.PgAccount.Histories.{as_entry}
 use Rattle.pg_cluster.proofs.Histories.{with_last}
 use Rattle.pg_cluster.proofs.history.entries_of.Goals as goal
 

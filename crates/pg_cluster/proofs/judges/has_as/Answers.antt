@@ -1,6 +1,6 @@
 use Rattle.std.proofs.Common.{sym, ap, ◌∙◌}
-use Rattle.pg_node_state.specs.States.{kept_by, live_of}
-use Rattle.pg_step.specs.State.{formed}
+use Rattle.pg_joining.specs.PgNodeState.States.{kept_by, live_of}
+use Rattle.pg_joining.specs.PgStep.State.{formed}
 use Rattle.pg_cluster.proofs.Agreeing.{has_as_so}
 use Rattle.pg_cluster.proofs.judges.has_as.Goals as goal
 

@@ -1,7 +1,7 @@
 use Rattle.std.proofs.Common.{◌≡◌, ◌<◌, ℕ}
 use Rattle.std.specs.Prelude.{Some, slice_get}
-use Rattle.pg_world.specs.Crossings.{node_of}
-use Rattle.pg_frame_world.specs.FrameWorlds.{view_of}
+use Rattle.pg_joining.specs.PgWorld.Crossings.{node_of}
+use Rattle.pg_joining.specs.PgFrameWorld.FrameWorlds.{view_of}
 use Rattle.pg_cluster.proofs.judges.shows_all.Given as goal
 
 abbrev pub invariant-loop-place : goal.invariant-loop-place

@@ -1,5 +1,5 @@
 use Rattle.std.proofs.Common.{IfOk, subst}
-use Rattle.pg_node_state.specs.Same.{AreSameNodes}
+use Rattle.pg_joining.specs.PgNodeState.Same.{AreSameNodes}
 use Rattle.std.specs.Prelude.{◌↔◌, IsTrue}
 use Rattle.pg_cluster.proofs.Judging.{shown_one}
 use Rattle.pg_cluster.proofs.judges.shows_one.Goals as goal

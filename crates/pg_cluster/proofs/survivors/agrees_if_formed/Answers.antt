@@ -1,7 +1,7 @@
 use Rattle.std.proofs.Common.{sym, ap, ◌∙◌}
-use Rattle.pg_node_state.specs.States.{kept_by, live_of}
-use Rattle.pg_query.proofs.SameGroups.{answers_too}
-use Rattle.pg_step.specs.State.{formed}
+use Rattle.pg_joining.specs.PgNodeState.States.{kept_by, live_of}
+use Rattle.pg_joining.proofs.PgQuery.SameGroups.{answers_too}
+use Rattle.pg_joining.specs.PgStep.State.{formed}
 use Rattle.pg_cluster.specs.Survivors.{is_compared, survivors}
 use Rattle.pg_cluster.proofs.Surviving.{agreed_forth, agreed_back}
 use Rattle.pg_cluster.proofs.survivors.agrees_if_formed.Goals as goal

@@ -1,5 +1,5 @@
 use Rattle.std.proofs.Common.{sym, ap, ◌∙◌, arith}
-use Rattle.pg_node_state.specs.States.{kept_by}
+use Rattle.pg_joining.specs.PgNodeState.States.{kept_by}
 use Rattle.pg_cluster.specs.Judges.{state_in}
 use Rattle.pg_cluster.proofs.Surviving.{each_survivor}
 use Rattle.pg_cluster.proofs.Surviving.{not_each}

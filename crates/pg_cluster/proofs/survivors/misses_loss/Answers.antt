@@ -1,7 +1,7 @@
 use Rattle.std.proofs.Common.{◌≡◌, ℕ, length, false}
 use Rattle.std.proofs.Common.{not, sym, ap, ◌∙◌, arith}
 use Rattle.std.specs.Prelude.{◌&&◌}
-use Rattle.pg_frame_world.specs.Views.{peer_place}
+use Rattle.pg_joining.specs.PgFrameWorld.Views.{peer_place}
 use Rattle.pg_cluster.specs.Survivors.{has_event, is_loss_of}
 use Rattle.pg_cluster.specs.Survivors.{log_at, was_lost}
 use Rattle.pg_cluster.proofs.Surviving.{any_found, any_none}

@@ -1,6 +1,6 @@
 use Rattle.std.proofs.Common.{◌≡◌, ◌<◌, ℕ}
 use Rattle.std.specs.Prelude.{false, ◌&&◌, not}
-use Rattle.pg_frame_world.specs.Views.{peer_place}
+use Rattle.pg_joining.specs.PgFrameWorld.Views.{peer_place}
 use Rattle.pg_cluster.specs.Survivors.{has_event, is_loss_of}
 use Rattle.pg_cluster.specs.Survivors.{log_at, was_lost}
 use Rattle.pg_cluster.proofs.survivors.misses_loss.Given as goal

@@ -1,6 +1,6 @@
 use Rattle.std.proofs.Common.{◌≡◌, ◌<◌, ℕ}
 use Rattle.std.specs.Prelude.{false, ◌&&◌, not}
-use Rattle.pg_frame_world.specs.Views.{peer_place}
+use Rattle.pg_joining.specs.PgFrameWorld.Views.{peer_place}
 use Rattle.pg_cluster.specs.Survivors.{has_event}
 use Rattle.pg_cluster.specs.Survivors.{is_take_of, log_at, was_lost}
 use Rattle.pg_cluster.proofs.survivors.misses_packets.Given as goal

@@ -1,6 +1,6 @@
 use Rattle.std.proofs.Common.{◌≡◌, drop}
 use Rattle.std.specs.List.{list_all}
-use Rattle.pg_message.specs.Name.{is_name}
+use Rattle.pg_step.specs.PgMessage.Name.{is_name}
 use Rattle.pg_config.proofs.config.are_names.Given as goal
 
 -- what is left of the list says what all of it says

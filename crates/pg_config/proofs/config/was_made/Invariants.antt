@@ -1,7 +1,7 @@
 use Rattle.std.proofs.Common.{◌≡◌, ◌&&◌, drop}
 use Rattle.std.specs.List.{list_any}
 use Rattle.pg_term.specs.Same.{same_atom}
-use Rattle.pg_ends.specs.Numbers.{is_among}
+use Rattle.pg_step.specs.PgEnds.Numbers.{is_among}
 use Rattle.pg_config.proofs.config.was_made.Given as goal
 
 -- what is left of the list says what all of it says

@@ -4,7 +4,7 @@ use Rattle.pg_explore.specs.declared.moves.Move.{Move}
 use Rattle.pg_explore.specs.Listings.{AddsOpen, IsMoveOfPeer}
 use Rattle.pg_explore.specs.Moments.{sight_of}
 use Rattle.std.proofs.lemmas.List.{length-map}
-use Rattle.pg_machine.specs.Places.{is_pair}
+use Rattle.pg_frame_world.specs.PgMachine.Places.{is_pair}
 use Rattle.pg_explore.specs.Moments.{progress_of}
 use Rattle.pg_frame_world.specs.FrameWorlds.{traffic_of}
 use Rattle.pg_frame_world.specs.Views.{on_the_way}

@@ -3,7 +3,7 @@ use Rattle.std.proofs.Common.{map, take, get_or, max, refl, sym, ap, ap₂, ◌�
 use Rattle.std.specs.Prelude.{option_map, slice_get, Option, Some}
 use Rattle.std.specs.Option.{option_copied}
 use Rattle.pg_frame_world.specs.FrameWorlds.{traffic_of}
-use Rattle.pg_starts.specs.Seen.{seen_of}
+use Rattle.pg_frame_world.specs.PgStarts.Seen.{seen_of}
 use Rattle.pg_explore.proofs.Sized.{many_names, pair_is}
 use Rattle.pg_explore.proofs.listing.has_seen.Goals as goal
 use Rattle.pg_explore.proofs.listing.has_seen.Goals.{then-peer-node, else-peer-node}

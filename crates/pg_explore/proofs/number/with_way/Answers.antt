@@ -1,9 +1,9 @@
 use Rattle.std.proofs.Common.{◌<◌, map, length, refl, arith}
 use Rattle.std.proofs.lemmas.Option.{slice_get_read}
-use Rattle.pg_machine.specs.Clocked.{Stamped}
-use Rattle.pg_message.specs.declared.message.Message.{Message}
-use Rattle.pg_message.specs.declared.packet.Packet.{Packet}
-use Rattle.pg_sends.specs.Sent.{stamped_of}
+use Rattle.pg_frame_world.specs.PgMachine.Clocked.{Stamped}
+use Rattle.pg_frame_world.specs.PgMessage.declared.message.Message.{Message}
+use Rattle.pg_frame_world.specs.PgMessage.declared.packet.Packet.{Packet}
+use Rattle.pg_frame_world.specs.PgSends.Sent.{stamped_of}
 use Rattle.pg_explore.specs.Numbers.{mixed_message}
 use Rattle.pg_explore.proofs.Counting.{fold_more, map_at}
 use Rattle.pg_explore.proofs.number.with_way.Goals as goal

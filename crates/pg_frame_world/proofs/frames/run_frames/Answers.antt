@@ -1,7 +1,7 @@
 use Rattle.std.proofs.Common.{◌∙◌, List, ℕ, sym, subst}
-use Rattle.pg_step.specs.Config.{Config}
-use Rattle.pg_step.specs.FrameMachine.{frame_machine}
-use Rattle.pg_machine.specs.Machine.{start_of}
+use Rattle.pg_node_state.specs.PgStep.Config.{Config}
+use Rattle.pg_node_state.specs.PgStep.FrameMachine.{frame_machine}
+use Rattle.pg_node_state.specs.PgMachine.Machine.{start_of}
 use Rattle.pg_frame_world.specs.FrameWorlds.{lost_of, view_of}
 use Rattle.pg_frame_world.specs.Losing.{ShowsLosing}
 use Rattle.pg_frame_world.specs.Runs.{over_packets}

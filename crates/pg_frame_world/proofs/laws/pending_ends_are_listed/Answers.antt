@@ -1,10 +1,10 @@
 use Rattle.std.proofs.Common.{◌≡◌, ℕ, [], true, sym, subst}
 use Rattle.pg_term.specs.declared.pid.Pid.{Pid}
-use Rattle.pg_ends.specs.Numbers.{is_among}
-use Rattle.pg_machine.specs.Losing.{all_steps}
-use Rattle.pg_step.specs.LossLaws.{LosingFrameWorld}
-use Rattle.pg_history.specs.WithLosses.{NonePendingLive}
-use Rattle.pg_loss.specs.Reached.{LosingReaches}
+use Rattle.pg_node_state.specs.PgEnds.Numbers.{is_among}
+use Rattle.pg_node_state.specs.PgMachine.Losing.{all_steps}
+use Rattle.pg_node_state.specs.PgStep.LossLaws.{LosingFrameWorld}
+use Rattle.pg_retries.specs.PgHistory.WithLosses.{NonePendingLive}
+use Rattle.pg_retries.specs.PgLoss.Reached.{LosingReaches}
 use Rattle.pg_frame_world.specs.Losing.{losing_of}
 use Rattle.pg_frame_world.specs.Pending.{IsPending}
 use Rattle.pg_frame_world.proofs.Listed.{EndedWereMade, Numbered, empty_list, is_listed, listed_is}

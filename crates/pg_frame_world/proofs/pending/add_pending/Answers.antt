@@ -1,7 +1,7 @@
 use Rattle.std.proofs.Common.{◌≡◌, true, false, List, [], not, refl, sym, subst, ◌∙◌}
 use Rattle.std.proofs.lemmas.List.{nil_from_length}
 use Rattle.pg_term.specs.declared.pid.Pid.{Pid}
-use Rattle.pg_ends.specs.Numbers.{ended_among}
+use Rattle.pg_node_state.specs.PgEnds.Numbers.{ended_among}
 use Rattle.pg_frame_world.specs.Pending.{has_end, is_untaken, lent_as, own_of}
 use Rattle.pg_starts.specs.Seen.{Seen, seen_of}
 use Rattle.pg_frame_world.proofs.Listed.{Added, all_added, any_map, none_more, one_added}

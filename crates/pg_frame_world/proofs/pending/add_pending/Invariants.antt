@@ -1,4 +1,4 @@
-use Rattle.pg_ends.specs.Numbers.{ended_among}
+use Rattle.pg_node_state.specs.PgEnds.Numbers.{ended_among}
 use Rattle.pg_frame_world.specs.Pending.{has_end, lent_as, own_of}
 use Rattle.pg_starts.specs.Seen.{seen_of}
 use Rattle.pg_frame_world.proofs.Listed.{Added}

@@ -1,4 +1,4 @@
-use Rattle.pg_machine.specs.Clocked.{plain}
+use Rattle.pg_step.specs.PgMachine.Clocked.{plain}
 use Rattle.pg_history.proofs.quiet.Rest.{no_lock_held}
 use Rattle.pg_history.proofs.quiet.Runs.{rested_timed}
 use Rattle.pg_history.proofs.laws.a_quiet_world_holds_no_lock.Goals as goal

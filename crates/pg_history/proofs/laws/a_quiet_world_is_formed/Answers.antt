@@ -1,4 +1,4 @@
-use Rattle.pg_machine.specs.Clocked.{plain}
+use Rattle.pg_step.specs.PgMachine.Clocked.{plain}
 use Rattle.pg_history.proofs.ends.Posts.{posted_timed}
 use Rattle.pg_history.proofs.quiet.Rest.{all_formed}
 use Rattle.pg_history.proofs.quiet.Runs.{rested_timed}

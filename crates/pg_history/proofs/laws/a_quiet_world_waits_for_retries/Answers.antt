@@ -1,4 +1,4 @@
-use Rattle.pg_machine.specs.Clocked.{plain}
+use Rattle.pg_step.specs.PgMachine.Clocked.{plain}
 use Rattle.pg_history.proofs.quiet.Rest.{nothing_under_way}
 use Rattle.pg_history.proofs.quiet.Runs.{rested_timed}
 use Rattle.pg_history.proofs.laws.a_quiet_world_waits_for_retries.Goals as goal

@@ -1,5 +1,5 @@
 use Rattle.std.proofs.Common.{◌+◌, ◌≤◌, arith}
-use Rattle.pg_machine.specs.Clocked.{plain}
+use Rattle.pg_step.specs.PgMachine.Clocked.{plain}
 use Rattle.pg_step.specs.Step.{CLOCK_LIMIT}
 use Rattle.pg_history.specs.Quiet.{most_takes}
 use Rattle.pg_history.proofs.quiet.Ending.{comes_to_rest, next_is_taken, takes_end}

@@ -1,4 +1,4 @@
-use Rattle.pg_machine.specs.Clocked.{plain}
+use Rattle.pg_step.specs.PgMachine.Clocked.{plain}
 use Rattle.pg_history.proofs.ends.Posts.{posted_timed, good_exchange, none_refused}
 use Rattle.pg_history.proofs.steps.Lossless.{nobody_timed}
 use Rattle.pg_history.proofs.laws.exchanges_once.Goals as goal

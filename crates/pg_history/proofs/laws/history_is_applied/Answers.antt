@@ -1,4 +1,4 @@
-use Rattle.pg_machine.specs.Clocked.{plain}
+use Rattle.pg_step.specs.PgMachine.Clocked.{plain}
 use Rattle.pg_history.proofs.places.Clauses.{bridge, applies}
 use Rattle.pg_history.proofs.laws.history_is_applied.Goals as goal
 

@@ -1,5 +1,5 @@
 use Rattle.pg_step.specs.Config.{nodes_at}
-use Rattle.pg_machine.specs.Clocked.{plain}
+use Rattle.pg_step.specs.PgMachine.Clocked.{plain}
 use Rattle.pg_history.proofs.steps.Lossless.{live_all, nobody_timed}
 use Rattle.pg_history.proofs.laws.no_loss_is_seen.Goals as goal
 

@@ -1,4 +1,4 @@
-use Rattle.pg_machine.specs.Clocked.{plain}
+use Rattle.pg_step.specs.PgMachine.Clocked.{plain}
 use Rattle.pg_history.specs.Fresh.{made_by}
 use Rattle.pg_history.proofs.ends.Fresh.{says, numbered_once}
 use Rattle.pg_history.proofs.laws.processes_are_fresh.Goals as goal

@@ -1,6 +1,6 @@
 -- The joined run is one of the nodes of the configuration.
-use Rattle.pg_step.specs.Step.{CLOCK_LIMIT}
-use Rattle.pg_step.specs.FrameMachine.{frame_machine}
+use Rattle.pg_world.specs.PgStep.Step.{CLOCK_LIMIT}
+use Rattle.pg_world.specs.PgStep.FrameMachine.{frame_machine}
 use Rattle.pg_joining.specs.Joined.{Joined}
 use Rattle.pg_joining.specs.Merge.{merged_logs}
 use Rattle.pg_joining.proofs.Joining.{joined}

@@ -1,6 +1,6 @@
 use Rattle.std.proofs.Common.{◌≡◌, drop}
 use Rattle.std.specs.List.{list_any}
-use Rattle.pg_step.specs.Attempts.{same_op}
+use Rattle.pg_marks.specs.PgStep.Attempts.{same_op}
 use Rattle.pg_opens.proofs.command.place_of_op.Given as goal
 
 -- what is left of the list says what all of it says

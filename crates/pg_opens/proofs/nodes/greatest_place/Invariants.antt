@@ -1,5 +1,5 @@
 use Rattle.std.proofs.Common.{◌≡◌, ◌<◌, length, get_or, false}
-use Rattle.pg_step.specs.Nodes.{greatest}
+use Rattle.pg_marks.specs.PgStep.Nodes.{greatest}
 use Rattle.pg_opens.specs.Places.{name_at, live_in}
 use Rattle.pg_opens.proofs.Greatest.{greatest_from}
 use Rattle.pg_opens.proofs.nodes.greatest_place.Given as goal

@@ -2,14 +2,14 @@ use Rattle.std.proofs.Common.{◌≡◌, ◌⊎◌, inl, inr, None, Some, ap}
 use Rattle.std.proofs.lemmas.Result.{on_err_weaker}
 use Rattle.pg_term.specs.declared.pid.Pid.{Pid}
 use Rattle.pg_term.specs.declared.term.Term.{Term}
-use Rattle.pg_group.specs.Table.{Table}
-use Rattle.pg_group.specs.Value.{Value, name_of}
-use Rattle.pg_group.specs.declared.update.Update.{Update}
-use Rattle.pg_group.specs.declared.update.Update.TheVariants as updates
-use Rattle.pg_step.specs.declared.answer.Reply.TheVariants as replies
-use Rattle.pg_step.specs.declared.command.Command.{Command}
-use Rattle.pg_step.specs.declared.command.Command.TheVariants as commands
-use Rattle.pg_step.specs.Commands.{change_of, look}
+use Rattle.pg_opens.specs.PgGroup.Table.{Table}
+use Rattle.pg_opens.specs.PgGroup.Value.{Value, name_of}
+use Rattle.pg_opens.specs.PgGroup.declared.update.Update.{Update}
+use Rattle.pg_opens.specs.PgGroup.declared.update.Update.TheVariants as updates
+use Rattle.pg_opens.specs.PgStep.declared.answer.Reply.TheVariants as replies
+use Rattle.pg_opens.specs.PgStep.declared.command.Command.{Command}
+use Rattle.pg_opens.specs.PgStep.declared.command.Command.TheVariants as commands
+use Rattle.pg_opens.specs.PgStep.Commands.{change_of, look}
 use Rattle.pg_ports.proofs.looks.look.Goals as goal
 
 -- a join or a leave of a group that is not there

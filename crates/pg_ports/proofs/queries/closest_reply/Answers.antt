@@ -1,7 +1,7 @@
 use Rattle.std.proofs.Common.{Err, ap, sym, subst}
 use Rattle.pg_term.specs.declared.term.Term.{Term}
-use Rattle.pg_step.specs.declared.answer.Reply.TheVariants as reply
-use Rattle.pg_step.specs.Commands.{PicksMember}
+use Rattle.pg_opens.specs.PgStep.declared.answer.Reply.TheVariants as reply
+use Rattle.pg_opens.specs.PgStep.Commands.{PicksMember}
 use Rattle.pg_ports.proofs.Picked.{picks_none}
 use Rattle.pg_ports.proofs.queries.closest_reply.Goals as goal
 

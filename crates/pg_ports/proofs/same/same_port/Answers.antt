@@ -1,6 +1,6 @@
 use Rattle.std.proofs.Common.{◌∙◌, ap, sym, refl}
 use Rattle.std.specs.Cmp.Lexicographic.{pointwise}
-use Rattle.pg_step.specs.SameAnswers.{same_answer}
+use Rattle.pg_opens.specs.PgStep.SameAnswers.{same_answer}
 use Rattle.pg_opens.proofs.Alike.{lists_are, list_self}
 use Rattle.pg_ports.proofs.same.same_port.Goals as goal
 

@@ -1,6 +1,6 @@
 use Rattle.std.proofs.Common.{◌≡◌, ◌++◌, ◌∙◌, ℕ, List, ap}
-use Rattle.pg_message.specs.declared.packet.Packet.{Packet}
-use Rattle.pg_sends.specs.Frames.{frames_to}
+use Rattle.pg_node_state.specs.PgMessage.declared.packet.Packet.{Packet}
+use Rattle.pg_node_state.specs.PgSends.Frames.{frames_to}
 use Rattle.pg_node_state.specs.States.{names_of, state_of, answers_of}
 use Rattle.pg_replica.proofs.Taken.{answers, refuses}
 use Rattle.pg_replica.proofs.answer.answer_packet.Goals as goal

@@ -1,7 +1,7 @@
 use Rattle.std.proofs.Common.{◌≡◌, ◌∙◌, List, length, ap, arith}
-use Rattle.pg_group.specs.Table.{Table}
-use Rattle.pg_step.specs.Nodes.{Node}
-use Rattle.pg_step.specs.State.{new_state}
+use Rattle.pg_node_state.specs.PgGroup.Table.{Table}
+use Rattle.pg_node_state.specs.PgStep.Nodes.{Node}
+use Rattle.pg_node_state.specs.PgStep.State.{new_state}
 use Rattle.pg_node_state.proofs.Apart.{two_apart, few_in_none}
 use Rattle.pg_replica.proofs.server.idle_server.Goals as goal
 

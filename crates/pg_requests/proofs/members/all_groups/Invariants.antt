@@ -1,5 +1,5 @@
 use Rattle.std.proofs.Common.{◌≡◌, length, reverse}
-use Rattle.pg_message.specs.Reading.{read_each}
+use Rattle.pg_step.specs.PgMessage.Reading.{read_each}
 use Rattle.pg_requests.specs.Members.{group_of}
 use Rattle.pg_requests.proofs.Collected.{following}
 use Rattle.pg_requests.proofs.members.all_groups.Given as goal

@@ -1,6 +1,6 @@
 use Rattle.std.proofs.Common.{◌≡◌, length, reverse}
-use Rattle.pg_message.specs.Parts.{pid_of}
-use Rattle.pg_message.specs.Reading.{read_each}
+use Rattle.pg_step.specs.PgMessage.Parts.{pid_of}
+use Rattle.pg_step.specs.PgMessage.Reading.{read_each}
 use Rattle.pg_requests.proofs.Collected.{following}
 use Rattle.pg_requests.proofs.members.all_pids.Given as goal
 

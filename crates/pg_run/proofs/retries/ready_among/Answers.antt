@@ -1,11 +1,11 @@
 use Rattle.std.proofs.Common.{rules, ◌≡◌, ◌∷◌, ◌++◌, [], ap, ap₂, get_or, map, sym, take, take_all, ◌∙◌}
 use Rattle.std.proofs.lemmas.List.{map-append, take_more}
 use Rattle.pg_node.specs.Nodes.{held_by}
-use Rattle.pg_node_state.specs.States.{kept_by, live_of}
-use Rattle.pg_node_state.specs.Waiting.{is_ready}
+use Rattle.pg_node.specs.PgNodeState.States.{kept_by, live_of}
+use Rattle.pg_node.specs.PgNodeState.Waiting.{is_ready}
 use Rattle.pg_run.specs.Follows.{node_of}
 use Rattle.pg_run.specs.Tries.{is_ready_at}
-use Rattle.pg_step.specs.declared.command.OpId.{OpId}
+use Rattle.pg_node.specs.PgStep.declared.command.OpId.{OpId}
 use Rattle.pg_run.proofs.retries.ready_among.Goals as goal
 
 pub loop-place-preserved : goal.loop-place-preserved

@@ -1,8 +1,8 @@
 use Rattle.std.proofs.Common.{◌∙◌, ap, refl, sym}
 use Rattle.std.specs.List.{list_any}
 use Rattle.pg_node.specs.Nodes.{held_by}
-use Rattle.pg_node_state.specs.States.{kept_by, live_of}
-use Rattle.pg_step.specs.Attempts.{same_op, waits}
+use Rattle.pg_node.specs.PgNodeState.States.{kept_by, live_of}
+use Rattle.pg_node.specs.PgStep.Attempts.{same_op, waits}
 use Rattle.pg_run.specs.Follows.{log_of, node_of}
 use Rattle.pg_run.specs.Logs.{IsDueRetry}
 use Rattle.pg_run.specs.Tries.{is_ready_at, waits_at}

@@ -1,5 +1,5 @@
 use Rattle.std.proofs.Common.{◌≡◌, ◌∙◌, ap, arith}
-use Rattle.pg_node_state.specs.Issued.{ports_of}
+use Rattle.pg_node.specs.PgNodeState.Issued.{ports_of}
 use Rattle.pg_node.specs.Nodes.{held_by}
 use Rattle.pg_run.specs.Follows.{node_of}
 use Rattle.pg_run.proofs.GoingOn.{goes_itself, goes_on, goes_by_retry}

@@ -1,7 +1,7 @@
 use Rattle.pg_run.proofs.Forgetting.{all_forget_none, all_forget_on}
 use Rattle.pg_run.proofs.GoingOn.{goes_itself, serves_going, serves_on}
 use Rattle.pg_node.specs.Nodes.{held_by}
-use Rattle.pg_node_state.specs.States.{answers_of}
+use Rattle.pg_node.specs.PgNodeState.States.{answers_of}
 use Rattle.pg_run.proofs.Served.{holds_first, holds_next, keep_on, keep_themselves, leaves_next}
 use Rattle.pg_run.proofs.Wanting.{not_both}
 use Rattle.pg_run.specs.Ports.{HandsAll}

@@ -1,7 +1,7 @@
 use Rattle.std.proofs.Common.{◌≡◌}
 use Rattle.std.specs.Prelude.{false}
 use Rattle.pg_node.specs.Nodes.{held_by}
-use Rattle.pg_node_state.specs.States.{answers_of}
+use Rattle.pg_node.specs.PgNodeState.States.{answers_of}
 use Rattle.pg_run.specs.Ports.{HandsAll}
 use Rattle.pg_run.specs.Served.{AllForgetHanded, KeepTheSame}
 use Rattle.pg_run.specs.Turns.{Serves}

@@ -1,6 +1,6 @@
 use Rattle.std.proofs.Common.{◌<◌, ◌∙◌, length, ap, subst, sym}
 use Rattle.pg_node.specs.Nodes.{held_by}
-use Rattle.pg_node_state.specs.States.{answers_of}
+use Rattle.pg_node.specs.PgNodeState.States.{answers_of}
 use Rattle.pg_run.specs.Ports.{ForgetsHanded, Hands, HandsAll, handed_count}
 use Rattle.pg_run.proofs.Forgetting.{all_forget_at}
 use Rattle.pg_run.proofs.GoingOn.{served_handed}

@@ -1,6 +1,6 @@
 use Rattle.std.proofs.Common.{◌∙◌, List, [], ◌∷◌, ap, refl}
 use Rattle.pg_run.specs.declared.port.Asked.{Asked}
-use Rattle.pg_step.specs.declared.command.Command.{Command}
+use Rattle.pg_node.specs.PgStep.declared.command.Command.{Command}
 use Rattle.pg_run.specs.Follows.{log_of}
 use Rattle.pg_run.specs.Logs.{IsCommand}
 use Rattle.pg_run.proofs.Logging.{logs_command, logs_same}

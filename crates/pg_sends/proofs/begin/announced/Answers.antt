@@ -1,5 +1,5 @@
 use Rattle.std.proofs.Common.{◌∙◌}
-use Rattle.pg_message.specs.declared.message.Message.TheVariants.{Exchange}
+use Rattle.pg_opens.specs.PgMessage.declared.message.Message.TheVariants.{Exchange}
 use Rattle.pg_sends.proofs.begin.announced.Goals as goal
 
 pub returns : goal.returns

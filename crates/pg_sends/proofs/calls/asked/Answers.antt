@@ -1,12 +1,12 @@
 use Rattle.std.proofs.Common.{◌≡◌, ◌∙◌, true, sym, ap}
-use Rattle.pg_group.specs.Value.{name_of}
-use Rattle.pg_machine.specs.Clocked.{stamped}
-use Rattle.pg_message.specs.declared.message.Message.TheVariants as messages
-use Rattle.pg_message.specs.declared.message.Request.TheVariants as requests
+use Rattle.pg_opens.specs.PgGroup.Value.{name_of}
+use Rattle.pg_opens.specs.PgMachine.Clocked.{stamped}
+use Rattle.pg_opens.specs.PgMessage.declared.message.Message.TheVariants as messages
+use Rattle.pg_opens.specs.PgMessage.declared.message.Request.TheVariants as requests
 use Rattle.pg_opens.specs.Opens.{live_of, names_of}
 use Rattle.pg_opens.specs.Readings.{update_of}
-use Rattle.pg_step.specs.Attempts.{asks}
-use Rattle.pg_step.specs.Nodes.{to_peers}
+use Rattle.pg_opens.specs.PgStep.Attempts.{asks}
+use Rattle.pg_opens.specs.PgStep.Nodes.{to_peers}
 use Rattle.pg_sends.specs.Sent.{sends_in}
 use Rattle.pg_sends.proofs.Updates.{update_is}
 use Rattle.pg_sends.proofs.calls.asked.Goals as goal

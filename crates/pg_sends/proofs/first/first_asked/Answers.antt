@@ -1,12 +1,12 @@
 use Rattle.std.proofs.Common.{◌∙◌, ◌+◌, sym, ap}
-use Rattle.pg_group.specs.Value.{name_of}
-use Rattle.pg_machine.specs.Clocked.{stamped}
-use Rattle.pg_message.specs.declared.message.Message.TheVariants as messages
-use Rattle.pg_message.specs.declared.message.Request.TheVariants as requests
+use Rattle.pg_opens.specs.PgGroup.Value.{name_of}
+use Rattle.pg_opens.specs.PgMachine.Clocked.{stamped}
+use Rattle.pg_opens.specs.PgMessage.declared.message.Message.TheVariants as messages
+use Rattle.pg_opens.specs.PgMessage.declared.message.Request.TheVariants as requests
 use Rattle.pg_opens.specs.Opens.{names_of, live_of}
 use Rattle.pg_opens.specs.Places.{name_at}
-use Rattle.pg_step.specs.Attempts.{own_reference}
-use Rattle.pg_step.specs.Nodes.{to_one}
+use Rattle.pg_opens.specs.PgStep.Attempts.{own_reference}
+use Rattle.pg_opens.specs.PgStep.Nodes.{to_one}
 use Rattle.pg_sends.specs.Sent.{sends_in}
 use Rattle.pg_sends.proofs.Updates.{same_update}
 use Rattle.pg_sends.proofs.first.first_asked.Goals as goal

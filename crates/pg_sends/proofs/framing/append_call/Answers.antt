@@ -1,7 +1,7 @@
 use Rattle.std.proofs.Common.{Ok, refl, ap}
 use Rattle.pg_term.specs.RefParts.{RefParts}
-use Rattle.pg_message.specs.declared.message.Message.TheVariants as messages
-use Rattle.pg_message.specs.declared.packet.Packet.{Packet}
+use Rattle.pg_opens.specs.PgMessage.declared.message.Message.TheVariants as messages
+use Rattle.pg_opens.specs.PgMessage.declared.packet.Packet.{Packet}
 use Rattle.pg_writer.specs.Told.{reference_lent, asked_for}
 use Rattle.pg_sends.specs.Orders.{reference_in}
 use Rattle.pg_sends.proofs.FrameLaws.{appended}

@@ -1,5 +1,5 @@
 use Rattle.std.proofs.Common.{◌≡◌, ◌≤◌, ℕ, length}
-use Rattle.pg_message.specs.declared.message.Message.{Message}
+use Rattle.pg_opens.specs.PgMessage.declared.message.Message.{Message}
 use Rattle.pg_sends.specs.Marked.{marks_of, sent_below}
 use Rattle.pg_sends.proofs.framing.count_marked.Given as goal
 

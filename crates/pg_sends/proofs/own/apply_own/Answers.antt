@@ -1,7 +1,7 @@
 use Rattle.std.proofs.Common.{◌∙◌, ◌&&◌, ap}
 use Rattle.pg_term.specs.declared.term.Term.{Term}
-use Rattle.pg_group.specs.Value.{name_of}
-use Rattle.pg_lock.specs.Locks.{locks_of, after_ask, given_up, is_holder}
+use Rattle.pg_opens.specs.PgGroup.Value.{name_of}
+use Rattle.pg_opens.specs.PgLock.Locks.{locks_of, after_ask, given_up, is_holder}
 use Rattle.pg_sends.specs.Orders.{reference_in}
 use Rattle.pg_sends.proofs.Undone.{given_back}
 use Rattle.pg_sends.proofs.own.apply_own.Goals as goal

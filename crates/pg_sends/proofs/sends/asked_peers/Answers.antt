@@ -1,6 +1,6 @@
 use Rattle.std.proofs.Common.{◌≤◌, ◌-◌, ◌&&◌, true, length, arith}
-use Rattle.pg_step.specs.Nodes.{is_peer}
-use Rattle.pg_step.specs.Attempts.{asks}
+use Rattle.pg_opens.specs.PgStep.Nodes.{is_peer}
+use Rattle.pg_opens.specs.PgStep.Attempts.{asks}
 use Rattle.pg_opens.specs.Opens.{names_of, live_of}
 use Rattle.pg_sends.proofs.Sent.{marks_say, one_mark}
 use Rattle.pg_sends.proofs.sends.asked_peers.Goals as goal

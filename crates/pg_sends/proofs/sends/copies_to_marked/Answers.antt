@@ -3,7 +3,7 @@ use Rattle.pg_sends.proofs.Announcing.{places_below}
 use Rattle.pg_sends.proofs.Sent.{all_sent, length_marks, sent_more, and_nothing}
 use Rattle.pg_sends.specs.Opening.{GoToPeers}
 use Rattle.pg_sends.specs.Sent.{sends_in}
-use Rattle.pg_multicall.specs.Places.{has_of}
+use Rattle.pg_opens.specs.PgMulticall.Places.{has_of}
 use Rattle.pg_sends.specs.Marked.{marks_of, sent_below}
 use Rattle.pg_sends.proofs.sends.copies_to_marked.Goals as goal
 use Rattle.pg_sends.proofs.sends.copies_to_marked.Goals.{then-has+in_ok-copy+in_ok-push, else-has}

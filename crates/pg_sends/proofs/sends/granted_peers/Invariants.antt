@@ -1,10 +1,10 @@
 use Rattle.std.proofs.Common.{◌≡◌, ◌&&◌}
-use Rattle.pg_group.specs.declared.update.Update.{Update}
-use Rattle.pg_step.specs.declared.command.OpId.{OpId}
-use Rattle.pg_step.specs.Nodes.{Node, is_peer}
-use Rattle.pg_step.specs.State.{Status}
-use Rattle.pg_step.specs.State.Use.{Locking}
-use Rattle.pg_step.specs.Attempts.{is_yes}
+use Rattle.pg_opens.specs.PgGroup.declared.update.Update.{Update}
+use Rattle.pg_opens.specs.PgStep.declared.command.OpId.{OpId}
+use Rattle.pg_opens.specs.PgStep.Nodes.{Node, is_peer}
+use Rattle.pg_opens.specs.PgStep.State.{Status}
+use Rattle.pg_opens.specs.PgStep.State.Use.{Locking}
+use Rattle.pg_opens.specs.PgStep.Attempts.{is_yes}
 use Rattle.pg_opens.specs.Opens.{names_of, live_of, uses_of}
 use Rattle.pg_sends.proofs.Sent.{AreMarks}
 use Rattle.pg_sends.proofs.sends.granted_peers.Given as goal

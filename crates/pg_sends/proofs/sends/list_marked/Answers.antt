@@ -1,5 +1,5 @@
 use Rattle.std.proofs.Common.{◌∙◌, ◌≡◌, ◌++◌, ◌∷◌, [], Bool, true, false, sym, ap, arith}
-use Rattle.pg_multicall.specs.Places.{has_of}
+use Rattle.pg_opens.specs.PgMulticall.Places.{has_of}
 use Rattle.pg_sends.specs.Marked.{marks_of, sent_below}
 use Rattle.pg_sends.specs.Orders.{message_of}
 use Rattle.pg_sends.proofs.Sent.{sent_more, and_nothing}

@@ -1,6 +1,6 @@
 use Rattle.std.proofs.Common.{◌≡◌, ◌&&◌, ℕ, true, false}
-use Rattle.pg_multicall.specs.Places.{has_of}
-use Rattle.pg_step.specs.Nodes.{Node, is_peer}
+use Rattle.pg_opens.specs.PgMulticall.Places.{has_of}
+use Rattle.pg_opens.specs.PgStep.Nodes.{Node, is_peer}
 use Rattle.pg_opens.specs.Opens.{names_of, live_of}
 use Rattle.pg_sends.proofs.Sent.{AreMarks}
 use Rattle.pg_sends.proofs.sends.live_peers.Given as goal

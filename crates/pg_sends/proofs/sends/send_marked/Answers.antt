@@ -1,6 +1,6 @@
 use Rattle.std.proofs.Common.{◌≡◌, ◌≤◌, ◌∙◌, ◌+◌, ◌∷◌, [], cond, length, ap, subst, sym, arith}
 use Rattle.std.proofs.lemmas.Result.{IfOk-weaker}
-use Rattle.pg_machine.specs.Clocked.{stamped}
+use Rattle.pg_opens.specs.PgMachine.Clocked.{stamped}
 use Rattle.pg_sends.specs.Marked.{is_marked, marks_of, sent_below}
 use Rattle.pg_sends.specs.Orders.{message_of}
 use Rattle.pg_sends.specs.Sendable.{AreSendable}

@@ -1,8 +1,8 @@
 use Rattle.std.proofs.Common.{◌≡◌, ◌∙◌, ◌+◌, ◌∷◌, [], ap, subst, sym}
 use Rattle.std.proofs.lemmas.Result.{IfOk-weaker}
-use Rattle.pg_machine.specs.Clocked.{stamped}
+use Rattle.pg_opens.specs.PgMachine.Clocked.{stamped}
 use Rattle.pg_opens.specs.Places.{name_at}
-use Rattle.pg_step.specs.Nodes.{to_one}
+use Rattle.pg_opens.specs.PgStep.Nodes.{to_one}
 use Rattle.pg_sends.specs.Orders.{message_of, ordered}
 use Rattle.pg_sends.specs.Sendable.{AreSendable}
 use Rattle.pg_sends.specs.Sent.{sends_in}

@@ -1,8 +1,8 @@
 use Rattle.std.proofs.Common.{◌≡◌, ◌∙◌, ◌∷◌, [], true, cond}
 use Rattle.std.proofs.lemmas.Result.{IfOk-weaker}
-use Rattle.pg_machine.specs.Clocked.{stamped}
+use Rattle.pg_opens.specs.PgMachine.Clocked.{stamped}
 use Rattle.pg_opens.specs.Opens.{names_of, live_of}
-use Rattle.pg_step.specs.Nodes.{to_peers}
+use Rattle.pg_opens.specs.PgStep.Nodes.{to_peers}
 use Rattle.pg_sends.specs.Marked.{is_marked, marks_of}
 use Rattle.pg_sends.specs.Orders.{message_of}
 use Rattle.pg_sends.specs.Sent.{sends_in}

@@ -1,11 +1,11 @@
 use Rattle.std.proofs.Common.{ap, ◌∙◌, ◌+◌, List}
-use Rattle.pg_machine.specs.Clocked.{Stamped, stamped}
-use Rattle.pg_message.specs.declared.message.Message.{Message}
-use Rattle.pg_message.specs.declared.message.Message.TheVariants.{Reply}
-use Rattle.pg_message.specs.declared.message.Said.{Said}
+use Rattle.pg_opens.specs.PgMachine.Clocked.{Stamped, stamped}
+use Rattle.pg_opens.specs.PgMessage.declared.message.Message.{Message}
+use Rattle.pg_opens.specs.PgMessage.declared.message.Message.TheVariants.{Reply}
+use Rattle.pg_opens.specs.PgMessage.declared.message.Said.{Said}
 use Rattle.pg_opens.specs.Places.{name_at}
-use Rattle.pg_step.specs.Nodes.{Node, to_one}
-use Rattle.pg_step.specs.Peers.{verdict}
+use Rattle.pg_opens.specs.PgStep.Nodes.{Node, to_one}
+use Rattle.pg_opens.specs.PgStep.Peers.{verdict}
 use Rattle.pg_sends.proofs.served.lock_for_peer.Goals as goal
 
 pub returns-in-Ok-clause-sends : goal.returns-in-Ok-clause-sends

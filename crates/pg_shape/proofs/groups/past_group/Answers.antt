@@ -2,7 +2,7 @@ use Rattle.std.proofs.Common.{◌≡◌, ◌∙◌, ℕ, true, false, List, Opti
 use Rattle.std.specs.Prelude.{is_some}
 use Rattle.pg_term.specs.declared.pid.Pid.{Pid}
 use Rattle.pg_term.specs.declared.term.Term.{Term}
-use Rattle.pg_term_io.specs.Lists.{list_from}
+use Rattle.pg_message.specs.PgTermIo.Lists.{list_from}
 use Rattle.pg_message.specs.Name.{is_name}
 use Rattle.pg_message.specs.Reading.{group_in}
 use Rattle.pg_shape.proofs.ListShapes.{no_list, group_is, starts_nothing, no_name, at_some, at_none}

@@ -2,7 +2,7 @@ use Rattle.std.proofs.Common.{◌≡◌, ◌∙◌, [], ◌∷◌, ℕ, List, Ok
 use Rattle.std.specs.Prelude.{is_some}
 use Rattle.std.proofs.lemmas.Option.{IfSome_then}
 use Rattle.pg_term.specs.declared.term.Term.{Term}
-use Rattle.pg_term_io.specs.Lists.{list_from}
+use Rattle.pg_message.specs.PgTermIo.Lists.{list_from}
 use Rattle.pg_message.specs.Reading.{group_in}
 use Rattle.pg_shape.proofs.ListShapes.{ends_nothing, no_members, no_third, some_group, told}
 use Rattle.pg_shape.proofs.groups.past_members.Goals as goal

@@ -1,6 +1,6 @@
 use Rattle.std.proofs.Common.{◌≡◌, ℕ, suc, ◌-◌, List, ◌++◌, length, length-append}
 use Rattle.std.proofs.Common.{length-drop, sym, ap, subst, ◌∙◌, arith}
-use Rattle.pg_term_io.specs.Reading.{item_at}
+use Rattle.pg_message.specs.PgTermIo.Reading.{item_at}
 use Rattle.pg_message.specs.Parts.{pid_of}
 use Rattle.pg_shape.specs.Lists.{EndsAlike}
 use Rattle.pg_shape.proofs.Alike.{named, one_alike}

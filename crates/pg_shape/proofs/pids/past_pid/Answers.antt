@@ -1,5 +1,5 @@
 use Rattle.std.proofs.Common.{sym, ◌∙◌}
-use Rattle.pg_term_io.specs.Reading.{item_at}
+use Rattle.pg_message.specs.PgTermIo.Reading.{item_at}
 use Rattle.pg_message.specs.Parts.{pid_of}
 use Rattle.pg_shape.proofs.ListShapes.{is_nothing, has_end}
 use Rattle.pg_shape.proofs.pids.past_pid.Goals as goal

@@ -1,5 +1,5 @@
 use Rattle.std.proofs.Common.{refl, arith}
-use Rattle.pg_term_io.specs.Reading.{item_at}
+use Rattle.pg_message.specs.PgTermIo.Reading.{item_at}
 use Rattle.pg_message.specs.Parts.{pid_of}
 use Rattle.pg_message.specs.Reading.{read_each}
 use Rattle.pg_shape.specs.Shape.{members_of}

@@ -1,6 +1,6 @@
 use Rattle.std.proofs.Common.{◌≡◌, ◌≤◌, ℕ, List, Ok, length}
 use Rattle.pg_term.specs.declared.term.Term.{Term}
-use Rattle.pg_term_io.specs.Reading.{item_at}
+use Rattle.pg_message.specs.PgTermIo.Reading.{item_at}
 use Rattle.pg_message.specs.Parts.{pid_of}
 use Rattle.pg_shape.specs.Lists.{EndsAlike}
 use Rattle.pg_shape.specs.Shape.{members_of}

@@ -1,7 +1,7 @@
 use Rattle.pg_shape.specs.Shape.{is_small, listed_of}
 use Rattle.std.specs.Prelude.{◌||◌, is_some}
 use Rattle.std.proofs.Common.{◌≡◌, ℕ, List, Ok, subst}
-use Rattle.pg_term_io.specs.Reading.{item_at}
+use Rattle.pg_message.specs.PgTermIo.Reading.{item_at}
 use Rattle.pg_shape.proofs.Shapes.{both_true, end_is, cast_no_word, cast_no_first, cast_no_second}
 use Rattle.pg_shape.proofs.shape.may_be_casting.Goals as goal
 

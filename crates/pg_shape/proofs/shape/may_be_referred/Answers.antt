@@ -2,7 +2,7 @@ use Rattle.std.specs.Prelude.{◌&&◌, ◌||◌}
 use Rattle.pg_message.specs.Parts.{elements_of}
 use Rattle.pg_shape.specs.Shape.{is_small, request_shape}
 use Rattle.std.proofs.Common.{◌≡◌, ℕ, List, Ok, subst}
-use Rattle.pg_term_io.specs.Reading.{item_at}
+use Rattle.pg_message.specs.PgTermIo.Reading.{item_at}
 use Rattle.pg_shape.proofs.Shapes.{both_true, true_before, true_behind, end_is, referred_no_word, referred_no_reference}
 use Rattle.pg_shape.proofs.shape.may_be_referred.Goals as goal
 

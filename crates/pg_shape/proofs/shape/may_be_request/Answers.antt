@@ -3,7 +3,7 @@ use Rattle.std.proofs.Common.{◌≡◌, ◌∙◌, true, false, ℕ, List, [], 
 use Rattle.std.specs.Prelude.{IfNone, IfSome, is_some}
 use Rattle.std.specs.Option.{option_and_then}
 use Rattle.pg_term.specs.declared.term.Term.{Term}
-use Rattle.pg_term_io.specs.Reading.{item_at}
+use Rattle.pg_message.specs.PgTermIo.Reading.{item_at}
 use Rattle.pg_message.specs.Reading.{request_in}
 use Rattle.pg_shape.proofs.Shapes.{both_true, no_pair, no_triple, no_other, request_other, triple_no_pid}
 use Rattle.pg_shape.proofs.shape.may_be_request.Goals as goal

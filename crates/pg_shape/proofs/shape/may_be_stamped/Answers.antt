@@ -1,7 +1,7 @@
 use Rattle.pg_shape.specs.Shape.{is_small, message_shape, packet_shape}
 use Rattle.pg_message.specs.Parts.{elements_of}
 use Rattle.std.proofs.Common.{◌≡◌, ◌∙◌, true, ℕ, List, Ok, Err, sym, subst}
-use Rattle.pg_term_io.specs.Reading.{item_at}
+use Rattle.pg_message.specs.PgTermIo.Reading.{item_at}
 use Rattle.pg_message.specs.declared.fault.MessageFault.TheVariants as faults
 use Rattle.pg_message.specs.Reading.{packet_in}
 use Rattle.pg_shape.proofs.Shapes.{both_true, end_is, no_pair, no_other}

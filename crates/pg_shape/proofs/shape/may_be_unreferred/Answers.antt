@@ -1,6 +1,6 @@
 use Rattle.pg_shape.specs.Shape.{is_small, cast_shape}
 use Rattle.pg_message.specs.Parts.{elements_of}
-use Rattle.pg_term_io.specs.Reading.{item_at}
+use Rattle.pg_message.specs.PgTermIo.Reading.{item_at}
 use Rattle.std.specs.Prelude.{◌||◌}
 use Rattle.std.proofs.Common.{◌≡◌, ℕ, List, Ok, subst}
 use Rattle.pg_shape.proofs.Shapes.{both_true, true_before, true_behind, end_is, said_no_word}

@@ -1,5 +1,5 @@
 use Rattle.std.proofs.Common.{◌≡◌, ℕ, List, Ok, subst}
-use Rattle.pg_term_io.specs.Reading.{item_at}
+use Rattle.pg_message.specs.PgTermIo.Reading.{item_at}
 use Rattle.pg_shape.proofs.Shapes.{end_is, pair_no_word, pair_no_name, triple_no_word, triple_no_name}
 use Rattle.pg_shape.proofs.shape.past_named.Goals as goal
 

@@ -1,6 +1,6 @@
 use Rattle.std.proofs.Common.{false, ◌∙◌}
-use Rattle.pg_group.specs.Table.{merged}
-use Rattle.pg_group.proofs.Groups.{merged_more}
+use Rattle.pg_node_state.specs.PgGroup.Table.{merged}
+use Rattle.pg_node_state.proofs.PgGroup.Groups.{merged_more}
 use Rattle.pg_starts.proofs.starts.filled.Goals as goal
 
 pub loop-name-preserved : goal.loop-name-preserved

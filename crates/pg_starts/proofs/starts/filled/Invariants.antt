@@ -1,5 +1,5 @@
 use Rattle.std.proofs.Common.{◌≡◌, false, take}
-use Rattle.pg_exchange.specs.GroupList.{all_merged}
+use Rattle.pg_node_state.specs.PgExchange.GroupList.{all_merged}
 use Rattle.pg_starts.proofs.starts.filled.Given as goal
 
 -- the groups so far

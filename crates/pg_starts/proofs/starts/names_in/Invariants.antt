@@ -1,5 +1,5 @@
 use Rattle.std.proofs.Common.{◌≡◌, take}
-use Rattle.pg_step.specs.Config.{names_of}
+use Rattle.pg_node_state.specs.PgStep.Config.{names_of}
 use Rattle.pg_starts.proofs.starts.names_in.Given as goal
 
 abbrev pub invariant-loop-start : goal.invariant-loop-start

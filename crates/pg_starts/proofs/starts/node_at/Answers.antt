@@ -1,7 +1,7 @@
 use Rattle.std.proofs.Common.{◌≤◌, ◌^◌, ◌∙◌, false, subst}
-use Rattle.pg_ends.specs.declared.processes.TheConstants.{MAX_PROCESSES}
-use Rattle.pg_exchange.specs.GroupList.{all_merged}
-use Rattle.pg_message.specs.Members.{HasFewMembers}
+use Rattle.pg_node_state.specs.PgEnds.declared.processes.TheConstants.{MAX_PROCESSES}
+use Rattle.pg_node_state.specs.PgExchange.GroupList.{all_merged}
+use Rattle.pg_node_state.specs.PgMessage.Members.{HasFewMembers}
 use Rattle.pg_starts.proofs.Starting.{groups_here, made_here, apart_here, peers_here, seen_here, few_here}
 use Rattle.pg_starts.proofs.starts.node_at.Goals as goal
 

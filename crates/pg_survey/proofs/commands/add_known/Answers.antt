@@ -1,7 +1,7 @@
 use Rattle.std.proofs.Common.{subst}
 use Rattle.std.specs.List.{flat_map}
 use Rattle.std.proofs.lemmas.List.{take_all}
-use Rattle.pg_step.specs.declared.start.Start.{Start}
+use Rattle.pg_script.specs.PgStep.declared.start.Start.{Start}
 use Rattle.pg_survey.specs.Names.{AddsNames, known_by}
 use Rattle.pg_survey.proofs.Naming.{adds_more}
 use Rattle.pg_survey.proofs.commands.add_known.Goals as goal

@@ -1,6 +1,6 @@
 use Rattle.std.proofs.Common.{take}
 use Rattle.std.specs.List.{flat_map}
-use Rattle.pg_step.specs.declared.start.Start.{Start}
+use Rattle.pg_script.specs.PgStep.declared.start.Start.{Start}
 use Rattle.pg_survey.specs.Names.{AddsNames, known_by}
 use Rattle.pg_survey.proofs.commands.add_known.Given as goal
 

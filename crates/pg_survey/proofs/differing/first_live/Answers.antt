@@ -1,4 +1,4 @@
-use Rattle.pg_frame_world.specs.FrameWorlds.{lost_of, traffic_of}
+use Rattle.pg_script.specs.PgFrameWorld.FrameWorlds.{lost_of, traffic_of}
 use Rattle.pg_survey.proofs.Looking.{HasLive, no_live, no_more_place, none_live}
 use Rattle.pg_survey.proofs.differing.first_live.Goals as goal
 

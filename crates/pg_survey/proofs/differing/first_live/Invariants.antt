@@ -1,4 +1,4 @@
-use Rattle.pg_frame_world.specs.FrameWorlds.{lost_of, traffic_of}
+use Rattle.pg_script.specs.PgFrameWorld.FrameWorlds.{lost_of, traffic_of}
 use Rattle.pg_survey.proofs.Looking.{HasLive, NoPlace}
 use Rattle.pg_survey.proofs.differing.first_live.Given as goal
 

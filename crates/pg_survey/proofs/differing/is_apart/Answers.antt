@@ -1,7 +1,7 @@
 use Rattle.std.proofs.Common.{◌≡◌, ap, sym, ◌∙◌}
 use Rattle.pg_term.specs.declared.term.Term.{Term}
-use Rattle.pg_frame_world.specs.FrameWorlds.{lost_of, traffic_of}
-use Rattle.pg_starts.specs.Seen.{seen_of}
+use Rattle.pg_script.specs.PgFrameWorld.FrameWorlds.{lost_of, traffic_of}
+use Rattle.pg_script.specs.PgStarts.Seen.{seen_of}
 use Rattle.pg_survey.proofs.Looking.{apart_at}
 use Rattle.pg_survey.proofs.differing.is_apart.Goals as goal
 

@@ -1,7 +1,7 @@
 use Rattle.std.proofs.Common.{◌≡◌, true, List, [], ◌∷◌, ◌++◌, Bool, get_or, take, sym, subst}
 use Rattle.std.proofs.lemmas.List.{take_all, take_more}
 use Rattle.pg_term.specs.declared.term.Term.{Term}
-use Rattle.pg_frame_world.specs.FrameWorlds.{lost_of, traffic_of}
+use Rattle.pg_script.specs.PgFrameWorld.FrameWorlds.{lost_of, traffic_of}
 use Rattle.pg_survey.specs.Differing.{DifferOn, Decides}
 use Rattle.pg_survey.proofs.Looking.{NoName, no_more_name}
 use Rattle.pg_survey.proofs.differing.is_differing.Goals as goal

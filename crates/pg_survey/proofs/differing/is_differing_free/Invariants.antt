@@ -1,5 +1,5 @@
 use Rattle.std.proofs.Common.{true, take}
-use Rattle.pg_frame_world.specs.FrameWorlds.{lost_of, traffic_of}
+use Rattle.pg_script.specs.PgFrameWorld.FrameWorlds.{lost_of, traffic_of}
 use Rattle.pg_survey.specs.Differing.{DifferFreeOn}
 use Rattle.pg_survey.proofs.Looking.{NoName}
 use Rattle.pg_survey.proofs.differing.is_differing_free.Given as goal

@@ -1,5 +1,5 @@
-use Rattle.pg_frame_world.specs.FrameWorlds.{lost_of, traffic_of}
-use Rattle.pg_starts.specs.Seen.{seen_of}
+use Rattle.pg_script.specs.PgFrameWorld.FrameWorlds.{lost_of, traffic_of}
+use Rattle.pg_script.specs.PgStarts.Seen.{seen_of}
 use Rattle.pg_survey.proofs.Looking.{SameBefore}
 use Rattle.pg_survey.proofs.differing.is_other.Given as goal
 

@@ -1,8 +1,8 @@
 use Rattle.std.proofs.Common.{◌≡◌, Bool, sym, subst}
 use Rattle.std.specs.Prelude.{option_map}
 use Rattle.std.specs.Option.{option_copied}
-use Rattle.pg_frame_world.specs.FrameWorlds.{lost_of, traffic_of}
-use Rattle.pg_starts.specs.Seen.{seen_of}
+use Rattle.pg_script.specs.PgFrameWorld.FrameWorlds.{lost_of, traffic_of}
+use Rattle.pg_script.specs.PgStarts.Seen.{seen_of}
 use Rattle.pg_survey.specs.Differing.{LiveOf}
 use Rattle.pg_survey.proofs.Looking.{live_at}
 use Rattle.pg_survey.proofs.differing.live_node.Goals as goal

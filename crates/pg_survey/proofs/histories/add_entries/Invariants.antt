@@ -1,5 +1,5 @@
 use Rattle.std.proofs.Common.{fold, map, take}
-use Rattle.pg_account.specs.Histories.{as_entry}
+use Rattle.pg_script.specs.PgAccount.Histories.{as_entry}
 use Rattle.pg_survey.specs.Texts.{EndsAs, with_entry, written}
 use Rattle.pg_survey.proofs.histories.add_entries.Given as goal
 

@@ -1,7 +1,7 @@
 use Rattle.std.proofs.Common.{ℕ, List, [], ◌∷◌, ◌++◌, Bool, true, take, sym, subst, ◌∙◌}
 use Rattle.std.proofs.lemmas.List.{take_more}
 use Rattle.pg_explore.specs.declared.explored.Met.{Met}
-use Rattle.pg_frame_world.specs.FrameWorlds.{lost_of, traffic_of}
+use Rattle.pg_script.specs.PgFrameWorld.FrameWorlds.{lost_of, traffic_of}
 use Rattle.pg_survey.specs.Differing.{SeesOne, Decides}
 use Rattle.pg_survey.specs.Findings.{AreMarks, HoldsIn}
 use Rattle.pg_survey.proofs.Marking.{marks_more}

@@ -2,7 +2,7 @@ use Rattle.std.proofs.Common.{◌≡◌, true, map, subst}
 use mathlib.Core.Logic.{∥∥₁_map}
 use Rattle.pg_cluster.specs.Closed.{IsOneRun, IsReplayed}
 use Rattle.pg_cluster.specs.Judges.{Agree}
-use Rattle.pg_frame_world.specs.Openings.{CanBegin}
+use Rattle.pg_cluster.specs.PgFrameWorld.Openings.{CanBegin}
 use Rattle.pg_cluster.specs.Running.{config_in}
 use Rattle.pg_cluster.specs.Survivors.{SurvivorsAgree}
 use Rattle.pg_cluster.specs.Together.{AreOneLosingRun}

@@ -1,7 +1,7 @@
 use Rattle.std.proofs.Common.{[], ◌∷◌, ◌≤◌, length, codes, arith}
 use Rattle.pg_term.specs.declared.term.Term.{Tuple}
 use Rattle.pg_term.specs.declared.term.Term.TheVariants.{Atom, Ref}
-use Rattle.pg_term_io.specs.Writing.{item_bytes}
+use Rattle.pg_message.specs.PgTermIo.Writing.{item_bytes}
 use Rattle.pg_writer.specs.Told.{reference_lent}
 use Rattle.pg_writer.proofs.Put.{opened_put, more, nothing}
 use Rattle.pg_writer.proofs.Words.{pair_len}

@@ -1,7 +1,7 @@
 use Rattle.std.proofs.Common.{arith, ap, length}
 use Rattle.pg_term.specs.declared.term.Term.TheVariants.{Atom}
-use Rattle.pg_term_io.specs.Writing.{atom_bytes}
-use Rattle.pg_term_io.proofs.Spelled.{name_spelled}
+use Rattle.pg_message.specs.PgTermIo.Writing.{atom_bytes}
+use Rattle.pg_message.proofs.PgTermIo.Spelled.{name_spelled}
 use Rattle.pg_writer.proofs.Put.{leaf}
 use Rattle.pg_writer.proofs.Words.{atom_is}
 use Rattle.pg_writer.proofs.parts.put_node.Goals as goal

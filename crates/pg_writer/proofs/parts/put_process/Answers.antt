@@ -1,6 +1,6 @@
 use Rattle.std.proofs.Common.{arith, ap, length}
 use Rattle.pg_term.specs.declared.term.Term.TheVariants.{Pid}
-use Rattle.pg_term_io.specs.Writing.{pid_bytes}
+use Rattle.pg_message.specs.PgTermIo.Writing.{pid_bytes}
 use Rattle.pg_writer.proofs.Put.{leaf}
 use Rattle.pg_writer.proofs.Words.{pid_is}
 use Rattle.pg_writer.proofs.parts.put_process.Goals as goal

@@ -1,6 +1,6 @@
 use Rattle.std.proofs.Common.{arith, ap, length}
 use Rattle.pg_term.specs.declared.term.Term.TheVariants.{Ref}
-use Rattle.pg_term_io.specs.Writing.{reference_bytes}
+use Rattle.pg_message.specs.PgTermIo.Writing.{reference_bytes}
 use Rattle.pg_writer.proofs.Put.{leaf}
 use Rattle.pg_writer.proofs.Words.{reference_is}
 use Rattle.pg_writer.proofs.parts.put_ref.Goals as goal

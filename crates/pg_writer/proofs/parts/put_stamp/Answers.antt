@@ -1,6 +1,6 @@
 use Rattle.std.proofs.Common.{ℤ, arith, ap, length}
 use Rattle.std.specs.Prelude.{pos}
-use Rattle.pg_term_io.specs.Writing.{int_bytes}
+use Rattle.pg_message.specs.PgTermIo.Writing.{int_bytes}
 use Rattle.std.specs.Int.{w64}
 use mir.Val.{to_z, of_z}
 use Rattle.pg_writer.proofs.Put.{stamp_put}

@@ -1,6 +1,6 @@
 use Rattle.std.proofs.Common.{◌≤◌, refl, ap, length, arith}
 use Rattle.std.specs.Result.{is_ok}
-use Rattle.pg_term_io.specs.Writing.{written}
+use Rattle.pg_message.specs.PgTermIo.Writing.{written}
 use Rattle.pg_message.specs.declared.message.Message.TheVariants.{Reply}
 use Rattle.pg_message.specs.declared.packet.Packet.{Packet}
 use Rattle.pg_message.specs.Writing.{term_of_packet}

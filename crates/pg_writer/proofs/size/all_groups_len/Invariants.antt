@@ -1,6 +1,6 @@
 use Rattle.std.proofs.Common.{◌≡◌, true, length, min, map, take}
 use Rattle.std.specs.List.{list_all}
-use Rattle.pg_term_io.specs.Writing.{all_bytes}
+use Rattle.pg_message.specs.PgTermIo.Writing.{all_bytes}
 use Rattle.pg_message.specs.Name.{is_name}
 use Rattle.pg_message.specs.Writing.{group_term}
 use Rattle.pg_writer.proofs.size.all_groups_len.Given as goal

@@ -1,6 +1,6 @@
 use Rattle.std.proofs.Common.{◌≡◌, length, min, map, take}
 use Rattle.pg_term.specs.declared.term.Term.TheVariants.{Pid}
-use Rattle.pg_term_io.specs.Writing.{all_bytes}
+use Rattle.pg_message.specs.PgTermIo.Writing.{all_bytes}
 use Rattle.pg_writer.proofs.size.all_pids_len.Given as goal
 
 abbrev pub invariant-loop-pid : goal.invariant-loop-pid

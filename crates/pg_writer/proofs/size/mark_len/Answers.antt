@@ -1,6 +1,6 @@
 use Rattle.std.proofs.Common.{sym, ap, length, ◌∙◌}
 use Rattle.pg_term.specs.declared.term.Term.TheVariants.{Ref}
-use Rattle.pg_term_io.specs.Writing.{item_bytes}
+use Rattle.pg_message.specs.PgTermIo.Writing.{item_bytes}
 use Rattle.pg_writer.specs.declared.told.Mark.{Mark}
 use Rattle.pg_writer.specs.Told.{reference_lent}
 use Rattle.pg_writer.proofs.Words.{reference_is}

@@ -1,6 +1,6 @@
 use Rattle.std.proofs.Common.{ℤ, arith, ap, sym, length, ◌∙◌}
 use Rattle.std.specs.Prelude.{pos}
-use Rattle.pg_term_io.specs.Writing.{int_bytes}
+use Rattle.pg_message.specs.PgTermIo.Writing.{int_bytes}
 use Rattle.pg_writer.proofs.Stamps.{stamp_is, stamp_few}
 use Rattle.pg_writer.proofs.Words.{int_is}
 use Rattle.pg_writer.proofs.size.stamp_len.Goals as goal

@@ -1,5 +1,5 @@
 use Rattle.std.proofs.Common.{arith, sym, ap, ◌∙◌, Ok, length, ◌<◌, ◌≤◌, ◌≡◌}
-use Rattle.pg_term_io.specs.Writing.{written}
+use Rattle.pg_message.specs.PgTermIo.Writing.{written}
 use Rattle.pg_message.specs.Writing.{term_of_packet, length_of}
 use Rattle.pg_writer.specs.Told.{packet_told}
 use Rattle.pg_writer.proofs.Bodies.{written_len, unsayable, late, long, short}

@@ -1,9 +1,9 @@
 use Rattle.std.proofs.Common.{◌≡◌, cond, true, false, ◌∷◌, [], sym, ap, ◌∙◌}
 use Rattle.std.specs.Prelude.{Option}
 use Rattle.pg_term.specs.Same.{same_term}
-use Rattle.pg_group.specs.Value.{name_of}
+use Rattle.pg_opens.specs.PgGroup.Value.{name_of}
 use Rattle.pg_account.specs.declared.entry.Entry.{Entry}
-use Rattle.pg_history.specs.History.{of_group}
+use Rattle.pg_left.specs.PgHistory.History.{of_group}
 use Rattle.pg_account.specs.Histories.{as_entry, as_marked, last_entries, last_marks}
 use Rattle.pg_account.proofs.histories.Histories.last_of.Goals.{in_default-via-in-Some+else-eq}
 use Rattle.pg_account.proofs.histories.Histories.last_of.Goals.{in_default-via-in_default}

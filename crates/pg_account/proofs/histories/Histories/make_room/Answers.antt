@@ -1,7 +1,7 @@
 use Rattle.std.proofs.Common.{refl, subst}
 use Rattle.std.specs.Prelude.{Option, OnOk}
 use Rattle.pg_term.specs.declared.term.Term.{Term}
-use Rattle.pg_group.specs.declared.update.Update.{Update}
+use Rattle.pg_opens.specs.PgGroup.declared.update.Update.{Update}
 use Rattle.pg_account.specs.Histories.{HasRow, CanServe}
 use Rattle.pg_account.proofs.Accounts.{same_account}
 use Rattle.pg_account.proofs.histories.Histories.make_room.Goals as goal

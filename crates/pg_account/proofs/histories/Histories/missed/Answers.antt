@@ -3,7 +3,7 @@ use Rattle.std.specs.Prelude.{Option, option_map}
 use Rattle.std.specs.Borrow.{Bor}
 use Rattle.std.specs.Option.{option_copied, option_to_list}
 use Rattle.pg_left.specs.Missed.{missed_of}
-use Rattle.pg_history.specs.WithLosses.{Marked}
+use Rattle.pg_left.specs.PgHistory.WithLosses.{Marked}
 use Rattle.pg_account.specs.declared.entry.Entry.{Entry}
 use Rattle.pg_account.specs.Histories.{as_entry, as_marked, is_among, last_marks, marked_entries_in}
 use Rattle.pg_account.proofs.Accounts.{missed_both}

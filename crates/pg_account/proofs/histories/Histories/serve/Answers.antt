@@ -1,5 +1,5 @@
 use Rattle.std.proofs.Common.{◌++◌}
-use Rattle.pg_history.specs.History.{of_group}
+use Rattle.pg_left.specs.PgHistory.History.{of_group}
 use Rattle.pg_account.specs.Histories.{last_entries}
 use Rattle.pg_account.proofs.histories.Histories.serve.Goals as goal
 

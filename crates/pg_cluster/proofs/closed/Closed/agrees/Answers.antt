@@ -1,5 +1,5 @@
 use Rattle.std.proofs.Common.{sym, ap₂, subst, ◌∙◌}
-use Rattle.pg_query.proofs.SameGroups.{answers_too}
+use Rattle.pg_joining.proofs.PgQuery.SameGroups.{answers_too}
 use Rattle.pg_cluster.specs.Judges.{AreOne, is_end_pending}
 use Rattle.pg_cluster.proofs.closed.Closed.agrees.Goals as goal
 

@@ -4,11 +4,11 @@ use Rattle.std.specs.declared.alloc.Global.{Global}
 use Rattle.std.specs.declared.vec.Vec.{Vec}
 use Rattle.std.proofs.Props.{props}
 use mathlib.Core.Logic.{∥∥₁_elim}
-use Rattle.pg_account.specs.declared.entry.Entry.{Entry}
-use Rattle.pg_account.specs.Histories.{as_entry}
-use Rattle.pg_frame_world.specs.FrameWorlds.{lost_of, view_of}
-use Rattle.pg_frame_world.specs.Openings.{CanBegin}
-use Rattle.pg_frame_world.proofs.OrderedOnce.{only_memory}
+use Rattle.pg_joining.specs.PgAccount.declared.entry.Entry.{Entry}
+use Rattle.pg_joining.specs.PgAccount.Histories.{as_entry}
+use Rattle.pg_joining.specs.PgFrameWorld.FrameWorlds.{lost_of, view_of}
+use Rattle.pg_joining.specs.PgFrameWorld.Openings.{CanBegin}
+use Rattle.pg_joining.proofs.PgFrameWorld.OrderedOnce.{only_memory}
 use Rattle.pg_cluster.specs.Closed.{IsHistory, IsOneLosingRun}
 use Rattle.pg_cluster.specs.Judges.{all_made, ran_out}
 use Rattle.pg_cluster.specs.Together.{AreOneLosingRun}

@@ -1,6 +1,6 @@
 use Rattle.std.proofs.Common.{◌↔◌, sym, subst, ◌∙◌}
 use Rattle.std.specs.Prelude.{IfOk, IsTrue}
-use Rattle.pg_frame_world.specs.FrameWorlds.{view_of}
+use Rattle.pg_joining.specs.PgFrameWorld.FrameWorlds.{view_of}
 use Rattle.pg_cluster.specs.Judges.{AreShown}
 use Rattle.pg_cluster.proofs.Judging.{both_so, of_ok}
 use Rattle.pg_cluster.proofs.closed.Closed.is_shown.Goals as goal

@@ -2,9 +2,9 @@ use Rattle.std.proofs.Common.{◌≡◌, ◌↔◌, Bool, true, false, subst}
 use Rattle.std.specs.Prelude.{IfOk, IsTrue}
 use Rattle.std.proofs.Props.{props}
 use mathlib.Core.Logic.{∥∥₁_elim}
-use Rattle.pg_frame_world.specs.FrameWorlds.{lost_of, view_of}
-use Rattle.pg_frame_world.specs.Openings.{CanBegin}
-use Rattle.pg_frame_world.proofs.OrderedOnce.{only_memory}
+use Rattle.pg_joining.specs.PgFrameWorld.FrameWorlds.{lost_of, view_of}
+use Rattle.pg_joining.specs.PgFrameWorld.Openings.{CanBegin}
+use Rattle.pg_joining.proofs.PgFrameWorld.OrderedOnce.{only_memory}
 use Rattle.pg_cluster.specs.Closed.{IsOneLosingRun, IsOneRun, logs_in}
 use Rattle.pg_cluster.specs.Judges.{AreShown, all_made, ran_out}
 use Rattle.pg_cluster.specs.Together.{AreOneLosingRun, AreOneRun}

@@ -1,5 +1,5 @@
 use Rattle.std.proofs.Common.{sym, ap₂, ◌∙◌}
-use Rattle.pg_query.proofs.SameGroups.{answers_too}
+use Rattle.pg_joining.proofs.PgQuery.SameGroups.{answers_too}
 use Rattle.pg_cluster.specs.Judges.{is_end_pending}
 use Rattle.pg_cluster.specs.Survivors.{is_loss_pending, survivors}
 use Rattle.pg_cluster.proofs.Surviving.{among_same}

@@ -7,8 +7,8 @@ use Rattle.std.proofs.lemmas.List.{length-map, nil_from_length}
 use mathlib.Core.Logic.{∥∥₁_elim, ∥∥₁_map, ∥∥₁_map₂}
 use Rattle.pg_ring.specs.declared.slot_in.SlotIn.{SlotIn}
 use Rattle.pg_ring.specs.Slots.{taken}
-use Rattle.pg_run.specs.declared.notices.Notice.{Notice}
-use Rattle.pg_run.specs.Runs.{notices_at}
+use Rattle.pg_joining.specs.PgRun.declared.notices.Notice.{Notice}
+use Rattle.pg_joining.specs.PgRun.Runs.{notices_at}
 use Rattle.pg_cluster.specs.Clients.{ports_begun, ports_ended}
 use Rattle.pg_cluster.specs.Closed.{NoticesCame, logs_of, nodes_of, turns_of}
 use Rattle.pg_cluster.specs.Ended.{AreWired, AllArrived}

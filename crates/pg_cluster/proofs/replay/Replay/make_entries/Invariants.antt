@@ -1,6 +1,6 @@
 use Rattle.std.proofs.Common.{List, drop, map}
-use Rattle.pg_step.specs.Config.{Config}
-use Rattle.pg_frame_world.specs.declared.step.FrameStep.{FrameStep}
+use Rattle.pg_joining.specs.PgStep.Config.{Config}
+use Rattle.pg_joining.specs.PgFrameWorld.declared.step.FrameStep.{FrameStep}
 use Rattle.pg_cluster.specs.Replay.{HasMade}
 use Rattle.pg_cluster.specs.Schedule.{steps_behind}
 use Rattle.pg_cluster.proofs.GoingOn.{MadeSoFar}

@@ -2,7 +2,7 @@ use Rattle.std.proofs.Common.{◌≤◌, length, ap, sym, subst}
 use Rattle.pg_frame_world.specs.Losing.{lost_of}
 use Rattle.pg_frame_world.specs.Starts.{Begins}
 use Rattle.pg_frame_world.specs.Worlds.{view_of}
-use Rattle.pg_step.specs.Config.{Config}
+use Rattle.pg_node_state.specs.PgStep.Config.{Config}
 use Rattle.pg_config.specs.declared.config.Config.{Config as Given}
 use Rattle.pg_frame_world.proofs.Leading.{frames_begin}
 use Rattle.pg_frame_world.proofs.frame_world.FrameWorld+IndexTable.new.Goals as goal

@@ -1,6 +1,6 @@
 use Rattle.std.proofs.Common.{◌≡◌, take, length, []}
-use Rattle.pg_step.specs.Config.{Config}
-use Rattle.pg_step.specs.LossLaws.{LosingFrameWorld}
+use Rattle.pg_node_state.specs.PgStep.Config.{Config}
+use Rattle.pg_node_state.specs.PgStep.LossLaws.{LosingFrameWorld}
 use Rattle.pg_frame_world.specs.FrameWorlds.{given_of, lost_of, view_of}
 use Rattle.pg_frame_world.specs.Losing.{ShowsLosing}
 use Rattle.pg_frame_world.specs.LosingRuns.{LosingGoesTo, packets_past_losses}

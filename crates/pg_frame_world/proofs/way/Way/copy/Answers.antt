@@ -1,6 +1,6 @@
 use Rattle.std.proofs.Common.{◌∙◌, List, map, ap, subst, sym}
-use Rattle.pg_message.specs.declared.packet.Packet.{Packet}
-use Rattle.pg_sends.specs.Sent.{stamped_of}
+use Rattle.pg_node_state.specs.PgMessage.declared.packet.Packet.{Packet}
+use Rattle.pg_node_state.specs.PgSends.Sent.{stamped_of}
 use Rattle.pg_frame_world.specs.Short.{HaveShortGroups}
 use Rattle.pg_frame_world.proofs.way.Way.copy.Goals as goal
 

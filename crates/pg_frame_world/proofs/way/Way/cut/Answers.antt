@@ -1,6 +1,6 @@
 use Rattle.std.proofs.Common.{◌∙◌, map, sym, ap}
 use Rattle.std.proofs.lemmas.List.{take-map}
-use Rattle.pg_sends.specs.Sent.{stamped_of}
+use Rattle.pg_node_state.specs.PgSends.Sent.{stamped_of}
 use Rattle.pg_frame_world.proofs.way.Way.cut.Goals as goal
 
 pub returns : goal.returns

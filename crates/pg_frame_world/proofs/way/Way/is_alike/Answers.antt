@@ -1,9 +1,9 @@
 use Rattle.std.proofs.Common.{◌≡◌, ◌<◌, ◌≤◌, ◌∙◌, List, length, map, refl, sym, arith}
-use Rattle.pg_message.specs.declared.message.Message.{Message}
-use Rattle.pg_message.specs.declared.packet.Packet.{Packet}
-use Rattle.pg_machine.specs.Clocked.{Stamped}
-use Rattle.pg_sends.specs.Sent.{stamped_of}
-use Rattle.pg_opens.proofs.Named.{clash}
+use Rattle.pg_node_state.specs.PgMessage.declared.message.Message.{Message}
+use Rattle.pg_node_state.specs.PgMessage.declared.packet.Packet.{Packet}
+use Rattle.pg_node_state.specs.PgMachine.Clocked.{Stamped}
+use Rattle.pg_node_state.specs.PgSends.Sent.{stamped_of}
+use Rattle.pg_node_state.proofs.PgOpens.Named.{clash}
 use Rattle.pg_account.proofs.Compared.{same_more, same_at, same_all, same_length, twice_length, twice_at}
 use Rattle.pg_frame_world.proofs.Messages.{message_is, message_so}
 use Rattle.pg_frame_world.proofs.way.Way.is_alike.Goals as goal

@@ -1,7 +1,7 @@
 use Rattle.std.proofs.Common.{◌≡◌, map, take}
-use Rattle.pg_message.specs.declared.message.Message.{Message}
-use Rattle.pg_machine.specs.Clocked.{Stamped}
-use Rattle.pg_sends.specs.Sent.{stamped_of}
+use Rattle.pg_node_state.specs.PgMessage.declared.message.Message.{Message}
+use Rattle.pg_node_state.specs.PgMachine.Clocked.{Stamped}
+use Rattle.pg_node_state.specs.PgSends.Sent.{stamped_of}
 use Rattle.pg_frame_world.proofs.way.Way.is_alike.Given as goal
 
 -- those so far are the same

@@ -1,7 +1,7 @@
 use Rattle.std.proofs.Common.{◌≡◌, ◌<◌, ◌≤◌, ◌∙◌, List, length, map, refl, sym, arith}
-use Rattle.pg_message.specs.declared.message.Message.{Message}
-use Rattle.pg_machine.specs.Clocked.{packets_of as unstamped}
-use Rattle.pg_opens.proofs.Named.{clash}
+use Rattle.pg_node_state.specs.PgMessage.declared.message.Message.{Message}
+use Rattle.pg_node_state.specs.PgMachine.Clocked.{packets_of as unstamped}
+use Rattle.pg_node_state.proofs.PgOpens.Named.{clash}
 use Rattle.pg_frame_world.specs.declared.way.Way.{Way}
 use Rattle.pg_frame_world.specs.Views.{packets_of}
 use Rattle.pg_account.proofs.Compared.{same_more, same_at, same_all, same_length, twice_length, twice_at}

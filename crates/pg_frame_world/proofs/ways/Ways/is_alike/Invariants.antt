@@ -1,5 +1,5 @@
 use Rattle.std.proofs.Common.{◌≡◌, map, take}
-use Rattle.pg_machine.specs.Clocked.{packets_of as unstamped}
+use Rattle.pg_node_state.specs.PgMachine.Clocked.{packets_of as unstamped}
 use Rattle.pg_frame_world.specs.Views.{packets_of}
 use Rattle.pg_frame_world.proofs.ways.Ways.is_alike.Given as goal
 

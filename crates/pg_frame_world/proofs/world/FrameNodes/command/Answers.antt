@@ -2,11 +2,11 @@ use Rattle.std.proofs.Common.{◌<◌, ◌∙◌, ◌++◌, length, sym, ap, ari
 use Rattle.std.specs.Prelude.{slice_set}
 use Rattle.std.proofs.lemmas.List.{length-map}
 use Rattle.pg_node_state.specs.States.{state_of, answers_of}
-use Rattle.pg_step.specs.Step.{Issue}
+use Rattle.pg_node_state.specs.PgStep.Step.{Issue}
 use Rattle.pg_starts.specs.Seen.{seen_of}
 use Rattle.pg_frame_world.specs.Views.{ways_of, packets_to, traffic_in, HaveWayRoom, IsWhole}
 use Rattle.pg_frame_world.proofs.Ported.{port_there, port_place}
-use Rattle.pg_machine.specs.Machine.{Do}
+use Rattle.pg_node_state.specs.PgMachine.Machine.{Do}
 use Rattle.std.specs.Prelude.{None, refl}
 use Rattle.pg_frame_world.specs.Effects.{effect_by}
 use Rattle.pg_frame_world.specs.Worlds.{view_of}

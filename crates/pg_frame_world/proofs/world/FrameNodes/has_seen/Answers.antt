@@ -1,6 +1,6 @@
 use Rattle.std.proofs.Common.{◌+◌, ◌<◌, ◌∙◌, false, length, sym, ap, subst}
 use Rattle.std.specs.Option.{option_map_or}
-use Rattle.pg_opens.specs.Places.{name_at}
+use Rattle.pg_node_state.specs.PgOpens.Places.{name_at}
 use Rattle.pg_node_state.specs.States.{names_of, state_of}
 use Rattle.pg_starts.specs.Seen.{Seen}
 use Rattle.pg_frame_world.specs.Views.{peer_place}

@@ -1,8 +1,8 @@
 use Rattle.std.proofs.Common.{◌≡◌, ◌∙◌, List, map, sym}
 use Rattle.std.proofs.lemmas.Result.{IfOk-weaker}
-use Rattle.pg_group.specs.declared.table.GroupTable.{Ghosts}
+use Rattle.pg_node_state.specs.PgGroup.declared.table.GroupTable.{Ghosts}
 use Rattle.pg_node_state.specs.declared.state.NodeState.{NodeState}
-use Rattle.pg_opens.proofs.Named.{clash}
+use Rattle.pg_node_state.proofs.PgOpens.Named.{clash}
 use Rattle.pg_frame_world.specs.Alike.{without_clock}
 use Rattle.pg_starts.specs.Seen.{seen_of}
 use Rattle.pg_frame_world.proofs.world.FrameNodes.is_alike.Goals as goal

@@ -1,7 +1,7 @@
 use Rattle.std.proofs.Common.{◌≡◌, ◌∙◌, ℕ, List, length, map, sym, subst, arith}
 use Rattle.std.proofs.lemmas.List.{length-map}
 use Rattle.pg_term.specs.declared.term.Term.{Term}
-use Rattle.pg_opens.proofs.Named.{clash}
+use Rattle.pg_node_state.proofs.PgOpens.Named.{clash}
 use Rattle.pg_frame_world.specs.declared.ways.Ways.{Ways}
 use Rattle.pg_frame_world.specs.Alike.{without_stamps}
 use Rattle.pg_account.specs.Agreeing.{HaveSameUpdates}

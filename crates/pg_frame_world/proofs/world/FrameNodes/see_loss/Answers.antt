@@ -1,10 +1,10 @@
 use Rattle.std.proofs.Common.{◌≡◌, ◌+◌, ◌<◌, ◌∙◌, true, false, map, length, Ok, Err, refl, sym, ap, subst}
 use Rattle.std.specs.Prelude.{slice_set}
 use Rattle.std.proofs.lemmas.List.{map-set}
-use Rattle.pg_machine.specs.Clocked.{Timed}
-use Rattle.pg_opens.specs.Places.{name_at}
-use Rattle.pg_step.specs.State.{State}
-use Rattle.pg_sends.specs.contracts.sends.VecTuple2UsizePacketOutgoing.TheImpl as packets
+use Rattle.pg_node_state.specs.PgMachine.Clocked.{Timed}
+use Rattle.pg_node_state.specs.PgOpens.Places.{name_at}
+use Rattle.pg_node_state.specs.PgStep.State.{State}
+use Rattle.pg_node_state.specs.PgSends.contracts.sends.VecTuple2UsizePacketOutgoing.TheImpl as packets
 use Rattle.pg_node_state.specs.States.{names_of, state_of, answers_of, step_see_loss, Comes}
 use Rattle.pg_frame_world.specs.Losing.{lost_of}
 use Rattle.pg_starts.specs.Seen.{seen_of}

@@ -1,5 +1,5 @@
 use Rattle.std.proofs.Common.{◌≡◌, ◌∙◌, ℕ, List, true, false, refl, sym, subst}
-use Rattle.pg_step.specs.Step.{Issue, Retry}
+use Rattle.pg_node_state.specs.PgStep.Step.{Issue, Retry}
 use Rattle.pg_frame_world.specs.declared.step.FrameStep.{FrameStep}
 use Rattle.pg_frame_world.specs.Losing.{lost_of, told_of, told_loss, is_barred, ShowsLosing, LosingComesTo}
 use Rattle.pg_frame_world.specs.Views.{View}

@@ -1,16 +1,16 @@
 use Rattle.std.proofs.Common.{◌≡◌, ◌<◌, ◌+◌, ◌∙◌, ◌++◌, get_or, drop, length, [], Ok, Err, sym, ap, subst}
 use Rattle.std.specs.Prelude.{slice_set}
 use Rattle.std.proofs.lemmas.List.{get_or-set_other}
-use Rattle.pg_opens.specs.Places.{name_at}
-use Rattle.pg_step.specs.Step.{step_take}
+use Rattle.pg_node_state.specs.PgOpens.Places.{name_at}
+use Rattle.pg_node_state.specs.PgStep.Step.{step_take}
 use Rattle.pg_node_state.specs.States.{names_of, nodes_of, state_of, answers_of, Comes}
-use Rattle.pg_sends.specs.contracts.sends.VecTuple2UsizePacketOutgoing.TheImpl as packets
-use Rattle.pg_sends.specs.Sent.{stamped_of}
+use Rattle.pg_node_state.specs.PgSends.contracts.sends.VecTuple2UsizePacketOutgoing.TheImpl as packets
+use Rattle.pg_node_state.specs.PgSends.Sent.{stamped_of}
 use Rattle.pg_starts.specs.Seen.{seen_of}
 use Rattle.pg_frame_world.specs.Views.{ways_of, packets_to, next_packet_of, traffic_in, peer_place, HaveWayRoom, IsWhole}
 use Rattle.pg_frame_world.proofs.Taking.{taker_there, row_there, apart, taker_place, sender_place}
 use Rattle.pg_frame_world.proofs.Taking.{sender_way, passed_whole, passed_here, passed_else}
-use Rattle.pg_machine.specs.Machine.{Take}
+use Rattle.pg_node_state.specs.PgMachine.Machine.{Take}
 use Rattle.std.specs.Prelude.{refl}
 use Rattle.pg_frame_world.specs.Effects.{effect_by}
 use Rattle.pg_frame_world.specs.Worlds.{view_of}

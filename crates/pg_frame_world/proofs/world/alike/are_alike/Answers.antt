@@ -1,7 +1,7 @@
 use Rattle.std.proofs.Common.{◌<◌, ◌∙◌, List, length, map, refl, sym, arith}
-use Rattle.pg_group.specs.declared.table.GroupTable.{Ghosts}
+use Rattle.pg_node_state.specs.PgGroup.declared.table.GroupTable.{Ghosts}
 use Rattle.pg_node_state.specs.declared.state.NodeState.{NodeState}
-use Rattle.pg_opens.proofs.Named.{clash}
+use Rattle.pg_node_state.proofs.PgOpens.Named.{clash}
 use Rattle.pg_frame_world.specs.Alike.{without_clock}
 use Rattle.pg_starts.specs.Seen.{Seen, seen_of}
 use Rattle.pg_account.proofs.Compared.{same_more, same_at, same_all, same_length, twice_length, twice_at}

@@ -1,6 +1,6 @@
 use Rattle.std.proofs.Common.{◌<◌, ◌∙◌, List, length, map, refl, sym, arith}
-use Rattle.pg_message.specs.declared.message.Message.{Message}
-use Rattle.pg_opens.proofs.Named.{clash}
+use Rattle.pg_node_state.specs.PgMessage.declared.message.Message.{Message}
+use Rattle.pg_node_state.proofs.PgOpens.Named.{clash}
 use Rattle.pg_frame_world.specs.declared.ways.Ways.{Ways}
 use Rattle.pg_frame_world.specs.Alike.{without_stamps}
 use Rattle.pg_frame_world.specs.Views.{ways_of}

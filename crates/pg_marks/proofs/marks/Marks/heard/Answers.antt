@@ -1,5 +1,5 @@
 use Rattle.std.proofs.Common.{ap, ◌∙◌}
-use Rattle.pg_multicall.specs.Replies.{replies_of}
+use Rattle.pg_step.specs.PgMulticall.Replies.{replies_of}
 use Rattle.pg_marks.specs.Marks.{heard_by, lock_heard}
 use Rattle.pg_marks.proofs.Kept.{mark_is, heard_so}
 use Rattle.pg_marks.proofs.marks.Marks.heard.Goals as goal

@@ -1,12 +1,12 @@
 use Rattle.std.proofs.Common.{◌≡◌, ◌∙◌, ◌+◌, ◌^◌, ◌&&◌, ℕ, ap, sym, refl, arith, true, subst, nat_eq, length}
-use Rattle.pg_group.specs.declared.update.Update.{Update as Change}
-use Rattle.pg_group.specs.Value.{name_of}
-use Rattle.pg_group.specs.Ended.{ended_of}
-use Rattle.pg_lock.specs.Locks.{locks_of, after_ask}
-use Rattle.pg_ends.specs.Processes.{node_of}
-use Rattle.pg_opens.specs.Opens.{Shows, names_of as opens_names}
-use Rattle.pg_opens.specs.Readings.{update_of}
-use Rattle.pg_step.specs.State.{State}
+use Rattle.pg_ports.specs.PgGroup.declared.update.Update.{Update as Change}
+use Rattle.pg_ports.specs.PgGroup.Value.{name_of}
+use Rattle.pg_ports.specs.PgGroup.Ended.{ended_of}
+use Rattle.pg_ports.specs.PgLock.Locks.{locks_of, after_ask}
+use Rattle.pg_ports.specs.PgEnds.Processes.{node_of}
+use Rattle.pg_ports.specs.PgOpens.Opens.{Shows, names_of as opens_names}
+use Rattle.pg_ports.specs.PgOpens.Readings.{update_of}
+use Rattle.pg_ports.specs.PgStep.State.{State}
 use Rattle.pg_node_state.specs.Ports.{merged_in}
 use Rattle.pg_ports.specs.Ports.{port_commands}
 use Rattle.pg_node_state.specs.States.{live_of, kept_by}
@@ -16,16 +16,16 @@ use Rattle.pg_node_state.proofs.Turned.{Locks as LockOf, locks_by}
 use Rattle.pg_sends.proofs.Updates.{update_is}
 use Rattle.std.proofs.lemmas.Bool.{eq-eqb}
 use Rattle.pg_term.specs.Same.{same_atom}
-use Rattle.pg_group.proofs.Changes.{upd_at}
-use Rattle.pg_group.specs.Table.{changed}
-use Rattle.pg_step.specs.Attempts.{ask, begin, with_asked}
-use Rattle.pg_step.specs.Nodes.{Node, Nodes}
-use Rattle.pg_step.specs.Peers.{would_grant}
-use Rattle.pg_step.specs.State.{Status, Use}
-use Rattle.pg_step.specs.State.Use.{Locking, Owning, Updating}
-use Rattle.pg_step.specs.State.Stage.{Changing}
-use Rattle.pg_opens.specs.Readings.{is_locking}
-use Rattle.pg_opens.specs.Opens.{uses_of}
+use Rattle.pg_ports.proofs.PgGroup.Changes.{upd_at}
+use Rattle.pg_ports.specs.PgGroup.Table.{changed}
+use Rattle.pg_ports.specs.PgStep.Attempts.{ask, begin, with_asked}
+use Rattle.pg_ports.specs.PgStep.Nodes.{Node, Nodes}
+use Rattle.pg_ports.specs.PgStep.Peers.{would_grant}
+use Rattle.pg_ports.specs.PgStep.State.{Status, Use}
+use Rattle.pg_ports.specs.PgStep.State.Use.{Locking, Owning, Updating}
+use Rattle.pg_ports.specs.PgStep.State.Stage.{Changing}
+use Rattle.pg_ports.specs.PgOpens.Readings.{is_locking}
+use Rattle.pg_ports.specs.PgOpens.Opens.{uses_of}
 use Rattle.pg_node_state.proofs.Counts.{few_changed}
 use Rattle.pg_node_state.proofs.Given.{given_use, of_any, given_stage, of_lock, of_none}
 use Rattle.pg_node_state.proofs.Given.{of_update, locking_came, gathered_named}

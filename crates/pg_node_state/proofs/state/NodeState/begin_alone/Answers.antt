@@ -1,13 +1,13 @@
 use Rattle.std.proofs.Common.{◌≡◌, ◌∙◌, ◌+◌, ◌^◌, ◌<◌, ◌≤◌, ◌&&◌, ℕ, Bool}
 use Rattle.std.proofs.Common.{length, ap, sym, refl, arith, true, subst, nat_eq}
-use Rattle.pg_group.specs.declared.update.Update.{Update as Change}
-use Rattle.pg_group.specs.Value.{name_of}
-use Rattle.pg_group.specs.Ended.{ended_of}
-use Rattle.pg_lock.specs.Locks.{Locks, locks_of, given_up, is_holder}
-use Rattle.pg_ends.specs.Processes.{node_of}
-use Rattle.pg_opens.specs.Opens.{Shows, names_of as opens_names, live_of as live_in}
-use Rattle.pg_opens.specs.Readings.{update_of}
-use Rattle.pg_step.specs.State.{State}
+use Rattle.pg_ports.specs.PgGroup.declared.update.Update.{Update as Change}
+use Rattle.pg_ports.specs.PgGroup.Value.{name_of}
+use Rattle.pg_ports.specs.PgGroup.Ended.{ended_of}
+use Rattle.pg_ports.specs.PgLock.Locks.{Locks, locks_of, given_up, is_holder}
+use Rattle.pg_ports.specs.PgEnds.Processes.{node_of}
+use Rattle.pg_ports.specs.PgOpens.Opens.{Shows, names_of as opens_names, live_of as live_in}
+use Rattle.pg_ports.specs.PgOpens.Readings.{update_of}
+use Rattle.pg_ports.specs.PgStep.State.{State}
 use Rattle.pg_node_state.specs.Ports.{merged_in}
 use Rattle.pg_ports.specs.Ports.{port_commands}
 use Rattle.pg_node_state.specs.States.{names_of, live_of, kept_by}
@@ -17,32 +17,32 @@ use Rattle.pg_node_state.proofs.Turned.{Locks as LockOf, locks_by}
 use Rattle.pg_sends.proofs.Updates.{update_is}
 use Rattle.std.proofs.lemmas.Bool.{eq-eqb}
 use Rattle.pg_term.specs.Same.{same_atom}
-use Rattle.pg_group.proofs.Changes.{upd_at}
-use Rattle.pg_group.specs.Functions.{upd}
-use Rattle.pg_group.specs.Value.{count_in}
-use Rattle.pg_group.specs.Table.{Table, changed}
-use Rattle.pg_step.specs.Attempts.{ask, asks, begin, finish, with_asked, own_reference}
-use Rattle.pg_step.specs.declared.answer.Reply.TheVariants as reply
-use Rattle.pg_step.specs.Turns.{NodeTurn}
-use Rattle.pg_machine.specs.Clocked.{stamped}
+use Rattle.pg_ports.proofs.PgGroup.Changes.{upd_at}
+use Rattle.pg_ports.specs.PgGroup.Functions.{upd}
+use Rattle.pg_ports.specs.PgGroup.Value.{count_in}
+use Rattle.pg_ports.specs.PgGroup.Table.{Table, changed}
+use Rattle.pg_ports.specs.PgStep.Attempts.{ask, asks, begin, finish, with_asked, own_reference}
+use Rattle.pg_ports.specs.PgStep.declared.answer.Reply.TheVariants as reply
+use Rattle.pg_ports.specs.PgStep.Turns.{NodeTurn}
+use Rattle.pg_ports.specs.PgMachine.Clocked.{stamped}
 use Rattle.std.proofs.Math.Path.{fun_ext}
 use Rattle.std.proofs.Common.{Option, ◌++◌, ◌∷◌, []}
-use Rattle.pg_opens.specs.Places.{name_at}
-use Rattle.pg_step.specs.State.{Response}
-use Rattle.pg_message.specs.declared.message.Message.TheVariants.{Call}
-use Rattle.pg_message.specs.declared.message.Request.TheVariants as request
+use Rattle.pg_ports.specs.PgOpens.Places.{name_at}
+use Rattle.pg_ports.specs.PgStep.State.{Response}
+use Rattle.pg_ports.specs.PgMessage.declared.message.Message.TheVariants.{Call}
+use Rattle.pg_ports.specs.PgMessage.declared.message.Request.TheVariants as request
 use Rattle.pg_node_state.specs.States.{Gave}
 use Rattle.pg_ports.specs.Ports.{answers_in}
 use Rattle.pg_sends.proofs.Undone.{granted_free, not_taken}
-use Rattle.pg_step.specs.State.{formed}
-use Rattle.pg_step.specs.Nodes.{Node, Nodes}
-use Rattle.pg_step.specs.Peers.{would_grant}
-use Rattle.pg_step.specs.declared.command.OpId.{OpId}
-use Rattle.pg_step.specs.State.{Status, Use}
-use Rattle.pg_step.specs.State.Use.{Locking, Owning, Updating, Spent}
-use Rattle.pg_step.specs.State.Stage.{Changing, Closed}
-use Rattle.pg_opens.specs.Readings.{is_locking, is_updating}
-use Rattle.pg_opens.specs.Opens.{uses_of}
+use Rattle.pg_ports.specs.PgStep.State.{formed}
+use Rattle.pg_ports.specs.PgStep.Nodes.{Node, Nodes}
+use Rattle.pg_ports.specs.PgStep.Peers.{would_grant}
+use Rattle.pg_ports.specs.PgStep.declared.command.OpId.{OpId}
+use Rattle.pg_ports.specs.PgStep.State.{Status, Use}
+use Rattle.pg_ports.specs.PgStep.State.Use.{Locking, Owning, Updating, Spent}
+use Rattle.pg_ports.specs.PgStep.State.Stage.{Changing, Closed}
+use Rattle.pg_ports.specs.PgOpens.Readings.{is_locking, is_updating}
+use Rattle.pg_ports.specs.PgOpens.Opens.{uses_of}
 use Rattle.pg_node_state.proofs.Counts.{few_changed}
 use Rattle.pg_node_state.proofs.Given.{given_use, of_any, given_stage, of_lock, of_none}
 use Rattle.pg_node_state.proofs.Given.{of_update, given_ports, locking_came, gathered_named}

@@ -1,20 +1,20 @@
 use Rattle.std.proofs.Common.{◌≡◌, ◌∙◌, ◌+◌, ◌-◌, ◌<◌, ◌≤◌, ◌^◌, ◌++◌, ◌∷◌, [], ℕ}
 use Rattle.std.proofs.Common.{true, false, length, nat_eq, ap, sym, refl, subst, arith}
-use Rattle.pg_machine.specs.Clocked.{stamped}
-use Rattle.pg_group.specs.declared.update.Update.{Update as Change}
-use Rattle.pg_group.specs.Ended.{ended_of}
-use Rattle.pg_group.specs.Functions.{upd}
-use Rattle.pg_group.specs.Table.{Table, changed}
-use Rattle.pg_group.specs.Value.{count_in}
-use Rattle.pg_lock.specs.Locks.{locks_of}
-use Rattle.pg_ends.specs.Processes.{node_of}
+use Rattle.pg_ports.specs.PgMachine.Clocked.{stamped}
+use Rattle.pg_ports.specs.PgGroup.declared.update.Update.{Update as Change}
+use Rattle.pg_ports.specs.PgGroup.Ended.{ended_of}
+use Rattle.pg_ports.specs.PgGroup.Functions.{upd}
+use Rattle.pg_ports.specs.PgGroup.Table.{Table, changed}
+use Rattle.pg_ports.specs.PgGroup.Value.{count_in}
+use Rattle.pg_ports.specs.PgLock.Locks.{locks_of}
+use Rattle.pg_ports.specs.PgEnds.Processes.{node_of}
 use Rattle.pg_term.specs.Same.{same_atom}
-use Rattle.pg_opens.specs.Opens.{Shows, names_of as opens_names}
-use Rattle.pg_step.specs.Attempts.{attempt}
-use Rattle.pg_step.specs.declared.answer.Reply.TheVariants as reply
-use Rattle.pg_step.specs.Nodes.{Node, Nodes, is_peer, greatest}
-use Rattle.pg_step.specs.State.{State}
-use Rattle.pg_step.specs.Turns.{NodeTurn}
+use Rattle.pg_ports.specs.PgOpens.Opens.{Shows, names_of as opens_names}
+use Rattle.pg_ports.specs.PgStep.Attempts.{attempt}
+use Rattle.pg_ports.specs.PgStep.declared.answer.Reply.TheVariants as reply
+use Rattle.pg_ports.specs.PgStep.Nodes.{Node, Nodes, is_peer, greatest}
+use Rattle.pg_ports.specs.PgStep.State.{State}
+use Rattle.pg_ports.specs.PgStep.Turns.{NodeTurn}
 use Rattle.pg_node_state.specs.Ports.{merged_in}
 use Rattle.pg_ports.specs.Ports.{port_commands}
 use Rattle.pg_node_state.specs.States.{names_of, live_of, kept_by}

@@ -1,21 +1,21 @@
 use Rattle.std.proofs.Common.{◌≡◌, ◌∙◌, ◌+◌, ℕ, Bool, true, false, cond, List, nat_eq, sym, ap, refl, subst}
 use Rattle.std.proofs.lemmas.Bool.{eq-eqb}
 use Rattle.pg_term.specs.Same.{same_atom}
-use Rattle.pg_group.specs.Functions.{upd}
-use Rattle.pg_group.proofs.Changes.{upd_at}
-use Rattle.pg_ends.specs.Processes.{node_of}
-use Rattle.pg_machine.specs.Clocked.{Timed}
-use Rattle.pg_opens.specs.declared.opens.Opens.{Opens}
-use Rattle.pg_opens.specs.Opens.{Shows, names_of as opens_names, live_of as live_in, uses_of}
-use Rattle.pg_opens.specs.Places.{name_at}
-use Rattle.pg_opens.specs.Readings.{gathering_of, is_updating}
-use Rattle.pg_step.specs.declared.command.OpId.{OpId}
-use Rattle.pg_step.specs.Nodes.{Node, Nodes, every}
-use Rattle.pg_step.specs.State.{State, Use}
-use Rattle.pg_step.specs.State.Use.{Updating}
-use Rattle.pg_step.specs.Turns.{becomes}
-use Rattle.pg_step.specs.Attempts.{counted, count_ok, finish, is_complete}
-use Rattle.pg_opens.specs.TakenBack.{ok_taken_back}
+use Rattle.pg_ports.specs.PgGroup.Functions.{upd}
+use Rattle.pg_ports.proofs.PgGroup.Changes.{upd_at}
+use Rattle.pg_ports.specs.PgEnds.Processes.{node_of}
+use Rattle.pg_ports.specs.PgMachine.Clocked.{Timed}
+use Rattle.pg_ports.specs.PgOpens.declared.opens.Opens.{Opens}
+use Rattle.pg_ports.specs.PgOpens.Opens.{Shows, names_of as opens_names, live_of as live_in, uses_of}
+use Rattle.pg_ports.specs.PgOpens.Places.{name_at}
+use Rattle.pg_ports.specs.PgOpens.Readings.{gathering_of, is_updating}
+use Rattle.pg_ports.specs.PgStep.declared.command.OpId.{OpId}
+use Rattle.pg_ports.specs.PgStep.Nodes.{Node, Nodes, every}
+use Rattle.pg_ports.specs.PgStep.State.{State, Use}
+use Rattle.pg_ports.specs.PgStep.State.Use.{Updating}
+use Rattle.pg_ports.specs.PgStep.Turns.{becomes}
+use Rattle.pg_ports.specs.PgStep.Attempts.{counted, count_ok, finish, is_complete}
+use Rattle.pg_ports.specs.PgOpens.TakenBack.{ok_taken_back}
 use Rattle.pg_node_state.specs.Ports.{merged_in}
 use Rattle.pg_sends.specs.Sendable.{AreSendable}
 use Rattle.pg_node_state.specs.States.{names_of, live_of, kept_by, state_of, answers_of}

@@ -1,15 +1,15 @@
 use Rattle.std.proofs.Common.{◌≡◌, ◌∙◌, ◌+◌, ℕ, true, false, ap, sym, refl, subst, arith}
-use Rattle.pg_machine.specs.Clocked.{stamped}
-use Rattle.pg_lock.specs.Locks.{locks_of}
-use Rattle.pg_ends.specs.Processes.{node_of}
+use Rattle.pg_ports.specs.PgMachine.Clocked.{stamped}
+use Rattle.pg_ports.specs.PgLock.Locks.{locks_of}
+use Rattle.pg_ports.specs.PgEnds.Processes.{node_of}
 use Rattle.pg_term.specs.Same.{same_atom}
-use Rattle.pg_opens.specs.Opens.{Shows, names_of as opens_names, live_of as live_in, uses_of}
-use Rattle.pg_opens.specs.Readings.{is_locking}
-use Rattle.pg_step.specs.Attempts.{attempt, give_up}
-use Rattle.pg_step.specs.Nodes.{Node, Nodes, is_peer, greatest}
-use Rattle.pg_step.specs.State.{State, Use}
-use Rattle.pg_step.specs.State.Use.{Locking, Spent}
-use Rattle.pg_step.specs.State.Stage.{Waiting}
+use Rattle.pg_ports.specs.PgOpens.Opens.{Shows, names_of as opens_names, live_of as live_in, uses_of}
+use Rattle.pg_ports.specs.PgOpens.Readings.{is_locking}
+use Rattle.pg_ports.specs.PgStep.Attempts.{attempt, give_up}
+use Rattle.pg_ports.specs.PgStep.Nodes.{Node, Nodes, is_peer, greatest}
+use Rattle.pg_ports.specs.PgStep.State.{State, Use}
+use Rattle.pg_ports.specs.PgStep.State.Use.{Locking, Spent}
+use Rattle.pg_ports.specs.PgStep.State.Stage.{Waiting}
 use Rattle.pg_node_state.specs.Ports.{merged_in}
 use Rattle.pg_node_state.specs.States.{names_of, live_of, kept_by}
 use Rattle.pg_sends.specs.Sent.{sends_in}

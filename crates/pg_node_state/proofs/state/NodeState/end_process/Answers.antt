@@ -1,12 +1,12 @@
 use Rattle.std.proofs.Common.{◌≤◌, ◌+◌, ◌^◌, ◌∙◌, true, List, refl, sym, ap, subst, append-nil, arith}
 use Rattle.std.proofs.Math.Path.{fun_ext}
-use Rattle.pg_group.specs.Table.{Table}
-use Rattle.pg_group.specs.Value.{count_in}
-use Rattle.pg_machine.specs.Clocked.{stamped}
-use Rattle.pg_message.specs.declared.message.Message.{Message}
-use Rattle.pg_message.specs.declared.message.Message.TheVariants.{Down}
-use Rattle.pg_step.specs.declared.answer.Reply.TheVariants as reply
-use Rattle.pg_step.specs.Nodes.{to_peers}
+use Rattle.pg_ports.specs.PgGroup.Table.{Table}
+use Rattle.pg_ports.specs.PgGroup.Value.{count_in}
+use Rattle.pg_ports.specs.PgMachine.Clocked.{stamped}
+use Rattle.pg_ports.specs.PgMessage.declared.message.Message.{Message}
+use Rattle.pg_ports.specs.PgMessage.declared.message.Message.TheVariants.{Down}
+use Rattle.pg_ports.specs.PgStep.declared.answer.Reply.TheVariants as reply
+use Rattle.pg_ports.specs.PgStep.Nodes.{to_peers}
 use Rattle.pg_node_state.specs.States.{live_of, kept_by}
 use Rattle.pg_node_state.proofs.Answered.{counts_within, given_later, given_still, counts_still}
 use Rattle.pg_node_state.proofs.Counts.{few_without}

@@ -1,8 +1,8 @@
 use Rattle.std.proofs.Common.{◌∙◌, ◌+◌, ◌*◌, ◌^◌, ◌≤◌, Bool, List, length, ap, sym, arith, subst}
-use Rattle.pg_ends.specs.Processes.{made_of}
-use Rattle.pg_opens.specs.Places.{name_at}
-use Rattle.pg_opens.specs.Opens as opens
-use Rattle.pg_step.specs.Nodes.{Node}
+use Rattle.pg_ports.specs.PgEnds.Processes.{made_of}
+use Rattle.pg_ports.specs.PgOpens.Places.{name_at}
+use Rattle.pg_ports.specs.PgOpens.Opens as opens
+use Rattle.pg_ports.specs.PgStep.Nodes.{Node}
 use Rattle.pg_node_state.specs.Ports.{merged_in}
 use Rattle.pg_ports.specs.Ports.{port_commands}
 use Rattle.pg_node_state.specs.States.{names_of, kept_by}

@@ -1,7 +1,7 @@
 use Rattle.std.proofs.Common.{◌∙◌, ◌+◌, ℕ, List, refl, ap, arith}
-use Rattle.pg_ends.specs.Numbers.{pid_of}
-use Rattle.pg_ends.specs.Processes.{made_of}
-use Rattle.pg_step.specs.declared.answer.Reply.TheVariants.{Made}
+use Rattle.pg_ports.specs.PgEnds.Numbers.{pid_of}
+use Rattle.pg_ports.specs.PgEnds.Processes.{made_of}
+use Rattle.pg_ports.specs.PgStep.declared.answer.Reply.TheVariants.{Made}
 use Rattle.pg_ports.specs.Ports.{counted_at}
 use Rattle.pg_ports.specs.Ports.{port_commands, answers_in}
 use Rattle.pg_node_state.specs.States.{names_of, kept_by}

@@ -1,8 +1,8 @@
 use Rattle.std.proofs.Common.{ap, subst}
-use Rattle.pg_group.specs.Table.{Table}
-use Rattle.pg_machine.specs.Clocked.{Timed}
-use Rattle.pg_step.specs.Nodes.{Nodes}
-use Rattle.pg_step.specs.State.{State}
+use Rattle.pg_ports.specs.PgGroup.Table.{Table}
+use Rattle.pg_ports.specs.PgMachine.Clocked.{Timed}
+use Rattle.pg_ports.specs.PgStep.Nodes.{Nodes}
+use Rattle.pg_ports.specs.PgStep.State.{State}
 use Rattle.pg_sends.specs.Opening.{Announces}
 use Rattle.pg_node_state.specs.States.{names_of, nodes_of}
 use Rattle.pg_sends.specs.Sent.{sends_in}

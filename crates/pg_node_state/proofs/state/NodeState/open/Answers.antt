@@ -1,24 +1,24 @@
 use Rattle.std.proofs.Common.{◌≡◌, ◌∙◌, ◌+◌, ◌<◌, ◌≤◌, ◌^◌, ℕ, List, Some, length, nat_eq, refl, sym, ap, subst, arith}
-use Rattle.pg_ends.specs.Processes.{node_of}
-use Rattle.pg_group.specs.declared.update.Update.{Update}
-use Rattle.pg_group.specs.Table.{Table}
-use Rattle.pg_group.specs.Value.{count_in}
-use Rattle.pg_machine.specs.Clocked.{Timed}
+use Rattle.pg_ports.specs.PgEnds.Processes.{node_of}
+use Rattle.pg_ports.specs.PgGroup.declared.update.Update.{Update}
+use Rattle.pg_ports.specs.PgGroup.Table.{Table}
+use Rattle.pg_ports.specs.PgGroup.Value.{count_in}
+use Rattle.pg_ports.specs.PgMachine.Clocked.{Timed}
 use Rattle.std.proofs.lemmas.Bool.{eq-eqb}
-use Rattle.pg_opens.specs.declared.opens.Opens.{Opens}
-use Rattle.pg_opens.specs.Opens.{Shows, names_of as opens_names, live_of as live_in}
-use Rattle.pg_opens.specs.Opens.{lost_of, references_of, uses_of, opened_of, stages_of}
-use Rattle.pg_opens.specs.Readings.{stage_seen}
-use Rattle.pg_opens.specs.TakenBack.{command_taken_back}
-use Rattle.pg_group.proofs.Changes.{upd_at}
-use Rattle.pg_opens.proofs.Followed.{op_same}
-use Rattle.pg_step.specs.declared.answer.Answer.{Answer}
-use Rattle.pg_step.specs.declared.command.OpId.{OpId}
-use Rattle.pg_step.specs.Attempts.{attempt, same_op}
-use Rattle.pg_step.specs.State.{State, Stage}
-use Rattle.pg_step.specs.State.Stage.{Waiting}
-use Rattle.pg_step.specs.Step.{at_clock}
-use Rattle.pg_step.specs.Turns.{NodeTurn}
+use Rattle.pg_ports.specs.PgOpens.declared.opens.Opens.{Opens}
+use Rattle.pg_ports.specs.PgOpens.Opens.{Shows, names_of as opens_names, live_of as live_in}
+use Rattle.pg_ports.specs.PgOpens.Opens.{lost_of, references_of, uses_of, opened_of, stages_of}
+use Rattle.pg_ports.specs.PgOpens.Readings.{stage_seen}
+use Rattle.pg_ports.specs.PgOpens.TakenBack.{command_taken_back}
+use Rattle.pg_ports.proofs.PgGroup.Changes.{upd_at}
+use Rattle.pg_ports.proofs.PgOpens.Followed.{op_same}
+use Rattle.pg_ports.specs.PgStep.declared.answer.Answer.{Answer}
+use Rattle.pg_ports.specs.PgStep.declared.command.OpId.{OpId}
+use Rattle.pg_ports.specs.PgStep.Attempts.{attempt, same_op}
+use Rattle.pg_ports.specs.PgStep.State.{State, Stage}
+use Rattle.pg_ports.specs.PgStep.State.Stage.{Waiting}
+use Rattle.pg_ports.specs.PgStep.Step.{at_clock}
+use Rattle.pg_ports.specs.PgStep.Turns.{NodeTurn}
 use Rattle.pg_ports.specs.Ports.{counted_at}
 use Rattle.pg_node_state.specs.Ports.{merged_in, CameIn}
 use Rattle.pg_ports.specs.Ports.{port_commands, answers_in}

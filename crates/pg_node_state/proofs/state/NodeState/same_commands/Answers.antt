@@ -1,5 +1,5 @@
 use Rattle.std.proofs.Common.{◌∙◌, sym}
-use Rattle.pg_opens.proofs.Named.{clash}
+use Rattle.pg_ports.proofs.PgOpens.Named.{clash}
 use Rattle.pg_ports.proofs.SamePorts.{ports_along}
 use Rattle.pg_node_state.proofs.state.NodeState.same_commands.Goals as goal
 

@@ -1,13 +1,13 @@
 use Rattle.std.proofs.Common.{◌∙◌, ◌&&◌, ap, sym, refl, arith, length}
-use Rattle.pg_group.specs.Value.{name_of}
-use Rattle.pg_lock.specs.Locks.{locks_of, given_up, is_holder}
-use Rattle.pg_ends.specs.Processes.{node_of}
-use Rattle.pg_opens.specs.Opens.{Shows, names_of as opens_names}
-use Rattle.pg_opens.specs.Readings.{update_of}
-use Rattle.pg_step.specs.Attempts.{give_up}
-use Rattle.pg_step.specs.State.{State}
-use Rattle.pg_step.specs.State.Use.{Spent}
-use Rattle.pg_step.specs.State.Stage.{Waiting}
+use Rattle.pg_ports.specs.PgGroup.Value.{name_of}
+use Rattle.pg_ports.specs.PgLock.Locks.{locks_of, given_up, is_holder}
+use Rattle.pg_ports.specs.PgEnds.Processes.{node_of}
+use Rattle.pg_ports.specs.PgOpens.Opens.{Shows, names_of as opens_names}
+use Rattle.pg_ports.specs.PgOpens.Readings.{update_of}
+use Rattle.pg_ports.specs.PgStep.Attempts.{give_up}
+use Rattle.pg_ports.specs.PgStep.State.{State}
+use Rattle.pg_ports.specs.PgStep.State.Use.{Spent}
+use Rattle.pg_ports.specs.PgStep.State.Stage.{Waiting}
 use Rattle.pg_node_state.specs.Ports.{merged_in}
 use Rattle.pg_ports.specs.Ports.{port_commands}
 use Rattle.pg_node_state.specs.States.{live_of, kept_by}

@@ -1,8 +1,8 @@
 use Rattle.std.proofs.Common.{◌∙◌, ap, sym}
-use Rattle.pg_group.specs.Value.{name_of}
-use Rattle.pg_lock.specs.Locks.{locks_of, grants}
-use Rattle.pg_opens.specs.Opens.{lost_of}
-use Rattle.pg_opens.specs.Readings.{update_of}
+use Rattle.pg_ports.specs.PgGroup.Value.{name_of}
+use Rattle.pg_ports.specs.PgLock.Locks.{locks_of, grants}
+use Rattle.pg_ports.specs.PgOpens.Opens.{lost_of}
+use Rattle.pg_ports.specs.PgOpens.Readings.{update_of}
 use Rattle.pg_node_state.specs.States.{names_of}
 use Rattle.pg_node_state.proofs.Formed.{formed_is}
 use Rattle.pg_sends.proofs.Updates.{update_is}

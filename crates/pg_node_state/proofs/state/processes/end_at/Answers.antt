@@ -1,5 +1,5 @@
 use Rattle.std.proofs.Common.{◌<◌, ◌+◌, ◌^◌, ◌∙◌, ℕ, sym, ap, subst}
-use Rattle.pg_step.specs.declared.answer.Reply.TheVariants as reply
+use Rattle.pg_ports.specs.PgStep.declared.answer.Reply.TheVariants as reply
 use Rattle.pg_ports.specs.Ports.{counted_at}
 use Rattle.pg_ports.specs.Ports.{port_commands, answers_in}
 use Rattle.pg_ports.proofs.Answered.{answered_on}

@@ -1,5 +1,5 @@
 use Rattle.std.proofs.Common.{List, refl, sym, subst, ◌∙◌}
-use Rattle.pg_step.specs.Commands.{open_command}
+use Rattle.pg_marks.specs.PgStep.Commands.{open_command}
 use Rattle.pg_opens.specs.declared.command.Phase.TheVariants as phase
 use Rattle.pg_opens.specs.declared.command.OpenCommand.{OpenCommand}
 use Rattle.pg_opens.specs.Commands.{AreKnown}

@@ -1,5 +1,5 @@
 use Rattle.std.proofs.Common.{List, sym, subst, ◌∙◌}
-use Rattle.pg_step.specs.Attempts.{finish}
+use Rattle.pg_marks.specs.PgStep.Attempts.{finish}
 use Rattle.pg_opens.specs.declared.command.OpenCommand.{OpenCommand}
 use Rattle.pg_opens.specs.Commands.{AreKnown, stage_at}
 use Rattle.pg_opens.specs.Opens.{Says, live_of}

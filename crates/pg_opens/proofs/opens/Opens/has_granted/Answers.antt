@@ -1,5 +1,5 @@
 use Rattle.std.proofs.Common.{sym, ap, ◌∙◌}
-use Rattle.pg_step.specs.Attempts.{is_yes}
+use Rattle.pg_marks.specs.PgStep.Attempts.{is_yes}
 use Rattle.pg_opens.specs.Places.{name_at}
 use Rattle.pg_opens.proofs.Asking.{status_at}
 use Rattle.pg_opens.proofs.Found.{stands, no_locking}

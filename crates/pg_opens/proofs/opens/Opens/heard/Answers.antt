@@ -1,7 +1,7 @@
 use Rattle.std.proofs.Common.{refl, sym, true, ◌∙◌}
-use Rattle.pg_multicall.specs.Gathered.{what_of}
-use Rattle.pg_multicall.specs.declared.gather.Taken.TheVariants.{Stranger}
-use Rattle.pg_step.specs.Attempts.{gathered}
+use Rattle.pg_marks.specs.PgMulticall.Gathered.{what_of}
+use Rattle.pg_marks.specs.PgMulticall.declared.gather.Taken.TheVariants.{Stranger}
+use Rattle.pg_marks.specs.PgStep.Attempts.{gathered}
 use Rattle.pg_opens.specs.Places.{name_at}
 use Rattle.pg_opens.proofs.Found.{nothing_of, stands, heard_here}
 use Rattle.pg_opens.proofs.opens.Opens.heard.Goals as goal

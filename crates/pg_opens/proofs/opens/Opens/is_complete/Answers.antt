@@ -1,5 +1,5 @@
 use Rattle.std.proofs.Common.{refl, sym, ap, false, ◌∙◌}
-use Rattle.pg_step.specs.Attempts.{is_complete}
+use Rattle.pg_marks.specs.PgStep.Attempts.{is_complete}
 use Rattle.pg_opens.specs.Places.{live_in}
 use Rattle.pg_opens.specs.Readings.{complete_in}
 use Rattle.pg_opens.proofs.Found.{nothing_of, stands, complete_here}

@@ -1,6 +1,6 @@
 use Rattle.std.proofs.Common.{not, ap, sym, ◌∙◌, arith}
 use Rattle.std.proofs.lemmas.Bool.{eq-eqb}
-use Rattle.pg_step.specs.Nodes.{is_peer}
+use Rattle.pg_marks.specs.PgStep.Nodes.{is_peer}
 use Rattle.pg_opens.specs.Places.{name_at, lost_in, live_in}
 use Rattle.pg_opens.proofs.Asking.{own_no_peer, peer_left}
 use Rattle.pg_opens.proofs.opens.Opens.is_live.Goals as goal

@@ -1,5 +1,5 @@
 use Rattle.std.proofs.Common.{ap, ◌∙◌}
-use Rattle.pg_step.specs.Attempts.{is_complete}
+use Rattle.pg_marks.specs.PgStep.Attempts.{is_complete}
 use Rattle.pg_opens.specs.Opens.{live_of, uses_of, stages_of}
 use Rattle.pg_opens.specs.Readings.{waits_by}
 use Rattle.pg_opens.proofs.Found.{waits_so}

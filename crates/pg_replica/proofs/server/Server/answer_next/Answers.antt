@@ -2,8 +2,8 @@ use Rattle.std.proofs.Common.{◌≡◌, List, ℕ, [], Some, Ok, sym, subst, ap
 use Rattle.std.specs.Io.KnownBytes.{Appends}
 use Rattle.std.specs.Option.{option_copied}
 use Rattle.std.proofs.lemmas.Result.{err_from_is_err_and}
-use Rattle.pg_frame.specs.Frames.{front_of}
-use Rattle.pg_frame.proofs.Readings.{front_is_frame}
+use Rattle.pg_node_state.specs.PgFrame.Frames.{front_of}
+use Rattle.pg_node_state.proofs.PgFrame.Readings.{front_is_frame}
 use Rattle.pg_replica.specs.Progress.{HasServed}
 use Rattle.pg_replica.specs.Replica.{pair_of, AnswersServed, answered}
 use Rattle.pg_node_state.specs.States.{state_of}

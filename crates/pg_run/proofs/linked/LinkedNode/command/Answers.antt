@@ -3,8 +3,8 @@ use Rattle.pg_run.specs.Acts.{Did}
 use Rattle.pg_run.specs.Events.{Acted}
 use Rattle.pg_run.proofs.Acting.{nothing_held}
 use Rattle.pg_run.proofs.linked.LinkedNode.command.Goals as goal
-use Rattle.pg_step.specs.declared.command.Command.{Command}
-use Rattle.pg_step.specs.Step.{Issue}
+use Rattle.pg_node.specs.PgStep.declared.command.Command.{Command}
+use Rattle.pg_node.specs.PgStep.Step.{Issue}
 
 pub returns-in-Ok-clause-acted : goal.returns-in-Ok-clause-acted
 returns-in-Ok-clause-acted g c =

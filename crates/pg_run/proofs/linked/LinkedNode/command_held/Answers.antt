@@ -1,12 +1,12 @@
 use Rattle.std.proofs.Common.{Ok, refl, subst}
 use Rattle.pg_node.specs.Nodes.{held_by, ComesInRoom}
-use Rattle.pg_node_state.specs.Issued.{ports_of}
-use Rattle.pg_node_state.specs.States.{names_of, nodes_of, state_of, answers_of}
+use Rattle.pg_node.specs.PgNodeState.Issued.{ports_of}
+use Rattle.pg_node.specs.PgNodeState.States.{names_of, nodes_of, state_of, answers_of}
 use Rattle.pg_run.proofs.Acting.{nothing_done, nothing_held, log_after}
 use Rattle.pg_run.proofs.Taking.{action_acts}
 use Rattle.pg_run.proofs.linked.LinkedNode.command_held.Goals as goal
-use Rattle.pg_step.specs.declared.command.Command.{Command}
-use Rattle.pg_step.specs.Step.{Issue, step_act}
+use Rattle.pg_node.specs.PgStep.declared.command.Command.{Command}
+use Rattle.pg_node.specs.PgStep.Step.{Issue, step_act}
 
 pub returns-then-is_err-clause-acted : goal.returns-then-is_err-clause-acted
 returns-then-is_err-clause-acted g c =

@@ -1,11 +1,11 @@
 use Rattle.std.proofs.Common.{refl}
 use Rattle.pg_node.specs.Nodes.{held_by}
-use Rattle.pg_node_state.specs.States.{names_of, state_of, answers_of}
+use Rattle.pg_node.specs.PgNodeState.States.{names_of, state_of, answers_of}
 use Rattle.pg_run.specs.Events.{told_of_action}
 use Rattle.pg_run.proofs.Acting.{nothing_done, nothing_held, refused_as, log_after}
 use Rattle.pg_run.proofs.Taking.{action_acts}
 use Rattle.pg_run.proofs.linked.LinkedNode.retry.Goals as goal
-use Rattle.pg_step.specs.Step.{Retry}
+use Rattle.pg_node.specs.PgStep.Step.{Retry}
 
 pub returns-then-is_err-clause-acted : goal.returns-then-is_err-clause-acted
 returns-then-is_err-clause-acted g c =

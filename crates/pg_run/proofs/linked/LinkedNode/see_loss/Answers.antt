@@ -1,6 +1,6 @@
 use Rattle.std.proofs.Common.{refl, arith}
 use Rattle.pg_node.specs.Nodes.{held_by}
-use Rattle.pg_node_state.specs.States.{names_of, state_of, answers_of}
+use Rattle.pg_node.specs.PgNodeState.States.{names_of, state_of, answers_of}
 use Rattle.pg_run.specs.Events.{told_of_loss}
 use Rattle.pg_run.proofs.Acting.{nothing_done, nothing_held, refused_as, in_room, log_after}
 use Rattle.pg_run.proofs.Taking.{loss_acts, was_drained}

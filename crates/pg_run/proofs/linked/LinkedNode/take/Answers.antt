@@ -1,9 +1,9 @@
 use Rattle.std.proofs.Common.{◌+◌, Option, None, Ok, ap, arith, refl, subst, sym}
 use Rattle.pg_node.specs.Nodes.{held_by, has_lost, links_of, TakesNext}
-use Rattle.pg_sends.specs.Dones.{FramedDone}
-use Rattle.pg_node_state.specs.declared.state.fault.NodeFault.TheVariants.{OutOfMemory}
-use Rattle.pg_node_state.specs.States.{names_of, nodes_of, state_of, answers_of}
-use Rattle.pg_opens.specs.Places.{name_at}
+use Rattle.pg_node.specs.PgSends.Dones.{FramedDone}
+use Rattle.pg_node.specs.PgNodeState.declared.state.fault.NodeFault.TheVariants.{OutOfMemory}
+use Rattle.pg_node.specs.PgNodeState.States.{names_of, nodes_of, state_of, answers_of}
+use Rattle.pg_node.specs.PgOpens.Places.{name_at}
 use Rattle.pg_node.proofs.Events.{read_is, unmarked}
 use Rattle.pg_run.proofs.Acting.{fault_done, log_after, nothing_done, nothing_held}
 use Rattle.pg_run.proofs.Following.{follows_itself}

@@ -1,5 +1,5 @@
 use Rattle.std.proofs.Common.{◌≡◌, ◌∙◌, ℕ, Bool, true, false, refl, sym, arith}
-use Rattle.pg_multicall.specs.Places.{has_of}
+use Rattle.pg_opens.specs.PgMulticall.Places.{has_of}
 use Rattle.pg_sends.specs.Orders.{message_of}
 use Rattle.pg_sends.proofs.Sent.{nobody_marked}
 use Rattle.pg_sends.proofs.framing.FramedOutgoing.to_marked.Goals as goal

@@ -2,7 +2,7 @@ use Rattle.std.proofs.Common.{◌≡◌, None, map, ap, arith}
 use Rattle.std.specs.List.{list_any}
 use Rattle.std.specs.Ordering.{is_eq}
 use Rattle.pg_term.specs.Same.{term_cmp}
-use Rattle.pg_term_io.specs.Numbers.{int_of}
+use Rattle.pg_message.specs.PgTermIo.Numbers.{int_of}
 use Rattle.pg_message.specs.Groups.{IsNamed}
 use Rattle.pg_message.specs.Reading.{group_of}
 use Rattle.pg_shape.proofs.Apart.{none_kept, one_kept, kept_twice, kept_nothing, groups_by_lists}

@@ -4,7 +4,7 @@ use Rattle.std.specs.Ordering.{is_eq}
 use Rattle.pg_term.specs.declared.term.Term.{Term}
 use Rattle.pg_term.specs.Order.{kind_of}
 use Rattle.pg_term.specs.Same.{term_cmp}
-use Rattle.pg_term_io.specs.Reading.{item_at}
+use Rattle.pg_message.specs.PgTermIo.Reading.{item_at}
 use Rattle.pg_shape.proofs.Apart.{IsKept}
 use Rattle.pg_shape.proofs.groups.names.are_new.Given as goal
 

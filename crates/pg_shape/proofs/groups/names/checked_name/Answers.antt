@@ -1,7 +1,7 @@
 use Rattle.std.proofs.Common.{◌≡◌, true, false, arith, sym, ◌∙◌}
 use Rattle.std.proofs.lemmas.Bool.{eqb-true}
 use Rattle.pg_term.specs.Order.{kind_of}
-use Rattle.pg_term_io.specs.Reading.{item_at}
+use Rattle.pg_message.specs.PgTermIo.Reading.{item_at}
 use Rattle.pg_message.specs.Name.{is_name}
 use Rattle.pg_shape.proofs.Shapes.{end_is}
 use Rattle.pg_shape.proofs.AtomNames.{atom_read}

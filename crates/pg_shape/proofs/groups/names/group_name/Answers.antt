@@ -1,7 +1,7 @@
 use Rattle.std.proofs.Common.{◌≡◌, ◌∙◌, ◌∷◌, ℕ, true, false, List, Ok, ap, subst, sym, refl}
 use Rattle.pg_term.specs.declared.term.Term.{Term}
-use Rattle.pg_term_io.specs.Lists.{list_from}
-use Rattle.pg_term_io.specs.Reading.{item_at}
+use Rattle.pg_message.specs.PgTermIo.Lists.{list_from}
+use Rattle.pg_message.specs.PgTermIo.Reading.{item_at}
 use Rattle.pg_message.specs.Groups.{IsNamed}
 use Rattle.pg_message.specs.Name.{is_name}
 use Rattle.pg_message.specs.Reading.{group_in}

@@ -2,7 +2,7 @@ use Rattle.std.proofs.Common.{◌≡◌, ◌++◌, ◌∷◌, [], ℕ, List, Str
 use Rattle.std.specs.Str.{encode_utf8_all}
 use Rattle.std.proofs.lemmas.Result.{on_ok_weaker}
 use Rattle.pg_lines.specs.Printing.{reply_text}
-use Rattle.pg_step.specs.declared.answer.Answer.{Answer}
+use Rattle.pg_world.specs.PgStep.declared.answer.Answer.{Answer}
 use Rattle.pg_trace.specs.declared.seen.Seen.TheVariants.{Answered}
 use Rattle.pg_trace.specs.declared.watch.Watch.{Watch}
 use Rattle.pg_trace.specs.Watched.{SawAnswer}

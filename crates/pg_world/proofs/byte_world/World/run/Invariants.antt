@@ -1,9 +1,9 @@
 use Rattle.std.proofs.Common.{◌≡◌, take, length, []}
-use Rattle.pg_step.specs.Config.{Config}
+use Rattle.pg_frame_world.specs.PgStep.Config.{Config}
 use Rattle.pg_world.specs.Crossings.{ShowsBytes}
 use Rattle.pg_frame_world.specs.Worlds.{IsReached}
 use Rattle.pg_world.specs.ByteWorlds.{account_of, crossing_of, given_of, lost_of, room_of}
-use Rattle.pg_step.specs.LossLaws.{LosingFrameWorld}
+use Rattle.pg_frame_world.specs.PgStep.LossLaws.{LosingFrameWorld}
 use Rattle.pg_world.specs.BytesLosing.{ShowsLosingBytes}
 use Rattle.pg_frame_world.specs.Losing.{IsReachedLosing}
 use Rattle.pg_world.specs.BytesLosingRuns.{bytes_past_losses}

@@ -4,11 +4,11 @@ use Rattle.std.specs.Option.{option_map_or}
 use Rattle.std.proofs.Props.{props}
 use Rattle.std.proofs.lemmas.List.{length-map}
 use mathlib.Core.Logic.{∥∥₁_elim}
-use Rattle.pg_node_state.specs.declared.state.NodeState.{NodeState}
-use Rattle.pg_node_state.specs.States.{state_of}
+use Rattle.pg_frame_world.specs.PgNodeState.declared.state.NodeState.{NodeState}
+use Rattle.pg_frame_world.specs.PgNodeState.States.{state_of}
 use Rattle.pg_world.specs.ByteWorlds.{account_of, crossing_of, given_of, lost_of}
 use Rattle.pg_world.specs.Crossings.{node_of}
-use Rattle.pg_starts.specs.Seen.{Seen}
+use Rattle.pg_frame_world.specs.PgStarts.Seen.{Seen}
 use Rattle.pg_world.proofs.Linked.{seen_there}
 use Rattle.pg_frame_world.proofs.Viewing.{none_held, none_is}
 use Rattle.pg_world.proofs.over_bytes.Leading.{bytes_applied_all}

@@ -1,12 +1,12 @@
 use Rattle.std.proofs.Common.{◌≡◌, ◌∙◌, ℕ, true, false, get_or, length, ap, subst, sym, refl}
 use Rattle.std.specs.Prelude.{slice_set}
-use Rattle.pg_machine.specs.Places.{is_pair}
-use Rattle.pg_frame.specs.Pieces.{pull}
+use Rattle.pg_frame_world.specs.PgMachine.Places.{is_pair}
+use Rattle.pg_frame_world.specs.PgFrame.Pieces.{pull}
 use Rattle.pg_node.specs.Links.{Link, at_link, with_fed}
 use Rattle.pg_node.specs.Nodes.{held_by, links_of, has_lost}
 use Rattle.pg_world.specs.Crossings.{written_of}
 use Rattle.pg_frame_world.specs.Views.{peer_place}
-use Rattle.pg_account.specs.Losses.{is_lost}
+use Rattle.pg_frame_world.specs.PgAccount.Losses.{is_lost}
 use Rattle.pg_world.proofs.Crossed.{moved_shown, same_shown}
 use Rattle.pg_frame_world.proofs.Barred.{unseen_by}
 use Rattle.pg_world.proofs.Linked.{pull_many, pulled_as, second_there, row_there, ring_there}

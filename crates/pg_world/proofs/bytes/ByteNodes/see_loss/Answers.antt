@@ -1,18 +1,18 @@
 use Rattle.std.proofs.Common.{◌≡◌, ◌∙◌, ◌∷◌, [], Option, None, not, Ok, Err, length, refl, sym, ap, subst}
-use Rattle.pg_step.specs.declared.refusal.Refusal.{Refusal}
-use Rattle.pg_step.specs.declared.refusal.Refusal.TheVariants.{NoSuchPlace, NodeLost, NotLost, NotDrained}
-use Rattle.pg_step.specs.Faults.{first_that_holds}
+use Rattle.pg_frame_world.specs.PgStep.declared.refusal.Refusal.{Refusal}
+use Rattle.pg_frame_world.specs.PgStep.declared.refusal.Refusal.TheVariants.{NoSuchPlace, NodeLost, NotLost, NotDrained}
+use Rattle.pg_frame_world.specs.PgStep.Faults.{first_that_holds}
 use Rattle.pg_frame_world.specs.declared.step.Stepped.TheVariants.{Happened}
 use Rattle.pg_world.specs.Bars.{RefusesBarred, sight_bar}
 use Rattle.pg_world.specs.Crossings.{crossing_of, link_at, node_of, written_of}
-use Rattle.pg_account.specs.Losses.{lost_in}
+use Rattle.pg_frame_world.specs.PgAccount.Losses.{lost_in}
 use Rattle.pg_node.specs.Bytes.{closed}
 use Rattle.pg_node.specs.Links.{Link, at_link}
 use Rattle.pg_node.specs.Nodes.{held_by, links_of}
-use Rattle.pg_node_state.specs.States.{names_of, state_of, answers_of}
-use Rattle.pg_account.specs.Histories.{account_of}
+use Rattle.pg_frame_world.specs.PgNodeState.States.{names_of, state_of, answers_of}
+use Rattle.pg_frame_world.specs.PgAccount.Histories.{account_of}
 use Rattle.pg_frame_world.specs.Views.{peer_place}
-use Rattle.pg_node_state.specs.declared.state.fault.NodeFault.TheVariants.{Refused}
+use Rattle.pg_frame_world.specs.PgNodeState.declared.state.fault.NodeFault.TheVariants.{Refused}
 use Rattle.pg_world.proofs.over_bytes.Drained.{bytes_there, left_there, undrained_told}
 use Rattle.pg_world.proofs.over_bytes.Lost.{sight_not_lost, sight_made, sight_held}
 use Rattle.pg_world.proofs.over_bytes.Seen.{peer_clock, closed_bytes, step_there}

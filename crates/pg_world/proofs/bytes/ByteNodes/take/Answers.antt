@@ -1,13 +1,13 @@
 use Rattle.std.proofs.Common.{◌≡◌, ◌∙◌, ℕ, Ok, Err, refl, sym, ap, subst}
-use Rattle.pg_machine.specs.Machine.{Take}
-use Rattle.pg_node_state.specs.declared.state.fault.NodeFault.{NodeFault}
-use Rattle.pg_node_state.specs.declared.state.fault.NodeFault.TheVariants.{OutOfMemory}
+use Rattle.pg_frame_world.specs.PgMachine.Machine.{Take}
+use Rattle.pg_frame_world.specs.PgNodeState.declared.state.fault.NodeFault.{NodeFault}
+use Rattle.pg_frame_world.specs.PgNodeState.declared.state.fault.NodeFault.TheVariants.{OutOfMemory}
 use Rattle.pg_node.specs.Bytes.{ReadsNext, next_packet, marked}
 use Rattle.pg_node.specs.Links.{Link, at_link}
 use Rattle.pg_node.specs.Nodes.{held_by, links_of, has_lost, read_next}
 use Rattle.pg_world.specs.Crossings.{Crossing, crossing_of, written_of, ShowsBytesPast}
-use Rattle.pg_account.specs.Histories.{account_of}
-use Rattle.pg_starts.specs.Seen.{seen_of}
+use Rattle.pg_frame_world.specs.PgAccount.Histories.{account_of}
+use Rattle.pg_frame_world.specs.PgStarts.Seen.{seen_of}
 use Rattle.pg_frame_world.specs.Views.{peer_place}
 use Rattle.pg_world.specs.Changes.{EventChanges}
 use Rattle.pg_frame_world.proofs.Barred.{unseen_by}

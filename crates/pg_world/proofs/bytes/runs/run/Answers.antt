@@ -1,7 +1,7 @@
 use Rattle.std.proofs.Common.{◌∙◌, List, ℕ, [], refl, sym, subst}
-use Rattle.pg_step.specs.Config.{Config}
-use Rattle.pg_step.specs.FrameMachine.{frame_machine}
-use Rattle.pg_machine.specs.Machine.{start_of}
+use Rattle.pg_frame_world.specs.PgStep.Config.{Config}
+use Rattle.pg_frame_world.specs.PgStep.FrameMachine.{frame_machine}
+use Rattle.pg_frame_world.specs.PgMachine.Machine.{start_of}
 use Rattle.pg_world.specs.Crossings.{ShowsBytes}
 use Rattle.pg_world.specs.ByteWorlds.{account_of, crossing_of, lost_of, room_of}
 use Rattle.pg_world.specs.BytesRuns.{over_bytes}

@@ -1,5 +1,5 @@
 use Rattle.std.proofs.Common.{◌++◌}
-use Rattle.pg_ring.specs.Slots.{given, slots_left, taken}
+use Rattle.pg_cluster.specs.PgRing.Slots.{given, slots_left, taken}
 use Rattle.pg_talk.proofs.ThreadReads.{joined}
 use Rattle.pg_talk.proofs.service.reader.Reader.join.Goals as goal
 

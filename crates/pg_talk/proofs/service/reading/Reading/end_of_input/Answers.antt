@@ -1,5 +1,5 @@
 use Rattle.std.proofs.Common.{sym, ◌∙◌}
-use Rattle.pg_faults.specs.declared.TheConstants.{TRUNCATED}
+use Rattle.pg_term.specs.PgFaults.declared.TheConstants.{TRUNCATED}
 use Rattle.pg_requests.specs.declared.input.Input.TheVariants as forms
 use Rattle.pg_talk.proofs.BodiesRead.{ends_cut, ends_whole}
 use Rattle.pg_talk.proofs.ThreadReads.{ends_by}

@@ -1,5 +1,5 @@
 use Rattle.std.proofs.Common.{◌≡◌}
-use Rattle.pg_ring.specs.Slots.{SameSlotOut, given}
+use Rattle.pg_cluster.specs.PgRing.Slots.{SameSlotOut, given}
 use Rattle.pg_talk.proofs.service.reading.Reading.give.Given as goal
 
 -- nothing was given so far

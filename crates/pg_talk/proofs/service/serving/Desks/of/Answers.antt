@@ -1,6 +1,6 @@
 use Rattle.std.proofs.Common.{ap, false, ◌∷◌, [], refl, sym, ◌∙◌}
 use Rattle.std.proofs.lemmas.List.{map-append}
-use Rattle.pg_step.specs.declared.start.Start.{Start}
+use Rattle.pg_cluster.specs.PgStep.declared.start.Start.{Start}
 use Rattle.pg_talk.specs.declared.service.serving.ServedNode.{ServedNode}
 use Rattle.pg_talk.specs.Servings.{known_lost, names_of, ports_of}
 use Rattle.pg_talk.proofs.Opening.{more_nodes, more_of}

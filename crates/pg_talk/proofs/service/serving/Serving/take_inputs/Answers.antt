@@ -1,4 +1,4 @@
-use Rattle.pg_ring.specs.Slots.{taken}
+use Rattle.pg_cluster.specs.PgRing.Slots.{taken}
 use Rattle.pg_talk.proofs.Turns.{advances_empty, advances_kept, advances_took, inlet_itself, inlet_on}
 use Rattle.pg_talk.proofs.service.serving.Serving.take_inputs.Goals as goal
 

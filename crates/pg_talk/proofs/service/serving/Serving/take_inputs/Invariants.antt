@@ -1,4 +1,4 @@
-use Rattle.pg_ring.specs.Slots.{SameSlotIn, taken}
+use Rattle.pg_cluster.specs.PgRing.Slots.{SameSlotIn, taken}
 use Rattle.pg_talk.specs.Servings.{Advances}
 use Rattle.pg_talk.proofs.service.serving.Serving.take_inputs.Given as goal
 
