@@ -2,14 +2,15 @@
 #![tactic(auto)]
 
 mod host;
+mod progress;
 #[cfg(test)]
 mod tests;
 
 use host::{HostSystem, Shown};
-use pg_cluster::{AnyReader, AnyWriter};
-use pg_faults::OUT_OF_MEMORY;
 use pg_program::{refuse, refuse_given, run_words};
-use pg_progress::Progress;
+use pg_streams::{AnyReader, AnyWriter};
+use pg_term::faults::OUT_OF_MEMORY;
+use progress::Progress;
 use std::io::BufWriter;
 use std::process::ExitCode;
 use std::thread::Threads;

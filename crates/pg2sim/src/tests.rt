@@ -1,9 +1,9 @@
 //! Conversations in threads of the system, and what a terminal shows of them.
 
 use crate::host::{HostSystem, Shown};
-use pg_cluster::AnyReader;
+use crate::progress::Progress;
 use pg_program::{System, run_words};
-use pg_progress::Progress;
+use pg_streams::AnyReader;
 use std::alloc::{AllocError, Global};
 use std::io;
 use std::io::{IsTerminal, Write};

@@ -7,7 +7,7 @@ mod rings;
 mod tables;
 mod values;
 
-use pg_figures::word;
+use pg_test_kit::word;
 use std::env;
 use values::{PACKETS, TERMS};
 

@@ -1,7 +1,7 @@
 //! How many bytes a second cross a ring between two threads, for pieces of several sizes.
 
-use pg_figures::Watch;
 use pg_ring::{Inlet, Link, RingIn, RingOut, ring_pair};
+use pg_test_kit::Watch;
 use std::io::Eprint;
 use std::sync::Wait;
 use std::thread;

@@ -5,11 +5,10 @@ mod crowd;
 
 use calls::{About, apply, apply_all, each, read};
 use crowd::{joins_of_300, names, pairs, pid_of, pids, updates};
-use pg_figures::{Change, Watch, number, report_each, word};
+use pg_group::{Ended, GroupTable, RowTable, Update};
 use pg_index::IndexTable;
-use pg_message::{Ended, GroupTable, RowTable, Update};
-use pg_random::Random;
 use pg_term::{Atom, Pid, Term};
+use pg_test_kit::{Change, Random, Watch, number, report_each, word};
 use std::alloc::{AllocError, Global};
 use std::fs;
 

@@ -1,11 +1,10 @@
 //! How fast terms and packets are read and written, copied and compared.
 
 use bytes::BytesMut;
-use pg_figures::{Watch, head, number, pid, report, word};
-use pg_message::{Message, MessageFault, Packet, decode, encode, encode_into};
-use pg_reader::read_packet;
+use pg_message::{Message, MessageFault, Packet, read_packet, write_packet, write_packet_into};
 use pg_term::{Atom, Fields, Items, Pid, Term, TermFault};
-use pg_writer::{write_packet, write_packet_into};
+use pg_term_io::{decode, encode, encode_into};
+use pg_test_kit::{Watch, head, number, pid, report, word};
 use std::alloc::Global;
 
 // The bytes of `{0, {call, Ref, {join, g, Pid}}}`, by which a peer asks to join a process of its own to a group.

@@ -2,10 +2,10 @@
 use Rattle.std.proofs.Common.{◌≡◌, ◌∙◌, ℕ, Bool, true, false, not, ◌&&◌, ◌||◌, cond, nat_le, take}
 use Rattle.std.proofs.Common.{length, List, [], ◌∷◌, ◌++◌, Some, None, refl, sym, ap, subst}
 use Rattle.std.proofs.Math.Path.{fun_ext}
-use Rattle.pg_joining.specs.Losses.{MarksNotices, MarkedEvent, MarkedLeads}
-use Rattle.pg_joining.specs.PgMachine.Losing.{LosingEvent, LosingWorld, Lose, Step, each_place, losing_happens, stopped}
-use Rattle.pg_joining.specs.PgMachine.Machine.{Machine, World}
-use Rattle.pg_joining.specs.PgMachine.Places.{is_pair, is_place, set_at}
+use Rattle.pg_cluster_judges.specs.Losses.{MarksNotices, MarkedEvent, MarkedLeads}
+use Rattle.pg_cluster_judges.specs.PgStep.Machines.Losing.{LosingEvent, LosingWorld, Lose, Step, each_place, losing_happens, stopped}
+use Rattle.pg_cluster_judges.specs.PgStep.Machines.Machine.{Machine, World}
+use Rattle.pg_cluster_judges.specs.PgStep.Machines.Places.{is_pair, is_place, set_at}
 
 -- the same event, but for what is kept where there is no way
 abbrev pub SameEvent : {C : Type 0} → ℕ → LosingEvent C → LosingEvent C → Type 0

@@ -1,4 +1,17 @@
 -- A cluster that is closed.
+use Rattle.std.proofs.Common.{◌≡◌, inl, inr, ℕ, ◌<◌, Bool, false}
+use Rattle.std.proofs.Common.{List, [], ◌∷◌, ◌++◌, length, map, arith}
+use Rattle.std.proofs.Common.{Result, Ok, Err, refl, sym, ap, subst, ◌∙◌}
+use Rattle.std.specs.Prelude.{IfOk}
+use Rattle.pg_cluster_judges.specs.PgNodeRun.declared.log.NodeEvent.TheVariants as entries
+use Rattle.pg_cluster_judges.specs.PgStep.Config.{Config}
+use Rattle.pg_cluster_judges.specs.Closed.{IsOneRun}
+use Rattle.pg_cluster_judges.specs.Judges.{Agree}
+use Rattle.pg_cluster_judges.specs.Schedule.{NobodyLost}
+use Rattle.pg_cluster.specs.Threads.{Thread, AreMade, begun_by}
+use Rattle.pg_cluster_judges.specs.NodeOf.{NodeOf}
+use Rattle.pg_cluster_judges.specs.Together.{AreOneRun}
+use Rattle.pg_cluster_judges.proofs.Finished.{in_schedule, in_plain_schedule, SurvivorsOfOneRun}
 use Rattle.std.proofs.Common.{◌≡◌, ◌<◌, ℕ, List, [], ◌∷◌, ◌++◌, length, map, get_or}
 use Rattle.std.proofs.Common.{refl, sym, ◌∙◌, ap, subst, arith, inl, inr, length-append}
 use Rattle.std.specs.Prelude.{Bool, false, Result, Ok, Err, IfOk, IfErr, MatchResult}
@@ -10,33 +23,34 @@ use Rattle.std.proofs.lemmas.List.{length-map, get_or-map}
 use Rattle.std.proofs.Math.ListN.{get_or-append}
 use Rattle.std.proofs.Math.Seq.{get_or-append_seam}
 use Rattle.pg_ring.specs.declared.slot_in.SlotIn.{SlotIn}
-use Rattle.pg_joining.specs.PgRun.declared.log.NodeEvent.{NodeEvent}
-use Rattle.pg_joining.specs.PgRun.declared.notices.Notice.{Notice}
-use Rattle.pg_joining.specs.PgRun.declared.port.Client.{Client}
+use Rattle.pg_cluster_judges.specs.PgNodeRun.declared.log.NodeEvent.{NodeEvent}
+use Rattle.pg_cluster_judges.specs.PgNodeRun.declared.notices.Notice.{Notice}
+use Rattle.pg_cluster_judges.specs.PgNodeRun.declared.port.Client.{Client}
 use Rattle.pg_ring.specs.Slots.{taken}
-use Rattle.pg_joining.specs.PgRun.Ports.{Meets}
-use Rattle.pg_joining.specs.PgStep.Config.{Config}
-use Rattle.pg_joining.specs.PgFrameWorld.declared.step.FrameStep.{FrameStep}
-use Rattle.pg_cluster.specs.declared.closed.Closed.{Closed}
-use Rattle.pg_cluster.specs.declared.closed.Stopped.{Stopped}
-use Rattle.pg_cluster.specs.declared.closed.TurnCount.{TurnCount}
+use Rattle.pg_cluster_judges.specs.PgNodeRun.Ports.{Meets}
+use Rattle.pg_cluster_judges.specs.PgStep.Config.{Config}
+use Rattle.pg_cluster_judges.specs.PgWorldPackets.declared.step.FrameStep.{FrameStep}
+use Rattle.pg_cluster_judges.specs.declared.closed.Closed.{Closed}
+use Rattle.pg_cluster_judges.specs.declared.closed.Stopped.{Stopped}
+use Rattle.pg_cluster_judges.specs.declared.closed.TurnCount.{TurnCount}
 use Rattle.pg_cluster.specs.Clients.{AllPairs, AllHeard, ClientsRest, ports_ended}
-use Rattle.pg_cluster.specs.Closed.{AreStepsOf, IsByClock, IsOneLosingRun, IsOneRun, JoinsToOneLosingRun, JoinsToOneRun}
-use Rattle.pg_cluster.specs.Closed.{nodes_of, logs_in, logs_of, turns_of, losses_of, clients_of}
-use Rattle.pg_cluster.specs.Judges.{Agree}
+use Rattle.pg_cluster_judges.specs.Closed.{IsByClock, IsOneLosingRun, IsOneRun, JoinsToOneLosingRun, JoinsToOneRun}
+use Rattle.pg_cluster_judges.specs.Closed.{nodes_of, logs_in, logs_of, turns_of, losses_of, clients_of}
+use Rattle.pg_cluster_judges.specs.Judges.{Agree}
 use Rattle.pg_cluster.specs.Ended.{AreWired, AllArrived}
-use Rattle.pg_cluster.specs.Notices.{IsOfLost, NobodyLost}
-use Rattle.pg_cluster.specs.Schedule.{IsLosingSchedule, IsSchedule}
+use Rattle.pg_cluster.specs.Notices.{IsOfLost}
+use Rattle.pg_cluster_judges.specs.Schedule.{NobodyLost}
+use Rattle.pg_cluster_judges.specs.Schedule.{IsLosingSchedule, IsSchedule}
 use Rattle.std.proofs.Props.{props}
 use mathlib.Core.Logic.{∥∥₁_elim, ∥∥₁_map}
-use Rattle.pg_cluster.specs.Survivors.{SurvivorsAgree}
-use Rattle.pg_cluster.specs.Threads.{NodeOf, RunOf, RanOf, Thread, AreMade, EndedWith, Joined, begun_by}
+use Rattle.pg_cluster_judges.specs.Survivors.{SurvivorsAgree}
+use Rattle.pg_cluster.specs.Threads.{RunOf, RanOf, Thread, AreMade, EndedWith, Joined, begun_by}
+use Rattle.pg_cluster_judges.specs.NodeOf.{NodeOf}
 use Rattle.pg_cluster.specs.Threads.{lasts_ended, node_in, log_in, turns_in, rows_begun, rows_ended, notices_ended}
-use Rattle.pg_cluster.specs.Together.{AreOneLosingRun, AreOneRun}
-use Rattle.pg_cluster.proofs.Closing.{crossed_after}
+use Rattle.pg_cluster_judges.specs.Together.{AreOneLosingRun, AreOneRun}
+use Rattle.pg_cluster.proofs.Crossing.{crossed_after}
 use Rattle.pg_cluster.proofs.Hearing.{heard_all}
-use Rattle.pg_cluster.proofs.Scheduling.{all_events}
-use Rattle.pg_cluster.proofs.StepsThere.{steps_there}
+use Rattle.pg_cluster_judges.proofs.StepsThere.{steps_there}
 
 -- one more stands in its place
 pub one_more_stands :
@@ -136,13 +150,6 @@ finished_lost lost stopped (Err other) are told same = ap losses_of same ∙ are
 
 -- ---- its steps
 
--- what the steps of a cluster that has ended are, whoever was lost, and where nobody was
-pub in_schedule : (closed : Closed) → IsByClock closed → (steps : List FrameStep) → AreStepsOf closed steps → IsLosingSchedule (logs_in closed) closed.lost.items steps
-in_schedule closed order steps are = record { order = closed.order.items; merges = order; is = are }
-
-pub in_plain_schedule : (closed : Closed) → IsByClock closed → NobodyLost closed.lost.items → (steps : List FrameStep) → AreStepsOf closed steps → IsSchedule (logs_in closed) (length (logs_in closed)) steps
-in_plain_schedule closed order nobody steps are = all_events (logs_in closed) closed.lost.items steps (in_schedule closed order steps are) nobody
-
 -- they are one run of the machine with losses
 pub finished_losing_run : {K : Type 0}
     → ((given : Config) (lost : List Bool) (threads : List (Thread K)) (nodes : List NodeOf) (logs : List (List (ℕ × NodeEvent))) (turns : List TurnCount) (schedule : List FrameStep)
@@ -169,38 +176,6 @@ finished_run law lost threads (Ok closed) ended order same = λ nobody given mad
     law given lost threads closed.nodes.items (logs_in closed) closed.turns.items steps nobody made (ended nobody) (in_plain_schedule closed order (subst NobodyLost (sym same) nobody) steps are)
 finished_run law lost threads (Err other) ended order same = tt
 
--- ---- what stopped, once it is finished
-
-pub joined_run : (stopped : Stopped) (result : Result Closed Stopped) → IfOk result (λ closed. closed.nodes.items ≡ nodes_of stopped)
-    → IfOk result (λ closed. map (λ v. v.items) closed.logs.items ≡ logs_of stopped) → IfOk result (λ closed. closed.lost.items ≡ losses_of stopped) → IfOk result IsByClock
-    → IfOk result (λ closed. NobodyLost (losses_of stopped) → (given : Config) → JoinsToOneRun given (nodes_of stopped) (logs_of stopped) → IsOneRun given closed)
-joined_run stopped (Ok closed) nodes logs lost order = λ nobody given joins steps are.
-    subst (λ ns. AreOneRun given ns (logs_in closed) steps) (sym nodes)
-    (subst (λ ls. AreOneRun given (nodes_of stopped) ls steps) (sym logs)
-    (joins steps (subst (λ ls. IsSchedule ls (length ls) steps) logs (in_plain_schedule closed order (subst NobodyLost (sym lost) nobody) steps are))))
-joined_run stopped (Err other) nodes logs lost order = tt
-
--- the same, whoever was lost
-pub joined_losing_run : (stopped : Stopped) (result : Result Closed Stopped) → IfOk result (λ closed. closed.nodes.items ≡ nodes_of stopped)
-    → IfOk result (λ closed. map (λ v. v.items) closed.logs.items ≡ logs_of stopped) → IfOk result (λ closed. closed.lost.items ≡ losses_of stopped) → IfOk result IsByClock
-    → IfOk result (λ closed. (given : Config) → JoinsToOneLosingRun given (losses_of stopped) (nodes_of stopped) (logs_of stopped) → IsOneLosingRun given closed)
-joined_losing_run stopped (Ok closed) nodes logs lost order = λ given joins steps are.
-    subst (λ ns. ∥ AreOneLosingRun given closed.lost.items ns steps ∥₁) (sym nodes)
-    (subst (λ marks. ∥ AreOneLosingRun given marks (nodes_of stopped) steps ∥₁) (sym lost)
-    (joins steps (subst (λ ls. IsLosingSchedule ls (losses_of stopped) steps) logs
-    (subst (λ marks. IsLosingSchedule (logs_in closed) marks steps) lost (in_schedule closed order steps are)))))
-joined_losing_run stopped (Err other) nodes logs lost order = tt
-
-pub joined_agree : ((given : Config) (nodes : List NodeOf) (logs : List (Vec (ℕ × NodeEvent) Global)) (schedule : List FrameStep)
-    → AreOneRun given nodes (map (λ v. v.items) logs) schedule → Agree nodes logs)
-    → (stopped : Stopped) (result : Result Closed Stopped)
-    → IfOk result (λ closed. NobodyLost (losses_of stopped) → (given : Config) → JoinsToOneRun given (nodes_of stopped) (logs_of stopped) → IsOneRun given closed)
-    → IfOk result (λ closed. NobodyLost (losses_of stopped) → (given : Config) → JoinsToOneRun given (nodes_of stopped) (logs_of stopped) → Agree closed.nodes.items closed.logs.items)
-joined_agree law stopped (Ok closed) run = λ nobody given joins.
-    let there = steps_there closed in
-    law given closed.nodes.items closed.logs.items there.0 (run nobody given joins there.0 there.1)
-joined_agree law stopped (Err other) run = tt
-
 -- what a thread made joins to one run, where no node was lost
 pub stopped_joins : {K : Type 0}
     → ((given : Config) (lost : List Bool) (threads : List (Thread K)) (nodes : List NodeOf) (logs : List (List (ℕ × NodeEvent))) (turns : List TurnCount) (schedule : List FrameStep)
@@ -225,26 +200,6 @@ stopped_joins_losing law lost threads stopped (Err other) ended same = λ given 
     subst (λ (s : Stopped). JoinsToOneLosingRun given lost (nodes_of s) (logs_of s)) (sym same)
     (λ schedule is. ∥∥₁_map ended (λ e. law given lost threads (nodes_of stopped) (logs_of stopped) (turns_of stopped) schedule made e is))
 
--- ---- survivors
-
--- the laws that are cited
-abbrev pub SurvivorsOfOneRun : Type 0
-SurvivorsOfOneRun = (given : Config) (lost : List Bool) (nodes : List NodeOf) (logs : List (Vec (ℕ × NodeEvent) Global)) (schedule : List FrameStep)
-    → AreOneLosingRun given lost nodes schedule → length logs ≡ length nodes → IsLosingSchedule (map (λ v. v.items) logs) lost schedule → SurvivorsAgree nodes lost logs
-
--- they agree, of what stopped, once it is finished
-pub joined_survivors : SurvivorsOfOneRun → (stopped : Stopped) (result : Result Closed Stopped) → IfOk result (λ closed. closed.nodes.items ≡ nodes_of stopped)
-    → IfOk result (λ closed. map (λ v. v.items) closed.logs.items ≡ logs_of stopped) → IfOk result IsByClock
-    → IfOk result (λ closed. (given : Config) → JoinsToOneLosingRun given (losses_of stopped) (nodes_of stopped) (logs_of stopped) → IsOneLosingRun given closed)
-    → IfOk result (λ closed. (given : Config) → JoinsToOneLosingRun given (losses_of stopped) (nodes_of stopped) (logs_of stopped)
-    → length (logs_of stopped) ≡ length (nodes_of stopped) → ∥ SurvivorsAgree closed.nodes.items closed.lost.items closed.logs.items ∥₁)
-joined_survivors law stopped (Ok closed) nodes logs order run = λ given joins sizes.
-    let count : length closed.logs.items ≡ length closed.nodes.items =
-    sym (length-map closed.logs.items (λ v. v.items)) ∙ (ap length logs ∙ (sizes ∙ ap length (sym nodes))) in
-    let there = steps_there closed in
-    ∥∥₁_map (run given joins there.0 there.1) (λ one. law given closed.lost.items closed.nodes.items closed.logs.items there.0 one count (in_schedule closed order there.0 there.1))
-joined_survivors law stopped (Err other) nodes logs order run = tt
-
 -- and of a cluster that has ended
 pub closed_survivors : {K : Type 0} → SurvivorsOfOneRun
     → (lost : List Bool) (threads : List (Thread K)) (result : Result Closed Stopped)
@@ -258,3 +213,14 @@ closed_survivors law lost threads (Ok closed) ended order run = λ given made.
     sym (length-map closed.logs.items (λ v. v.items)) ∙ (ap length e.logged ∙ (length-map e.rans (λ ran. log_in ran.run) ∙ (sym (length-map e.rans (λ ran. node_in ran.run)) ∙ ap length (sym e.ended)))) in
     ∥∥₁_map (run given made there.0 there.1) (λ one. law given closed.lost.items closed.nodes.items closed.logs.items there.0 one count (in_schedule closed order there.0 there.1)))
 closed_survivors law lost threads (Err other) ended order run = tt
+
+-- the nodes of a cluster that has ended agree
+pub closed_agree : {K : Type 0}
+    → ((given : Config) (nodes : List NodeOf) (logs : List (Vec (ℕ × NodeEvent) Global)) (schedule : List FrameStep) → AreOneRun given nodes (map (λ v. v.items) logs) schedule → Agree nodes logs)
+    → (lost : List Bool) (threads : List (Thread K)) (result : Result Closed Stopped)
+    → IfOk result (λ closed. NobodyLost lost → (given : Config) → AreMade given (map begun_by threads) → IsOneRun given closed)
+    → IfOk result (λ closed. NobodyLost lost → (given : Config) → AreMade given (map begun_by threads) → Agree closed.nodes.items closed.logs.items)
+closed_agree law lost threads (Ok closed) run = λ nobody given made.
+    let there = steps_there closed in
+    law given closed.nodes.items closed.logs.items there.0 (run nobody given made there.0 there.1)
+closed_agree law lost threads (Err stopped) run = tt

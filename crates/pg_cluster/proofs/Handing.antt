@@ -2,10 +2,10 @@
 use Rattle.std.specs.Prelude.{Result, Ok, Err, IfOk, IfErr, MatchResult}
 use mathlib.Core.Logic.{∥∥₁_elim, ∥∥₁_map}
 use Rattle.std.proofs.Props.{props}
-use Rattle.pg_joining.specs.PgStep.Config.{Config}
-use Rattle.pg_cluster.specs.declared.closed.Closed.{Closed}
-use Rattle.pg_cluster.specs.declared.closed.Stopped.{Stopped}
-use Rattle.pg_cluster.specs.Closed.{IsOneLosingRun}
+use Rattle.pg_cluster_judges.specs.PgStep.Config.{Config}
+use Rattle.pg_cluster_judges.specs.declared.closed.Closed.{Closed}
+use Rattle.pg_cluster_judges.specs.declared.closed.Stopped.{Stopped}
+use Rattle.pg_cluster_judges.specs.Closed.{IsOneLosingRun}
 
 module _ (Made : Config → Type 0) (given : Config) (made : ∥ Made given ∥₁) where
   -- what follows of each configuration that made the threads follows of the one that did, as a fact

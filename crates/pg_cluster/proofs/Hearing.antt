@@ -3,18 +3,18 @@ use Rattle.std.proofs.Common.{◌≡◌, ◌<◌, ℕ, suc, List, [], ◌∷◌,
 use Rattle.std.proofs.Common.{drop, get_or, refl, sym, ◌∙◌, ap, subst, arith, append_assoc}
 use Rattle.std.specs.List.{All}
 use Rattle.std.proofs.lemmas.List.{get_or_default, nil_from_length, take-append-drop}
-use Rattle.pg_joining.specs.PgNode.Nodes.{held_by}
-use Rattle.pg_joining.specs.PgNodeState.States.{answers_of}
+use Rattle.pg_cluster_judges.specs.PgNode.Nodes.{held_by}
+use Rattle.pg_cluster_judges.specs.PgNodeState.States.{answers_of}
 use Rattle.pg_ring.specs.Ends.{Sends, Receives}
-use Rattle.pg_joining.specs.PgRun.declared.log.NodeEvent.{NodeEvent}
-use Rattle.pg_joining.specs.PgRun.declared.port.Client.{Client}
-use Rattle.pg_joining.specs.PgRun.declared.port.Port.{Port}
-use Rattle.pg_joining.specs.PgRun.Acts.{Act, Given, Took, Saw, Did, log_entry, event_of}
-use Rattle.pg_joining.specs.PgRun.Ports.{ArePort, IsUnused, Meets, SamePort, HandedOver, handed_count, asked_kept, polled}
-use Rattle.pg_joining.specs.PgRun.Runs.{Runs, ports_at}
-use Rattle.pg_joining.specs.PgRun.Turns.{PortFollows, command_at, commands_at}
-use Rattle.pg_joining.specs.PgStep.declared.answer.Answer.{Answer}
-use Rattle.pg_joining.specs.PgStep.Step.{Issue, Retry}
+use Rattle.pg_cluster_judges.specs.PgNodeRun.declared.log.NodeEvent.{NodeEvent}
+use Rattle.pg_cluster_judges.specs.PgNodeRun.declared.port.Client.{Client}
+use Rattle.pg_cluster_judges.specs.PgNodeRun.declared.port.Port.{Port}
+use Rattle.pg_cluster_judges.specs.PgNodeRun.Acts.{Act, Given, Took, Saw, Did, log_entry, event_of}
+use Rattle.pg_cluster_judges.specs.PgNodeRun.Ports.{ArePort, IsUnused, Meets, SamePort, HandedOver, handed_count, asked_kept, polled}
+use Rattle.pg_cluster_judges.specs.PgNodeRun.Runs.{Runs, ports_at}
+use Rattle.pg_cluster_judges.specs.PgNodeRun.Turns.{PortFollows, command_at, commands_at}
+use Rattle.pg_cluster_judges.specs.PgStep.declared.answer.Answer.{Answer}
+use Rattle.pg_cluster_judges.specs.PgStep.Step.{Issue, Retry}
 use Rattle.pg_cluster.specs.Clients.{AllPairs, AreClients, AllHeard, ClientHeard, NodeHeard}
 use Rattle.pg_cluster.specs.Clients.{command_in, commands_in, ports_begun, ports_ended}
 use Rattle.pg_cluster.specs.ClientsLaws.{port_later, same_itself}

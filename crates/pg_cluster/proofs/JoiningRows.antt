@@ -7,7 +7,7 @@ use Rattle.std.proofs.lemmas.List.{append-nil, get_or-set_same, get_or-set_other
 use Rattle.std.proofs.Math.ListN.{get_or-append, length-set}
 use Rattle.std.proofs.Math.Seq.{get_or-append_seam}
 use Rattle.pg_ring.specs.Ends.{bytes_room}
-use Rattle.pg_joining.specs.Apart.{End}
+use Rattle.pg_cluster_judges.specs.Apart.{End}
 use Rattle.pg_cluster.specs.Ended.{NodeRow}
 use Rattle.pg_cluster.specs.Rows.{HaveRowRoom, Wired, Joins, AreJoined, PairAt, SoFar}
 use Rattle.pg_cluster.proofs.Starts.{all_push}

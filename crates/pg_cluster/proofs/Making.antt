@@ -4,25 +4,25 @@ use Rattle.std.proofs.Common.{length, map, get_or, sym, ◌∙◌, ap, subst, ar
 use Rattle.std.specs.Prelude.{slice_get, Some, IfErr, IfOk, Result, Ok, Err}
 use Rattle.std.specs.Option.{option_map}
 use Rattle.std.proofs.lemmas.Option.{slice_get-get_or, slice_get-map, slice_get_within}
-use Rattle.pg_joining.specs.PgNode.Nodes.{held_by}
-use Rattle.pg_joining.specs.PgNodeState.States.{names_of}
+use Rattle.pg_cluster_judges.specs.PgNode.Nodes.{held_by}
+use Rattle.pg_cluster_judges.specs.PgNodeState.States.{names_of}
 use Rattle.std.specs.List.{All}
 use Rattle.std.proofs.lemmas.Bool.Decides.{leb_tells}
 use Rattle.std.proofs.lemmas.List.{get_or-map, length-map}
-use Rattle.pg_joining.specs.PgMachine.Places.{is_pair}
+use Rattle.pg_cluster_judges.specs.PgStep.Machines.Places.{is_pair}
 use Rattle.pg_ring.specs.Ends.{bytes_room}
-use Rattle.pg_joining.specs.PgRun.Notices.{IsUntold}
-use Rattle.pg_joining.specs.PgRun.Ports.{IsUnused}
-use Rattle.pg_joining.specs.PgRun.Runs.{notices_of}
-use Rattle.pg_joining.specs.PgStep.Config.{Config, IsConfig}
-use Rattle.pg_joining.specs.Apart.{End}
-use Rattle.pg_joining.proofs.PgFrameWorld.Peering.{known, place_low, place_high}
-use Rattle.pg_joining.proofs.PgFrameWorld.Turning.{pair_is}
-use Rattle.pg_joining.specs.PgWorld.BytesStart.{BytesBegin}
-use Rattle.pg_joining.specs.PgWorld.Crossings.{idle_crossing, node_of as seen_node}
-use Rattle.pg_joining.specs.PgFrameWorld.Views.{peer_place}
-use Rattle.pg_joining.specs.PgAccount.Histories.{no_account}
-use Rattle.pg_joining.specs.PgConfig.declared.fault.WorldFault.TheVariants.{OutOfMemory}
+use Rattle.pg_cluster_judges.specs.PgNodeRun.Notices.{IsUntold}
+use Rattle.pg_cluster_judges.specs.PgNodeRun.Ports.{IsUnused}
+use Rattle.pg_cluster_judges.specs.PgNodeRun.Runs.{notices_of}
+use Rattle.pg_cluster_judges.specs.PgStep.Config.{Config, IsConfig}
+use Rattle.pg_cluster_judges.specs.Apart.{End}
+use Rattle.pg_cluster_judges.proofs.PgWorldPackets.Peering.{known, place_low, place_high}
+use Rattle.pg_cluster_judges.proofs.PgWorldPackets.Turning.{pair_is}
+use Rattle.pg_cluster_judges.specs.PgWorld.BytesStart.{BytesBegin}
+use Rattle.pg_cluster_judges.specs.PgWorld.Crossings.{idle_crossing, node_of as seen_node}
+use Rattle.pg_cluster_judges.specs.PgWorldPackets.Views.{peer_place}
+use Rattle.pg_cluster_judges.specs.PgWorldAccount.Histories.{no_account}
+use Rattle.pg_cluster_judges.specs.PgWorldConfig.declared.fault.WorldFault.TheVariants.{OutOfMemory}
 use Rattle.pg_cluster.specs.declared.fault.StartFault.{StartFault}
 use Rattle.pg_cluster.specs.declared.fault.StartFault.TheVariants.{World, NoThread}
 use Rattle.pg_cluster.specs.declared.runs.Made.{Made}
@@ -30,7 +30,8 @@ use Rattle.pg_cluster.specs.Clients.{AllPairs, IsOpenClient}
 use Rattle.pg_cluster.specs.Ended.{NodeRow, AreWired, row_at}
 use Rattle.pg_cluster.specs.Fault.{CantRun, IsShortage}
 use Rattle.pg_cluster.specs.Rows.{HaveRowRoom, Wired, RowsWired}
-use Rattle.pg_cluster.specs.Threads.{AreMade, HasLinks, HaveRings, NodeOf, RunOf}
+use Rattle.pg_cluster.specs.Threads.{AreMade, HasLinks, HaveRings, RunOf}
+use Rattle.pg_cluster_judges.specs.NodeOf.{NodeOf}
 use Rattle.pg_cluster.specs.Threads.{node_in, row_in, log_in, ports_of_runs}
 use Rattle.pg_cluster.proofs.Paired.{pairs_right}
 

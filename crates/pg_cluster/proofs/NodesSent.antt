@@ -5,24 +5,24 @@ use denote.RattleType.{RattleType}
 use Rattle.std.proofs.Crossing.{crosses, send as heap_send, sync as heap_sync, frees}
 use Rattle.bytes.proofs.unique.BytesMut.TheSendSync.{the_send as bytes_send}
 use Rattle.rtrb.proofs.end.End.TheSendSync.{the_send as end_send}
-use Rattle.pg_joining.specs.PgFrame.contracts.deframer.Deframer as Deframer
-use Rattle.pg_joining.specs.PgGroup.declared.table.GroupTable.{Ghosts}
-use Rattle.pg_joining.specs.PgNode.contracts.node.Node as Node
-use Rattle.pg_joining.specs.PgNodeState.contracts.state.NodeState as NodeState
-use Rattle.pg_joining.specs.PgOpens.contracts.command.OpenCommand as OpenCommand
-use Rattle.pg_joining.specs.PgOpens.contracts.opens.Opens as Opens
+use Rattle.pg_cluster_judges.specs.PgFrame.contracts.deframer.Deframer as Deframer
+use Rattle.pg_cluster_judges.specs.PgGroup.declared.table.GroupTable.{Ghosts}
+use Rattle.pg_cluster_judges.specs.PgNode.contracts.node.Node as Node
+use Rattle.pg_cluster_judges.specs.PgNodeState.contracts.state.NodeState as NodeState
+use Rattle.pg_cluster_judges.specs.PgNodeOpens.contracts.command.OpenCommand as OpenCommand
+use Rattle.pg_cluster_judges.specs.PgNodeOpens.contracts.opens.Opens as Opens
 use Rattle.pg_ring.specs.contracts.ring_in.RingIn as RingIn
 use Rattle.pg_ring.specs.contracts.ring_out.RingOut as RingOut
-use Rattle.pg_joining.specs.PgRun.contracts.linked.LinkedNode as LinkedNode
-use Rattle.pg_joining.specs.PgRun.contracts.log.NodeEvent as NodeEvent
-use Rattle.pg_joining.specs.PgRun.contracts.notices.Notice as Notice
-use Rattle.pg_joining.specs.PgRun.contracts.notices.Notices as Notices
-use Rattle.pg_joining.specs.PgRun.contracts.port.Asked as Asked
-use Rattle.pg_joining.specs.PgRun.contracts.port.Port as Port
-use Rattle.pg_joining.specs.PgRun.contracts.run.NodeRun as NodeRun
-use Rattle.pg_joining.specs.PgRun.contracts.running.Ran as Ran
-use Rattle.pg_joining.specs.PgSends.contracts.held.Held as Held
-use Rattle.pg_joining.specs.PgStep.contracts.command.Command as Command
+use Rattle.pg_cluster_judges.specs.PgNodeRun.contracts.linked.LinkedNode as LinkedNode
+use Rattle.pg_cluster_judges.specs.PgNodeRun.contracts.log.NodeEvent as NodeEvent
+use Rattle.pg_cluster_judges.specs.PgNodeRun.contracts.notices.Notice as Notice
+use Rattle.pg_cluster_judges.specs.PgNodeRun.contracts.notices.Notices as Notices
+use Rattle.pg_cluster_judges.specs.PgNodeRun.contracts.port.Asked as Asked
+use Rattle.pg_cluster_judges.specs.PgNodeRun.contracts.port.Port as Port
+use Rattle.pg_cluster_judges.specs.PgNodeRun.contracts.run.NodeRun as NodeRun
+use Rattle.pg_cluster_judges.specs.PgNodeRun.contracts.running.Ran as Ran
+use Rattle.pg_cluster_judges.specs.PgNodeSends.contracts.held.Held as Held
+use Rattle.pg_cluster_judges.specs.PgStep.contracts.command.Command as Command
 use Rattle.pg_cluster.proofs.TermsSent.{atom_send}
 use Rattle.pg_cluster.proofs.PartsSent.{opid_send, update_send, command_send, answer_send}
 use Rattle.pg_cluster.proofs.PartsSent.{lock_send, ended_send, formation_send, processes_send}

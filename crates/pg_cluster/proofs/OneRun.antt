@@ -1,6 +1,7 @@
 -- A cluster that has ended, as one run of its configuration.
-use Rattle.std.proofs.Common.{◌≡◌, ◌≢◌, ◌⊎◌, ◌<◌, ◌≤◌, ◌+◌, ◌-◌, ◌^◌, ℕ, Bool, true, false, cond}
-use Rattle.std.proofs.Common.{nat_eq, nat_lt, min, List, [], ◌∷◌, ◌++◌, length, map, drop, get_or}
+use Rattle.pg_cluster_judges.proofs.Peers.{peer_within}
+use Rattle.std.proofs.Common.{◌≡◌, ◌≢◌, ◌⊎◌, ◌<◌, ◌≤◌, ◌+◌, ◌-◌, ℕ, Bool, true, false, cond}
+use Rattle.std.proofs.Common.{nat_eq, List, [], ◌∷◌, ◌++◌, length, map, drop, get_or}
 use Rattle.std.proofs.Common.{Some, zero, suc, refl, sym, ◌∙◌, ap, subst, arith, inl, inr}
 use Rattle.std.specs.Prelude.{slice_get}
 use Rattle.std.specs.List.{All, AllByRecursion, IsDistinct}
@@ -8,56 +9,58 @@ use Rattle.std.proofs.lemmas.Bool.{cases_eq, eq-eqb, ne_eqb}
 use Rattle.std.proofs.lemmas.Bool.Decides.{leb_tells}
 use Rattle.std.proofs.lemmas.List.{get_or-map, length-map, map-append, append-nil}
 use Rattle.std.proofs.lemmas.Option.{slice_get-get_or, slice_get_within, get_or_from_slice_get}
-use Rattle.pg_joining.specs.PgMachine.Machine.{Machine, Event, World, is_there, start_of}
-use Rattle.pg_joining.specs.PgLoss.Reached.{LosingReaches}
-use Rattle.pg_joining.specs.PgRetries.Survived.{LossesSurvived}
-use Rattle.pg_joining.specs.PgMachine.Losing.{LosingEvent, nobody_gone}
-use Rattle.pg_joining.specs.PgMachine.Places.{is_pair, set_at}
-use Rattle.pg_joining.specs.PgMachine.Runs.{Leads}
-use Rattle.pg_joining.proofs.PgMachine.Steps.{happened}
-use Rattle.pg_joining.specs.PgIndex.declared.index_table.IndexTable.{IndexTable}
-use Rattle.pg_joining.specs.PgIndex.contracts.index_table.IndexTableGroupTable.TheImpl.{ghosts}
-use Rattle.pg_joining.specs.Merge.{Merges, MergesRest, IsNext, rest_of, clocks_of}
-use Rattle.pg_joining.specs.Merge.{clocks_in, log_at, entry_at, merged_logs, seen_log}
-use Rattle.pg_joining.proofs.Seen.{same_merge}
-use Rattle.pg_joining.specs.PgNode.Nodes.{held_by, links_of}
-use Rattle.pg_joining.specs.PgNodeState.States.{state_of}
+use Rattle.pg_cluster_judges.specs.PgStep.Machines.Machine.{Machine, Event, World, is_there, start_of}
+use Rattle.pg_cluster_judges.specs.PgLawsLosses.Reached.{LosingReaches}
+use Rattle.pg_cluster_judges.specs.PgLawsLosses.Retrying.Survived.{LossesSurvived}
+use Rattle.pg_cluster_judges.specs.PgStep.Machines.Losing.{LosingEvent, nobody_gone}
+use Rattle.pg_cluster_judges.specs.PgStep.Machines.Places.{is_pair, set_at}
+use Rattle.pg_cluster_judges.specs.PgStep.Machines.Runs.{Leads}
+use Rattle.pg_cluster_judges.proofs.PgStep.Machines.Steps.{happened}
+use Rattle.pg_cluster_judges.specs.PgIndex.declared.index_table.IndexTable.{IndexTable}
+use Rattle.pg_cluster_judges.specs.PgIndex.contracts.index_table.IndexTableGroupTable.TheImpl.{ghosts}
+use Rattle.pg_cluster_judges.specs.Merge.{Merges, MergesRest, IsNext, rest_of, clocks_of}
+use Rattle.pg_cluster_judges.specs.Merge.{clocks_in, log_at, entry_at, merged_logs, seen_log}
+use Rattle.pg_cluster_judges.proofs.Seen.{same_merge}
+use Rattle.pg_cluster_judges.specs.PgNode.Nodes.{held_by, links_of}
+use Rattle.pg_cluster_judges.specs.PgNodeState.States.{state_of}
 use Rattle.pg_ring.specs.Ends.{Sends, Receives}
-use Rattle.pg_joining.specs.PgRun.declared.log.NodeEvent.{NodeEvent}
-use Rattle.pg_joining.specs.PgRun.declared.log.NodeEvent.TheVariants as entries
+use Rattle.pg_cluster_judges.specs.PgNodeRun.declared.log.NodeEvent.{NodeEvent}
+use Rattle.pg_cluster_judges.specs.PgNodeRun.declared.log.NodeEvent.TheVariants as entries
 use Rattle.pg_ring.specs.Slots.{taken}
-use Rattle.pg_joining.specs.PgRun.declared.notices.Notice.{Notice}
-use Rattle.pg_joining.specs.PgRun.Acts.{Act, AllLead, Given, IsFromPeer, Took, Saw, Did, SawNone, Standing}
-use Rattle.pg_joining.specs.PgRun.Acts.{log_entry, event_of as entry_event, loss_of, losses_of, seen_by, seen_in}
-use Rattle.pg_joining.specs.PgRun.Follows.{Follows, node_of as node_at, log_of}
-use Rattle.pg_joining.specs.PgRun.Notices.{IsUntold, NoticesGo, kept_of}
-use Rattle.pg_joining.specs.PgRun.Runs.{linked_of, notices_at, notices_of}
-use Rattle.pg_joining.proofs.PgRun.GoingOn.{seen_none}
-use Rattle.pg_joining.specs.PgStep.Config.{Config, names_of}
-use Rattle.pg_joining.specs.PgStep.FrameMachine.{frame_machine, last_notice, losing_frame_machine}
-use Rattle.pg_joining.specs.PgStep.LossLaws.{LosingFrameWorld}
-use Rattle.pg_joining.specs.PgStep.Step.{Action, Issue, Retry}
-use Rattle.pg_joining.proofs.Turns.{first_none, others_none, saw_none, SeesNone}
-use Rattle.pg_joining.specs.Apart.{End, HaveRun, Linked as LinkedBy, Crossed}
-use Rattle.pg_joining.specs.Apart.{RanApart, RanTogether, event_at, events_in, end_of}
-use Rattle.pg_joining.specs.ApartWithLosses.{MarkedReaches, RanLosing, RanPastLosses, SeesLost}
-use Rattle.pg_joining.specs.ApartWithLosses.{clock_of, is_last_notice, losing_events, nodes_in}
-use Rattle.pg_joining.specs.PgFrameWorld.declared.step.FrameStep.{FrameStep}
-use Rattle.pg_joining.specs.PgFrameWorld.declared.step.FrameStep.TheVariants as steps
-use Rattle.pg_joining.specs.PgWorld.Crossings.{node_of}
-use Rattle.pg_joining.specs.PgFrameWorld.Views.{peer_place, place_of_peer}
-use Rattle.pg_joining.specs.PgFrameWorld.Worlds.{ShowsNode, event_of}
-use Rattle.pg_joining.proofs.PgFrameWorld.Ordered.{ordered_length}
-use Rattle.pg_joining.proofs.PgFrameWorld.Peering.{peers_differ}
-use Rattle.pg_joining.proofs.PgFrameWorld.Turning.{pair_is}
+use Rattle.pg_cluster_judges.specs.PgNodeRun.declared.notices.Notice.{Notice}
+use Rattle.pg_cluster_judges.specs.PgNodeRun.Acts.{Act, AllLead, Given, IsFromPeer, Took, Saw, Did, SawNone, Standing}
+use Rattle.pg_cluster_judges.specs.PgNodeRun.Acts.{log_entry, event_of as entry_event, loss_of, losses_of, seen_by, seen_in}
+use Rattle.pg_cluster_judges.specs.PgNodeRun.Follows.{Follows, node_of as node_at, log_of}
+use Rattle.pg_cluster_judges.specs.PgNodeRun.Notices.{IsUntold, NoticesGo, kept_of}
+use Rattle.pg_cluster_judges.specs.PgNodeRun.Runs.{linked_of, notices_at, notices_of}
+use Rattle.pg_cluster_judges.proofs.PgNodeRun.GoingOn.{seen_none}
+use Rattle.pg_cluster_judges.specs.PgStep.Config.{Config, names_of}
+use Rattle.pg_cluster_judges.specs.PgStep.FrameMachine.{frame_machine, last_notice, losing_frame_machine}
+use Rattle.pg_cluster_judges.specs.PgStep.LossLaws.{LosingFrameWorld}
+use Rattle.pg_cluster_judges.specs.PgStep.Step.{Action, Issue, Retry}
+use Rattle.pg_cluster_judges.proofs.Turns.{first_none, others_none, saw_none, SeesNone}
+use Rattle.pg_cluster_judges.specs.Apart.{End, HaveRun, Linked as LinkedBy, Crossed}
+use Rattle.pg_cluster_judges.specs.Apart.{RanApart, RanTogether, event_at, events_in, end_of}
+use Rattle.pg_cluster_judges.specs.ApartWithLosses.{MarkedReaches, RanLosing, RanPastLosses, SeesLost}
+use Rattle.pg_cluster_judges.specs.ApartWithLosses.{clock_of, is_last_notice, losing_events, nodes_in}
+use Rattle.pg_cluster_judges.specs.PgWorldPackets.declared.step.FrameStep.{FrameStep}
+use Rattle.pg_cluster_judges.specs.PgWorldPackets.declared.step.FrameStep.TheVariants as steps
+use Rattle.pg_cluster_judges.specs.PgWorld.Crossings.{node_of}
+use Rattle.pg_cluster_judges.specs.PgWorldPackets.Views.{peer_place, place_of_peer}
+use Rattle.pg_cluster_judges.specs.PgWorldPackets.Worlds.{ShowsNode, event_of}
+use Rattle.pg_cluster_judges.proofs.PgWorldPackets.Ordered.{ordered_length}
+use Rattle.pg_cluster_judges.proofs.PgWorldPackets.Peering.{peers_differ}
+use Rattle.pg_cluster_judges.proofs.PgWorldPackets.Turning.{pair_is}
 use Rattle.pg_term.specs.Same.{same_atom}
-use Rattle.pg_cluster.specs.declared.closed.TurnCount.{TurnCount}
+use Rattle.pg_cluster_judges.specs.declared.closed.TurnCount.{TurnCount}
 use Rattle.pg_cluster.specs.Ended.{row_at}
-use Rattle.pg_cluster.specs.Notices.{IsOfLost, NobodyLost}
-use Rattle.pg_cluster.specs.Schedule.{IsLosingSchedule, IsSchedule, is_lost_in, node_of_peer, step_as, steps_of}
-use Rattle.pg_cluster.specs.Threads.{NodeOf, RunOf, RanOf, Thread, AreMade, EndedWith, begun_by, lasts_ended}
+use Rattle.pg_cluster.specs.Notices.{IsOfLost}
+use Rattle.pg_cluster_judges.specs.Schedule.{NobodyLost}
+use Rattle.pg_cluster_judges.specs.Schedule.{IsLosingSchedule, IsSchedule, is_lost_in, step_as, steps_of}
+use Rattle.pg_cluster.specs.Threads.{RunOf, RanOf, Thread, AreMade, EndedWith, begun_by, lasts_ended}
+use Rattle.pg_cluster_judges.specs.NodeOf.{NodeOf}
 use Rattle.pg_cluster.specs.Threads.{node_in, row_in, log_in, rows_begun, rows_ended, notices_ended}
-use Rattle.pg_cluster.specs.Together.{AreOneLosingRun, AreOneRun, losing_event}
+use Rattle.pg_cluster_judges.specs.Together.{AreOneLosingRun, AreOneRun, losing_event}
 use Rattle.pg_cluster.proofs.Alike.{leads_alike}
 use Rattle.pg_cluster.proofs.Scheduled.{IsSmall, marked_event, steps_alike, steps_keep}
 use Rattle.pg_cluster.proofs.Telling.{all_first, none_seen}
@@ -86,14 +89,6 @@ merges_alike size a b (x ∷ order) read same merges =
 
 entry_seen : {E F : Type 0} (view : E → F) (log : List (ℕ × E)) (place : ℕ) → entry_at (seen_log view log) place ≡ map view (entry_at log place)
 entry_seen view log place = sym (append-nil (entry_at (seen_log view log) place)) ∙ (same_merge view (λ i. log) ((0, place) ∷ []) ∙ ap (map view) (append-nil (entry_at log place)))
-
--- a place within 16 is the same as a machine word counts it
-pub peer_within : (i peer : ℕ) → place_of_peer i peer < 17 → node_of_peer i peer ≡ place_of_peer i peer
-peer_within i peer low = go (nat_lt peer i) low
-  where
-    go : (b : Bool) → cond {A = ℕ} b peer (peer + 1) < 17 → ◌≡◌ {A = ℕ} (cond b peer (min (peer + 1) (2 ^ 64 - 1))) (cond b peer (peer + 1))
-    go true l = refl
-    go false l = omega (arith, l)
 
 -- an event is no sight of a loss
 abbrev IsPlain : NodeEvent → Type 0

@@ -3,12 +3,12 @@ use Rattle.std.proofs.lemmas.List.{map-append}
 use Rattle.std.proofs.Common.{◌≡◌, ◌≤◌, ◌+◌, ℕ, List, [], ◌∷◌, ◌++◌, length, map, sym, ◌∙◌}
 use Rattle.std.proofs.Common.{ap, subst, arith, append_assoc, append-nil, length-append}
 use Rattle.std.proofs.lemmas.Grind.{flat_map-append}
-use Rattle.pg_joining.specs.PgRun.declared.port.Client.{Client}
-use Rattle.pg_joining.specs.PgRun.declared.port.Port.{Port}
+use Rattle.pg_cluster_judges.specs.PgNodeRun.declared.port.Client.{Client}
+use Rattle.pg_cluster_judges.specs.PgNodeRun.declared.port.Port.{Port}
 use Rattle.pg_ring.specs.declared.slot_in.SlotIn.{SlotIn}
 use Rattle.pg_ring.specs.declared.slot_out.SlotOut.{SlotOut}
-use Rattle.pg_joining.specs.PgRun.declared.notices.Notice.{Notice}
-use Rattle.pg_joining.specs.PgRun.Runs.{ports_at, notices_at}
+use Rattle.pg_cluster_judges.specs.PgNodeRun.declared.notices.Notice.{Notice}
+use Rattle.pg_cluster_judges.specs.PgNodeRun.Runs.{ports_at, notices_at}
 use Rattle.pg_cluster.specs.Notices.{IsFresh}
 use Rattle.pg_cluster.specs.Clients.{AllPairs, IsOpenClient, OpensMore, ports_ended}
 use Rattle.pg_cluster.specs.Threads.{RunOf, RanOf, ports_of_runs}

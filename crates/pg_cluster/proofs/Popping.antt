@@ -4,10 +4,10 @@ use Rattle.std.proofs.Common.{length, map, get_or, refl, sym, ◌∙◌, subst, 
 use Rattle.std.proofs.lemmas.Bool.{cases_eq}
 use Rattle.std.proofs.lemmas.Bool.Decides.{leb_tells}
 use Rattle.std.proofs.lemmas.List.{get_or-map, get_or_push, get_or_append_left, length_push}
-use Rattle.pg_joining.specs.PgMachine.Places.{is_pair}
-use Rattle.pg_joining.specs.Apart.{End}
-use Rattle.pg_joining.proofs.PgFrameWorld.Peering.{place_low, place_high}
-use Rattle.pg_joining.proofs.PgFrameWorld.Turning.{pair_is, is_pair_so}
+use Rattle.pg_cluster_judges.specs.PgStep.Machines.Places.{is_pair}
+use Rattle.pg_cluster_judges.specs.Apart.{End}
+use Rattle.pg_cluster_judges.proofs.PgWorldPackets.Peering.{place_low, place_high}
+use Rattle.pg_cluster_judges.proofs.PgWorldPackets.Turning.{pair_is, is_pair_so}
 use Rattle.pg_cluster.specs.Ended.{AreJoined, Arrived, SameRow, SameRows, AreEndsAt}
 use Rattle.pg_cluster.specs.Ended.{AreLast, ArrivedLast, NodeRow, row_at, end_at}
 use Rattle.pg_cluster.proofs.Settling.{row_composes, row_rests, ends_later, both_before}

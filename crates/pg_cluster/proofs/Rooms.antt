@@ -6,7 +6,7 @@ use Rattle.std.specs.List.{All}
 use Rattle.std.proofs.lemmas.List.{length-set}
 use Rattle.pg_ring.specs.declared.slot_out.SlotOut.{SlotOut}
 use Rattle.pg_ring.specs.Slots.{slots_free}
-use Rattle.pg_joining.specs.PgRun.declared.notices.Notice.{Notice}
+use Rattle.pg_cluster_judges.specs.PgNodeRun.declared.notices.Notice.{Notice}
 use Rattle.pg_cluster.specs.Notices.{AllNotified, HaveNoticeRoom, IsRoomy, NotifiedUpTo, SameTellers, count_running}
 
 pub count_within : (lost : List Bool) → count_running lost ≤ length lost

@@ -7,25 +7,25 @@ use Rattle.std.proofs.Math.ListN.{get_or-append}
 use Rattle.std.proofs.Math.Seq.{get_or-append_seam}
 use Rattle.std.proofs.lemmas.Bool.{cases_eq, cases_lt, eq-eqb, le-ltb, lt-ltb, ne_eqb}
 use Rattle.std.proofs.lemmas.List.{map-append}
-use Rattle.pg_joining.specs.Merge.{IsNext, Merges, MergesRest, entry_at, log_at, rest_of}
-use Rattle.pg_joining.specs.Losses.{MarkedEvent}
-use Rattle.pg_joining.proofs.Acts.{all_append}
-use Rattle.pg_joining.specs.PgMachine.Losing.{Lose}
-use Rattle.pg_joining.specs.PgMachine.Places.{set_at}
-use Rattle.pg_joining.specs.PgRun.declared.log.NodeEvent.{NodeEvent}
-use Rattle.pg_joining.specs.PgRun.declared.log.NodeEvent.TheVariants as entries
-use Rattle.pg_joining.specs.PgStep.Step.{Action}
-use Rattle.pg_joining.specs.ApartWithLosses.{Logs, events_behind, loss_before, losses_first as events_first}
-use Rattle.pg_joining.specs.ApartWithLosses.{losing_events, marked_at, takes_in, takes_of}
-use Rattle.pg_joining.specs.PgFrameWorld.declared.step.FrameStep.{FrameStep}
-use Rattle.pg_joining.specs.PgFrameWorld.declared.step.FrameStep.TheVariants as steps
-use Rattle.pg_joining.specs.PgFrameWorld.Losing.{keep_of}
-use Rattle.pg_joining.specs.PgFrameWorld.Views.{peer_place, place_of_peer}
-use Rattle.pg_joining.proofs.PgFrameWorld.Turning.{pair_is}
-use Rattle.pg_cluster.specs.Schedule.{SeenStep, Lost, Turned, is_alone, is_last_of, is_lost_in}
-use Rattle.pg_cluster.specs.Schedule.{keeps, loss_if, loss_seen, losing_steps, losses_first}
-use Rattle.pg_cluster.specs.Schedule.{node_of_peer, seen_step, step_as, steps_at, steps_behind}
-use Rattle.pg_cluster.specs.Together.{losing_event}
+use Rattle.pg_cluster_judges.specs.Merge.{IsNext, Merges, MergesRest, entry_at, log_at, rest_of}
+use Rattle.pg_cluster_judges.specs.Losses.{MarkedEvent}
+use Rattle.pg_cluster_judges.proofs.Acts.{all_append}
+use Rattle.pg_cluster_judges.specs.PgStep.Machines.Losing.{Lose}
+use Rattle.pg_cluster_judges.specs.PgStep.Machines.Places.{set_at}
+use Rattle.pg_cluster_judges.specs.PgNodeRun.declared.log.NodeEvent.{NodeEvent}
+use Rattle.pg_cluster_judges.specs.PgNodeRun.declared.log.NodeEvent.TheVariants as entries
+use Rattle.pg_cluster_judges.specs.PgStep.Step.{Action}
+use Rattle.pg_cluster_judges.specs.ApartWithLosses.{Logs, events_behind, loss_before, losses_first as events_first}
+use Rattle.pg_cluster_judges.specs.ApartWithLosses.{losing_events, marked_at, takes_in, takes_of}
+use Rattle.pg_cluster_judges.specs.PgWorldPackets.declared.step.FrameStep.{FrameStep}
+use Rattle.pg_cluster_judges.specs.PgWorldPackets.declared.step.FrameStep.TheVariants as steps
+use Rattle.pg_cluster_judges.specs.PgWorldPackets.Losing.{keep_of}
+use Rattle.pg_cluster_judges.specs.PgWorldPackets.Views.{peer_place, place_of_peer}
+use Rattle.pg_cluster_judges.proofs.PgWorldPackets.Turning.{pair_is}
+use Rattle.pg_cluster_judges.specs.Schedule.{SeenStep, Lost, Turned, is_alone, is_last_of, is_lost_in}
+use Rattle.pg_cluster_judges.specs.Schedule.{keeps, loss_if, loss_seen, losing_steps, losses_first}
+use Rattle.pg_cluster_judges.specs.Schedule.{node_of_peer, seen_step, step_as, steps_at, steps_behind}
+use Rattle.pg_cluster_judges.specs.Together.{losing_event}
 use Rattle.pg_cluster.proofs.Alike.{AreAlike, IsAlike, alike_append}
 
 -- a step sees a loss

@@ -7,7 +7,7 @@ use Rattle.pg_ring.specs.declared.ring_out.RingOut.{RingOut}
 use Rattle.pg_ring.specs.declared.ring_in.RingIn.{RingIn}
 use Rattle.pg_ring.specs.Ends.{Sends, Receives, bytes_sent, bytes_received}
 use Rattle.pg_ring.specs.EndsLaws.{Sends-rests, Sends-composes, Receives-rests, Receives-composes, AreEnds-later}
-use Rattle.pg_joining.specs.Apart.{End}
+use Rattle.pg_cluster_judges.specs.Apart.{End}
 use Rattle.pg_cluster.specs.Ended.{Arrived, SameEnd, SameRow, SameRows, AreEndsAt, ArrivedAt, NodeRow}
 
 -- ---- one end

@@ -3,9 +3,9 @@ use Rattle.std.proofs.Common.{◌≡◌, ◌<◌, ◌+◌, ℕ, List, ◌++◌, 
 use Rattle.std.proofs.Common.{set, refl, sym, ◌∙◌, ap, subst, arith, inl, inr}
 use Rattle.std.proofs.lemmas.Bool.Decides.{eqb_tells}
 use Rattle.std.proofs.lemmas.List.{get_or_default, length-set}
-use Rattle.pg_joining.specs.PgRun.declared.port.Client.{Client}
-use Rattle.pg_joining.specs.PgRun.declared.port.Port.{Port}
-use Rattle.pg_joining.specs.PgRun.Ports.{ArePort, ClientRests, PortRests, Meets}
+use Rattle.pg_cluster_judges.specs.PgNodeRun.declared.port.Client.{Client}
+use Rattle.pg_cluster_judges.specs.PgNodeRun.declared.port.Port.{Port}
+use Rattle.pg_cluster_judges.specs.PgNodeRun.Ports.{ArePort, ClientRests, PortRests, Meets}
 use Rattle.pg_cluster.specs.Clients.{AllPairs, ClientsRest}
 use Rattle.pg_cluster.specs.ClientsLaws.{each_set, slot_in_on, slot_out_on, port_later, all_rest_on, all_rest_set}
 

@@ -11,15 +11,15 @@ use Rattle.std.proofs.Math.ListN.{get_or-append}
 use Rattle.std.proofs.Math.Seq.{get_or-append_seam, drop-cons}
 use Rattle.pg_ring.specs.declared.slot_in.SlotIn.{SlotIn}
 use Rattle.pg_ring.specs.declared.slot_out.SlotOut.{SlotOut}
-use Rattle.pg_joining.specs.PgRun.declared.notices.Notice.{Notice}
-use Rattle.pg_joining.specs.PgRun.declared.port.Client.{Client}
-use Rattle.pg_joining.specs.PgRun.Runs.{notices_at}
-use Rattle.pg_joining.specs.PgStep.Config.{Config}
+use Rattle.pg_cluster_judges.specs.PgNodeRun.declared.notices.Notice.{Notice}
+use Rattle.pg_cluster_judges.specs.PgNodeRun.declared.port.Client.{Client}
+use Rattle.pg_cluster_judges.specs.PgNodeRun.Runs.{notices_at}
+use Rattle.pg_cluster_judges.specs.PgStep.Config.{Config}
 use Rattle.pg_cluster.specs.Clients.{AllPairs, IsOpenClient, ports_begun}
 use Rattle.pg_cluster.specs.Ended.{AreWired}
 use Rattle.pg_cluster.specs.declared.member.Member.{Member}
 use Rattle.pg_cluster.specs.Members.{clock_of, is_lost, last_of, losses_in, thread_of, threads_in}
-use Rattle.pg_cluster.specs.Notices.{NobodyLost}
+use Rattle.pg_cluster_judges.specs.Schedule.{NobodyLost}
 use Rattle.pg_cluster.specs.Promises.{RanAs}
 use Rattle.pg_cluster.specs.Threads.{AreMade, RunOf, RanOf, Thread, StartedWith, Joined, begun_by}
 use Rattle.pg_cluster.specs.Threads.{limit_of as turns_of, row_in, rows_begun, notices_begun, ports_of_runs}

@@ -10,15 +10,16 @@ use Rattle.pg_ring.specs.declared.slot_in.SlotIn.{SlotIn}
 use Rattle.pg_ring.specs.declared.slot_out.SlotOut.{SlotOut}
 use Rattle.pg_ring.specs.Slots.{AreSlots, SameSlotIn, SameSlotOut, given, taken}
 use Rattle.pg_ring.specs.SlotsLaws.{AreSlots-later}
-use Rattle.pg_joining.specs.PgRun.declared.notices.Notice.{Notice}
-use Rattle.pg_joining.specs.PgFrameWorld.Views.{peer_place}
-use Rattle.pg_joining.specs.PgRun.declared.notices.Notices.{Notices}
-use Rattle.pg_joining.specs.PgRun.Notices.{IsUntold, NoticesGo, inlet_of, kept_of}
-use Rattle.pg_joining.proofs.PgRun.Moving.{nil_first}
-use Rattle.pg_joining.specs.PgRun.Runs.{notices_at}
+use Rattle.pg_cluster_judges.specs.PgNodeRun.declared.notices.Notice.{Notice}
+use Rattle.pg_cluster_judges.specs.PgWorldPackets.Views.{peer_place}
+use Rattle.pg_cluster_judges.specs.PgNodeRun.declared.notices.Notices.{Notices}
+use Rattle.pg_cluster_judges.specs.PgNodeRun.Notices.{IsUntold, NoticesGo, inlet_of, kept_of}
+use Rattle.pg_cluster_judges.proofs.PgNodeRun.Moving.{nil_first}
+use Rattle.pg_cluster_judges.specs.PgNodeRun.Runs.{notices_at}
 use Rattle.pg_cluster.specs.Clients.{AllPairs}
 use Rattle.pg_cluster.specs.ClientsLaws.{each_set, slot_in_on, slot_out_on}
-use Rattle.pg_cluster.specs.Notices.{AllNotified, IsOfLost, NobodyLost, HasNoNotice}
+use Rattle.pg_cluster.specs.Notices.{AllNotified, IsOfLost, HasNoNotice}
+use Rattle.pg_cluster_judges.specs.Schedule.{NobodyLost}
 use Rattle.pg_cluster.specs.Notices.{SaysLost, Told, SameTellers, notice_for}
 use Rattle.pg_cluster.specs.Threads.{Thread, RanOf, Joined, begun_by, notices_begun, notices_ended}
 use Rattle.pg_cluster.proofs.Hearing.{first_ran, others_ran}

@@ -5,40 +5,40 @@ use Rattle.std.specs.Prelude.{is_some, option_map}
 use Rattle.std.specs.List.{AllByRecursion, IsDistinct}
 use Rattle.std.proofs.lemmas.Bool.{eq-eqb}
 use Rattle.pg_term.specs.Same.{same_atom}
-use Rattle.pg_joining.specs.PgMessage.declared.message.Message.{Message}
-use Rattle.pg_joining.specs.PgMachine.Clocked.{Timed, Stamped}
-use Rattle.pg_joining.specs.PgMachine.Losing.{LosingEvent, LosingLeads, Noticed, Sent, Last, Step}
-use Rattle.pg_joining.specs.PgMachine.Losing.{Lose, can_keep, losing_happens, mapped_turn, nobody_gone}
-use Rattle.pg_joining.specs.PgMachine.Machine.{Event, Turn, Taken, Own, Take, Do, happens, node_of, start_of}
-use Rattle.pg_joining.specs.PgMachine.Places.{is_place}
-use Rattle.pg_joining.proofs.PgMachine.Options.{cond_is_some, map_is_some}
-use Rattle.pg_joining.proofs.PgMachine.Steps.{did, pair_apart, took}
-use Rattle.pg_joining.specs.PgStep.Config.{Config, name_at, names_of, nodes_at, ports_at}
-use Rattle.pg_joining.specs.PgStep.FrameMachine.{frame_machine, last_notice, losing_frame_machine, sent_packet}
-use Rattle.pg_joining.specs.PgStep.LossLaws.{LosingFrameWorld, way_is_drained, is_notice}
-use Rattle.pg_joining.specs.PgStep.State.{State}
-use Rattle.pg_joining.specs.PgStep.Step.{Action, Issue, Retry, TimedTurn, node_acts, node_takes, step_act, timed as node_turn}
-use Rattle.pg_joining.specs.PgStep.StepLaws.{port_of, refusal_of}
-use Rattle.pg_joining.specs.PgStep.Turns.{NodeTurn, Report}
-use Rattle.pg_joining.specs.PgStep.declared.refusal.Refusal.{Refusal}
-use Rattle.pg_joining.specs.PgStep.declared.refusal.Refusal.TheVariants.{NodeLost, NoSuchPlace}
-use Rattle.pg_joining.proofs.PgStep.Lost.{seen_exactly}
-use Rattle.pg_joining.proofs.PgStep.Unnoticed.{frames_embed}
-use Rattle.pg_joining.proofs.PgHistory.ends.Apart.{pair_first, pair_second}
-use Rattle.pg_joining.specs.PgLoss.Reached.{LosingReaches}
-use Rattle.pg_joining.proofs.PgLoss.Bridge.{Left, not_true}
-use Rattle.pg_joining.proofs.PgLoss.Bridges.{bridged}
-use Rattle.pg_joining.proofs.PgLoss.Lasts.{unheard}
-use Rattle.pg_joining.proofs.PgLoss.Lossy.{bare, passed}
-use Rattle.pg_joining.specs.ApartWithLosses.{is_last_notice}
-use Rattle.pg_joining.specs.Losses.{MarksNotices, MarkedLeads, is_first_last}
-use Rattle.pg_joining.specs.PgFrameWorld.declared.step.FrameStep.{FrameStep}
-use Rattle.pg_joining.specs.PgFrameWorld.declared.step.FrameStep.TheVariants as steps
-use Rattle.pg_joining.specs.PgFrameWorld.Losing.{first_refusal, keep_of, none_sent, packet_refusal}
-use Rattle.pg_joining.specs.PgFrameWorld.Losing.{told_loss, told_of, told_own, told_sight, told_take}
-use Rattle.pg_cluster.specs.Schedule.{seen_step}
-use Rattle.pg_cluster.specs.Together.{CanBeMade, MadeInTurn, losing_event}
-use Rattle.pg_cluster.proofs.Replaying.{turn_told}
+use Rattle.pg_cluster_judges.specs.PgMessageTypes.declared.message.Message.{Message}
+use Rattle.pg_cluster_judges.specs.PgStep.Machines.Clocked.{Timed, Stamped}
+use Rattle.pg_cluster_judges.specs.PgStep.Machines.Losing.{LosingEvent, LosingLeads, Noticed, Sent, Last, Step}
+use Rattle.pg_cluster_judges.specs.PgStep.Machines.Losing.{Lose, can_keep, losing_happens, mapped_turn, nobody_gone}
+use Rattle.pg_cluster_judges.specs.PgStep.Machines.Machine.{Event, Turn, Taken, Own, Take, Do, happens, node_of, start_of}
+use Rattle.pg_cluster_judges.specs.PgStep.Machines.Places.{is_place}
+use Rattle.pg_cluster_judges.proofs.PgStep.Machines.Options.{cond_is_some, map_is_some}
+use Rattle.pg_cluster_judges.proofs.PgStep.Machines.Steps.{did, pair_apart, took}
+use Rattle.pg_cluster_judges.specs.PgStep.Config.{Config, name_at, names_of, nodes_at, ports_at}
+use Rattle.pg_cluster_judges.specs.PgStep.FrameMachine.{frame_machine, last_notice, losing_frame_machine, sent_packet}
+use Rattle.pg_cluster_judges.specs.PgStep.LossLaws.{LosingFrameWorld, way_is_drained, is_notice}
+use Rattle.pg_cluster_judges.specs.PgStep.State.{State}
+use Rattle.pg_cluster_judges.specs.PgStep.Step.{Action, Issue, Retry, TimedTurn, node_acts, node_takes, step_act, timed as node_turn}
+use Rattle.pg_cluster_judges.specs.PgStep.StepLaws.{port_of, refusal_of}
+use Rattle.pg_cluster_judges.specs.PgStep.Turns.{NodeTurn, Report}
+use Rattle.pg_cluster_judges.specs.PgStep.declared.refusal.Refusal.{Refusal}
+use Rattle.pg_cluster_judges.specs.PgStep.declared.refusal.Refusal.TheVariants.{NodeLost, NoSuchPlace}
+use Rattle.pg_cluster_judges.proofs.PgStep.Lost.{seen_exactly}
+use Rattle.pg_cluster_judges.proofs.PgStep.Unnoticed.{frames_embed}
+use Rattle.pg_cluster_judges.proofs.PgLaws.ends.Apart.{pair_first, pair_second}
+use Rattle.pg_cluster_judges.specs.PgLawsLosses.Reached.{LosingReaches}
+use Rattle.pg_cluster_judges.proofs.PgLawsLosses.Bridge.{Left, not_true}
+use Rattle.pg_cluster_judges.proofs.PgLawsLosses.Bridges.{bridged}
+use Rattle.pg_cluster_judges.proofs.PgLawsLosses.Lasts.{unheard}
+use Rattle.pg_cluster_judges.proofs.PgLawsLosses.Lossy.{bare, passed}
+use Rattle.pg_cluster_judges.specs.ApartWithLosses.{is_last_notice}
+use Rattle.pg_cluster_judges.specs.Losses.{MarksNotices, MarkedLeads, is_first_last}
+use Rattle.pg_cluster_judges.specs.PgWorldPackets.declared.step.FrameStep.{FrameStep}
+use Rattle.pg_cluster_judges.specs.PgWorldPackets.declared.step.FrameStep.TheVariants as steps
+use Rattle.pg_cluster_judges.specs.PgWorldPackets.Losing.{first_refusal, keep_of, none_sent, packet_refusal}
+use Rattle.pg_cluster_judges.specs.PgWorldPackets.Losing.{told_loss, told_of, told_own, told_sight, told_take}
+use Rattle.pg_cluster_judges.specs.Schedule.{seen_step}
+use Rattle.pg_cluster_judges.specs.Together.{CanBeMade, MadeInTurn, losing_event}
+use Rattle.pg_cluster_judges.proofs.Replaying.{turn_told}
 use Rattle.pg_cluster.proofs.Scheduled.{KeepsEach, is_sight, marked_event}
 
 no : true ≡ false → ⊥

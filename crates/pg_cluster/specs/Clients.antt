@@ -1,22 +1,23 @@
 -- The clients of a cluster: at which ports they are, and what of that which they said and heard its nodes did.
 use Rattle.std.specs.Prelude.{◌≡◌, ℕ, ◌<◌, cond, nat_eq, get_or, length, map, List, [], ◌∷◌, ◌++◌}
 use Rattle.std.specs.List.{flat_map}
-use Rattle.pg_joining.specs.PgNodeState.Issued.{ports_of}
-use Rattle.pg_joining.specs.PgNode.Nodes.{held_by}
-use Rattle.pg_joining.specs.PgNodeState.States.{names_of, answers_of}
-use Rattle.pg_joining.specs.PgRun.declared.log.NodeEvent.{NodeEvent}
-use Rattle.pg_joining.specs.PgRun.declared.log.NodeEvent.TheVariants as events
-use Rattle.pg_joining.specs.PgRun.declared.port.Asked.{Asked}
-use Rattle.pg_joining.specs.PgRun.declared.port.Client.{Client}
-use Rattle.pg_joining.specs.PgRun.declared.port.Port.{Port}
-use Rattle.pg_joining.specs.PgRun.Acts.{Act, AllLead, log_entry}
-use Rattle.pg_joining.specs.PgRun.Follows.{standing_of}
-use Rattle.pg_joining.specs.PgRun.Ports.{ArePort, AreNew, SameClient, ClientRests, submitted, polled}
-use Rattle.pg_joining.specs.PgRun.Runs.{ports_at}
-use Rattle.pg_joining.specs.PgRun.Turns.{answered_at, AreLater}
-use Rattle.pg_joining.specs.PgStep.declared.answer.Answer.{Answer}
-use Rattle.pg_joining.specs.PgStep.declared.command.Command.{Command}
-use Rattle.pg_cluster.specs.Threads.{NodeOf, RunOf, RanOf, Thread, begun_by, node_in, ports_of_runs}
+use Rattle.pg_cluster_judges.specs.PgNodeState.Issued.{ports_of}
+use Rattle.pg_cluster_judges.specs.PgNode.Nodes.{held_by}
+use Rattle.pg_cluster_judges.specs.PgNodeState.States.{names_of, answers_of}
+use Rattle.pg_cluster_judges.specs.PgNodeRun.declared.log.NodeEvent.{NodeEvent}
+use Rattle.pg_cluster_judges.specs.PgNodeRun.declared.log.NodeEvent.TheVariants as events
+use Rattle.pg_cluster_judges.specs.PgNodeRun.declared.port.Asked.{Asked}
+use Rattle.pg_cluster_judges.specs.PgNodeRun.declared.port.Client.{Client}
+use Rattle.pg_cluster_judges.specs.PgNodeRun.declared.port.Port.{Port}
+use Rattle.pg_cluster_judges.specs.PgNodeRun.Acts.{Act, AllLead, log_entry}
+use Rattle.pg_cluster_judges.specs.PgNodeRun.Follows.{standing_of}
+use Rattle.pg_cluster_judges.specs.PgNodeRun.Ports.{ArePort, AreNew, SameClient, ClientRests, submitted, polled}
+use Rattle.pg_cluster_judges.specs.PgNodeRun.Runs.{ports_at}
+use Rattle.pg_cluster_judges.specs.PgNodeRun.Turns.{answered_at, AreLater}
+use Rattle.pg_cluster_judges.specs.PgStep.declared.answer.Answer.{Answer}
+use Rattle.pg_cluster_judges.specs.PgStep.declared.command.Command.{Command}
+use Rattle.pg_cluster.specs.Threads.{RunOf, RanOf, Thread, begun_by, node_in, ports_of_runs}
+use Rattle.pg_cluster_judges.specs.NodeOf.{NodeOf}
 
 -- ---- at which ports they are
 

@@ -7,9 +7,9 @@ use Rattle.pg_ring.specs.declared.slot_in.SlotIn.{SlotIn}
 use Rattle.pg_ring.specs.declared.slot_out.SlotOut.{SlotOut}
 use Rattle.pg_ring.specs.Slots.{SameSlotIn, SameSlotOut}
 use Rattle.pg_ring.specs.SlotsLaws.{AreSlots-later}
-use Rattle.pg_joining.specs.PgRun.declared.port.Client.{Client}
-use Rattle.pg_joining.specs.PgRun.declared.port.Port.{Port}
-use Rattle.pg_joining.specs.PgRun.Ports.{ArePort, SameClient, SamePort, ClientRests}
+use Rattle.pg_cluster_judges.specs.PgNodeRun.declared.port.Client.{Client}
+use Rattle.pg_cluster_judges.specs.PgNodeRun.declared.port.Port.{Port}
+use Rattle.pg_cluster_judges.specs.PgNodeRun.Ports.{ArePort, SameClient, SamePort, ClientRests}
 use Rattle.pg_cluster.specs.Clients.{AreClients, SameClients, ClientsRest, ports_begun}
 use Rattle.pg_cluster.specs.Threads.{Thread}
 

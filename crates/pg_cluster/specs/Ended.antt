@@ -2,10 +2,10 @@
 use Rattle.std.specs.Prelude.{◌≡◌, ℕ, ◌+◌, ◌-◌, ◌<◌, true, get_or, length, List, [], ◌++◌}
 use Rattle.std.specs.declared.vec.Vec.{Vec}
 use Rattle.std.specs.declared.alloc.Global.{Global}
-use Rattle.pg_joining.specs.PgMachine.Places.{is_pair}
+use Rattle.pg_cluster_judges.specs.PgStep.Machines.Places.{is_pair}
 use Rattle.pg_ring.specs.Ends.{AreEnds, Sends, Receives, bytes_sent, bytes_received}
-use Rattle.pg_joining.specs.Apart.{End, Crossed}
-use Rattle.pg_joining.specs.PgFrameWorld.Views.{peer_place}
+use Rattle.pg_cluster_judges.specs.Apart.{End, Crossed}
+use Rattle.pg_cluster_judges.specs.PgWorldPackets.Views.{peer_place}
 
 -- the ends at one node of its rings
 abbrev pub row_at : List (List End) → ℕ → List End

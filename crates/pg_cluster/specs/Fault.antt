@@ -1,10 +1,10 @@
 -- Why no cluster was started, and the faults' place in the one list of faults.
 use Rattle.std.specs.Prelude.{ℕ}
-use Rattle.pg_term.specs.PgFaults.declared.TheConstants.{NO_THREAD}
-use Rattle.pg_joining.specs.PgConfig.declared.fault.WorldFault.TheVariants.{OutOfMemory}
-use Rattle.pg_joining.specs.PgConfig.Faults.{world_number_of}
-use Rattle.pg_joining.specs.PgFrameWorld.Openings.{CantBegin}
-use Rattle.pg_joining.specs.PgStep.Config.{Config}
+use Rattle.pg_term.specs.declared.faults.TheConstants.{NO_THREAD}
+use Rattle.pg_cluster_judges.specs.PgWorldConfig.declared.fault.WorldFault.TheVariants.{OutOfMemory}
+use Rattle.pg_cluster_judges.specs.PgWorldConfig.Faults.{world_number_of}
+use Rattle.pg_cluster_judges.specs.PgWorldPackets.Openings.{CantBegin}
+use Rattle.pg_cluster_judges.specs.PgStep.Config.{Config}
 use Rattle.pg_cluster.specs.declared.fault.StartFault.{StartFault}
 use Rattle.pg_cluster.specs.declared.fault.StartFault.TheVariants.{World, NoThread}
 

@@ -1,7 +1,7 @@
 -- What the nodes of a cluster are seen as.
 use Rattle.std.specs.Prelude.{ℕ, Bool, List, Option, Some, None, is_none, map}
-use Rattle.pg_joining.specs.PgNode.Nodes.{held_by}
-use Rattle.pg_joining.specs.PgNodeState.States.{state_of}
+use Rattle.pg_cluster_judges.specs.PgNode.Nodes.{held_by}
+use Rattle.pg_cluster_judges.specs.PgNodeState.States.{state_of}
 use Rattle.pg_cluster.specs.declared.member.Member.{Member}
 use Rattle.pg_cluster.specs.Threads.{RanOf, Thread, node_in, thread_or}
 

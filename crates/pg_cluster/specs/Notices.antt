@@ -5,12 +5,8 @@ use Rattle.std.specs.List.{All, AllByRecursion}
 use Rattle.pg_ring.specs.declared.slot_in.SlotIn.{SlotIn}
 use Rattle.pg_ring.specs.declared.slot_out.SlotOut.{SlotOut}
 use Rattle.pg_ring.specs.Slots.{AreSlots, SameSlotOut, given, slots_free, taken}
-use Rattle.pg_joining.specs.PgRun.declared.notices.Notice.{Notice}
-use Rattle.pg_joining.specs.PgFrameWorld.Views.{peer_place}
-
--- none of these nodes was lost, each told by its place
-abbrev pub NobodyLost : List Bool → Type 0
-NobodyLost lost = All (λ one. one ≡ false) lost
+use Rattle.pg_cluster_judges.specs.PgNodeRun.declared.notices.Notice.{Notice}
+use Rattle.pg_cluster_judges.specs.PgWorldPackets.Views.{peer_place}
 
 -- nothing was told there
 abbrev pub HasNoNotice : SlotOut Notice → Type 0

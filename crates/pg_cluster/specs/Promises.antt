@@ -1,12 +1,12 @@
 -- What the threads promise.
 use Rattle.std.specs.Prelude.{ℕ, ◌≤◌}
-use Rattle.pg_joining.specs.PgGroup.declared.table.GroupTable.{Ghosts}
+use Rattle.pg_cluster_judges.specs.PgGroup.declared.table.GroupTable.{Ghosts}
 use Rattle.pg_ring.specs.declared.ring_out.RingOut.{RingOut}
 use Rattle.pg_ring.specs.declared.ring_in.RingIn.{RingIn}
 use Rattle.pg_ring.specs.Ends.{Sends, Receives}
-use Rattle.pg_joining.specs.PgRun.declared.run.NodeRun.{NodeRun}
-use Rattle.pg_joining.specs.PgRun.declared.running.Ran.{Ran}
-use Rattle.pg_joining.specs.PgRun.Runs.{Runs, RanBy, Ended, stop_of}
+use Rattle.pg_cluster_judges.specs.PgNodeRun.declared.run.NodeRun.{NodeRun}
+use Rattle.pg_cluster_judges.specs.PgNodeRun.declared.running.Ran.{Ran}
+use Rattle.pg_cluster_judges.specs.PgNodeRun.Runs.{Runs, RanBy, Ended, stop_of}
 
 -- Of so many bytes a ring takes in no more, and it gives no more. How many it does its ends find.
 abbrev pub TakesIn : RingOut → ℕ → ℕ → Type 0

@@ -1,6 +1,6 @@
 -- Room for what the threads give back.
 use Rattle.std.specs.Prelude.{◌≡◌, ℕ, ◌≤◌, vec_len, vec_capacity}
-use Rattle.pg_cluster.specs.declared.closed.Room.{Room}
+use Rattle.pg_cluster.specs.declared.closing.Room.{Room}
 
 -- nothing is in it, and so many nodes with so many ports need no memory
 pub record HasClosingRoom (room : Room) (count places : ℕ) : Type 0 where

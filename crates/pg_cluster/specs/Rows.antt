@@ -2,7 +2,7 @@
 use Rattle.std.specs.Prelude.{◌≡◌, ◌≢◌, ℕ, ◌<◌, ◌≤◌, ◌+◌, ◌-◌, List, [], ◌∷◌, ◌++◌, length, slice_index_or}
 use Rattle.std.specs.List.{All}
 use Rattle.pg_ring.specs.Ends.{AreEnds, bytes_sent, bytes_received, bytes_room}
-use Rattle.pg_joining.specs.Apart.{End}
+use Rattle.pg_cluster_judges.specs.Apart.{End}
 use Rattle.pg_cluster.specs.Ended.{NodeRow}
 
 -- The ring from the peer at one place of a node to the peer at another of another node, over which nothing went.

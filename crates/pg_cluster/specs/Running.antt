@@ -2,15 +2,15 @@
 use Rattle.std.specs.Prelude.{◌≡◌, ◌≢◌, ℕ, Bool, List, get_or, length}
 use Rattle.rand_pcg.specs.Lcg.{Lcg}
 use Rattle.pg_ring.specs.declared.slot_out.SlotOut.{SlotOut}
-use Rattle.pg_joining.specs.PgRun.declared.notices.Notice.{Notice}
-use Rattle.pg_joining.specs.PgRun.declared.port.Asked.{Asked}
-use Rattle.pg_joining.specs.PgRun.declared.port.Client.{Client}
-use Rattle.pg_joining.specs.PgRun.Ports.{submitted, polled}
-use Rattle.pg_joining.specs.PgStep.declared.answer.Answer.{Answer}
-use Rattle.pg_joining.specs.PgConfig.declared.config.Config.{Config}
+use Rattle.pg_cluster_judges.specs.PgNodeRun.declared.notices.Notice.{Notice}
+use Rattle.pg_cluster_judges.specs.PgNodeRun.declared.port.Asked.{Asked}
+use Rattle.pg_cluster_judges.specs.PgNodeRun.declared.port.Client.{Client}
+use Rattle.pg_cluster_judges.specs.PgNodeRun.Ports.{submitted, polled}
+use Rattle.pg_cluster_judges.specs.PgStep.declared.answer.Answer.{Answer}
+use Rattle.pg_cluster_judges.specs.PgWorldConfig.declared.config.Config.{Config}
 use Rattle.pg_cluster.specs.declared.running.Running.{Running}
 use Rattle.pg_cluster.specs.Clients.{SameClients}
-use Rattle.pg_cluster.specs.Closed.{tellers_of, threads_of, lost_of}
+use Rattle.pg_cluster.specs.Clusters.{tellers_of, threads_of, lost_of}
 use Rattle.pg_cluster.specs.Threads.{Thread}
 
 -- its clients, those of the first node first

@@ -3,38 +3,36 @@ use Rattle.std.specs.Prelude.{◌≡◌, ℕ, ◌<◌, ◌≤◌, ◌+◌, Bool,
 use Rattle.std.specs.Prelude.{Some, None, get_or, length, map, slice_index_or}
 use Rattle.std.specs.List.{All, AllByRecursion, flat_map}
 use Rattle.std.specs.declared.thread.PromisedHandle.{PromisedHandle}
-use Rattle.pg_joining.specs.PgIndex.declared.index_table.IndexTable.{IndexTable}
-use Rattle.pg_joining.specs.PgIndex.contracts.index_table.IndexTableGroupTable.TheImpl.{ghosts}
-use Rattle.pg_joining.specs.PgNode.declared.node.Node.{Node}
-use Rattle.pg_joining.specs.PgNode.Nodes.{held_by}
-use Rattle.pg_joining.specs.PgNodeState.States.{names_of, state_of}
+use Rattle.pg_cluster_judges.specs.PgIndex.declared.index_table.IndexTable.{IndexTable}
+use Rattle.pg_cluster_judges.specs.PgIndex.contracts.index_table.IndexTableGroupTable.TheImpl.{ghosts}
+use Rattle.pg_cluster_judges.specs.PgNode.Nodes.{held_by}
+use Rattle.pg_cluster_judges.specs.PgNodeState.States.{names_of, state_of}
 use Rattle.pg_ring.specs.declared.ring_out.RingOut.{RingOut}
 use Rattle.pg_ring.specs.declared.ring_in.RingIn.{RingIn}
 use Rattle.pg_ring.specs.declared.slot_in.SlotIn.{SlotIn}
 use Rattle.pg_ring.specs.Ends.{bytes_room}
 use Rattle.pg_ring.specs.Slots.{taken}
-use Rattle.pg_joining.specs.PgRun.declared.log.NodeEvent.{NodeEvent}
-use Rattle.pg_joining.specs.PgRun.declared.notices.Notice.{Notice}
-use Rattle.pg_joining.specs.PgRun.declared.port.Port.{Port}
-use Rattle.pg_joining.specs.PgRun.declared.run.NodeRun.{NodeRun}
-use Rattle.pg_joining.specs.PgRun.declared.running.Ran.{Ran}
-use Rattle.pg_joining.specs.PgRun.Follows.{node_of, peers_of, log_of}
-use Rattle.pg_joining.specs.PgRun.Ports.{IsUnused}
-use Rattle.pg_joining.specs.PgRun.Notices.{IsUntold}
-use Rattle.pg_joining.specs.PgRun.Runs.{linked_of, ports_at, notices_at, notices_of}
-use Rattle.pg_cluster.specs.declared.closed.TurnCount.{TurnCount}
+use Rattle.pg_cluster_judges.specs.PgNodeRun.declared.log.NodeEvent.{NodeEvent}
+use Rattle.pg_cluster_judges.specs.PgNodeRun.declared.notices.Notice.{Notice}
+use Rattle.pg_cluster_judges.specs.PgNodeRun.declared.port.Port.{Port}
+use Rattle.pg_cluster_judges.specs.PgNodeRun.declared.run.NodeRun.{NodeRun}
+use Rattle.pg_cluster_judges.specs.PgNodeRun.declared.running.Ran.{Ran}
+use Rattle.pg_cluster_judges.specs.PgNodeRun.Follows.{node_of, peers_of, log_of}
+use Rattle.pg_cluster_judges.specs.PgNodeRun.Ports.{IsUnused}
+use Rattle.pg_cluster_judges.specs.PgNodeRun.Notices.{IsUntold}
+use Rattle.pg_cluster_judges.specs.PgNodeRun.Runs.{linked_of, ports_at, notices_at, notices_of}
+use Rattle.pg_cluster_judges.specs.declared.closed.TurnCount.{TurnCount}
 use Rattle.pg_cluster.specs.declared.promise.RanFrom.{RanFrom}
-use Rattle.pg_joining.specs.PgStep.Config.{Config}
-use Rattle.pg_joining.specs.Apart.{End}
-use Rattle.pg_joining.specs.PgWorld.BytesStart.{BytesBegin}
-use Rattle.pg_joining.specs.PgWorld.Crossings.{idle_crossing}
-use Rattle.pg_joining.specs.PgAccount.Histories.{no_account}
+use Rattle.pg_cluster_judges.specs.PgStep.Config.{Config}
+use Rattle.pg_cluster_judges.specs.Apart.{End}
+use Rattle.pg_cluster_judges.specs.PgWorld.BytesStart.{BytesBegin}
+use Rattle.pg_cluster_judges.specs.PgWorld.Crossings.{idle_crossing}
+use Rattle.pg_cluster_judges.specs.PgWorldAccount.Histories.{no_account}
+use Rattle.pg_cluster_judges.specs.NodeOf.{NodeOf}
 use Rattle.pg_cluster.specs.Ended.{AreWired, AllCrossed}
-use Rattle.pg_cluster.specs.Notices.{IsOfLost, NobodyLost}
+use Rattle.pg_cluster.specs.Notices.{IsOfLost}
+use Rattle.pg_cluster_judges.specs.Schedule.{NobodyLost}
 use Rattle.pg_cluster.specs.Promises.{RanAs}
-
-abbrev pub NodeOf : Type 0
-NodeOf = Node IndexTable ghosts
 
 -- these links are one to each peer of the node
 abbrev pub HasLinks : List End → NodeOf → Type 0

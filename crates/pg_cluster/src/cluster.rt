@@ -7,22 +7,23 @@ ghost use Rattle.pg_ring.specs.Slots.{AreSlots};
 ghost use Rattle.pg_cluster.specs.Clients.{AllPairs, ports_begun};
 ghost use Rattle.pg_cluster.specs.Ended.{AreWired};
 ghost use Rattle.pg_cluster.specs.Members.{lasts_in, losses_in, threads_in};
-ghost use Rattle.pg_cluster.specs.Notices.{HaveNoticeRoom, HasNoNotice as IsSilentTeller, NobodyLost as IsNobodyLost, SaysLost};
+ghost use Rattle.pg_cluster.specs.Notices.{HaveNoticeRoom, HasNoNotice as IsSilentTeller, SaysLost};
+ghost use Rattle.pg_cluster_judges.specs.Schedule.{NobodyLost as IsNobodyLost};
 ghost use Rattle.pg_cluster.specs.Room.{HasClosingRoom};
 ghost use Rattle.pg_cluster.specs.Threads.{rows_begun, notices_begun};
 
-use crate::closed::{Closed, Room, Stopped, stopped_of};
+use crate::closing::{Room, stopped_of};
 use crate::fault::StartFault;
-use crate::laws::{
-    nodes_of_one_run_agree, survivors_of_one_run_agree, threads_are_one_losing_run,
-    threads_are_one_run,
-};
+use crate::laws::{threads_are_one_losing_run, threads_are_one_run};
 use crate::member::Member;
 use crate::notices::{Teller, tell_all};
 use crate::promise::NodeRan;
 use crate::runs::make;
 use crate::threads::{start_all, stop_all, stop_one};
-use pg_joining::{Client, Config, Gate, NodeFault, Refusal, WorldFault};
+use pg_cluster_judges::{
+    Client, Closed, Config, Gate, NodeFault, Refusal, Stopped, WorldFault, nodes_of_one_run_agree,
+    survivors_of_one_run_agree,
+};
 use pg_ring::RingOut;
 use rand_core::Rng;
 use std::alloc::{AllocError, Global};
@@ -79,22 +80,24 @@ impl<K: Rng + Drop> Kept<K> {
 }
 
 impl<K: Rng + Drop + Send + 'static> Cluster<K> {
-    ghost use Rattle.pg_joining.specs.PgRun.Ports.{IsSilent};
+    ghost use Rattle.pg_cluster_judges.specs.PgNodeRun.Ports.{IsSilent};
     ghost use Rattle.pg_cluster.specs.Clients.{AreClients, ClientsRest, AllHeard};
-    ghost use Rattle.pg_cluster.specs.Closed.{AllTold, JoinsToOneLosingRun, JoinsToOneRun, NoticesCame, tellers_of};
-    ghost use Rattle.pg_cluster.specs.Closed.{HasSteps, IsByClock, IsOneLosingRun, IsOneRun};
-    ghost use Rattle.pg_cluster.specs.Closed.{threads_of, lost_of, nodes_of, logs_of, turns_of, losses_of, clients_of};
+    ghost use Rattle.pg_cluster.specs.Clusters.{AllTold, NoticesCame, tellers_of};
+    ghost use Rattle.pg_cluster_judges.specs.Closed.{JoinsToOneLosingRun, JoinsToOneRun};
+    ghost use Rattle.pg_cluster_judges.specs.Closed.{HasSteps, IsByClock, IsOneLosingRun, IsOneRun};
+    ghost use Rattle.pg_cluster.specs.Clusters.{threads_of, lost_of};
+    ghost use Rattle.pg_cluster_judges.specs.Closed.{nodes_of, logs_of, turns_of, losses_of, clients_of};
     ghost use Rattle.pg_cluster.specs.Fault.{CantRun};
-    ghost use Rattle.pg_cluster.specs.Notices.{NobodyLost};
-    ghost use Rattle.pg_joining.specs.PgNodeState.declared.state.fault.NodeFault.TheVariants.{Refused};
-    ghost use Rattle.pg_joining.specs.PgStep.declared.refusal.Refusal.TheVariants.{NoSuchPlace, NodeLost};
+    ghost use Rattle.pg_cluster_judges.specs.Schedule.{NobodyLost};
+    ghost use Rattle.pg_cluster_judges.specs.PgNodeState.declared.state.fault.NodeFault.TheVariants.{Refused};
+    ghost use Rattle.pg_cluster_judges.specs.PgStep.declared.refusal.Refusal.TheVariants.{NoSuchPlace, NodeLost};
     ghost use Rattle.std.specs.List.{All};
     ghost use Rattle.pg_cluster.specs.Threads.{AreMade, EndedWith, HaveRings, begun_by, limit_of};
-    ghost use Rattle.pg_joining.specs.PgRun.Runs.{generator_of};
-    ghost use Rattle.pg_joining.specs.PgStep.Config.{Config as Configuration};
-    ghost use Rattle.pg_cluster.specs.Judges.{Agree};
-    ghost use Rattle.pg_joining.specs.PgFrameWorld.Openings.{CanBegin};
-    ghost use Rattle.pg_cluster.specs.Survivors.{SurvivorsAgree};
+    ghost use Rattle.pg_cluster_judges.specs.PgNodeRun.Runs.{generator_of};
+    ghost use Rattle.pg_cluster_judges.specs.PgStep.Config.{Config as Configuration};
+    ghost use Rattle.pg_cluster_judges.specs.Judges.{Agree};
+    ghost use Rattle.pg_cluster_judges.specs.PgWorldPackets.Openings.{CanBegin};
+    ghost use Rattle.pg_cluster_judges.specs.Survivors.{SurvivorsAgree};
 
     /// Starts a thread for each node of a configuration, with rings of so many bytes between them: the cluster, and a
     /// client for each port, those of the first node first. `generators`: of the pauses, one for each node. `gate`:

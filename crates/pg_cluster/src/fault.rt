@@ -1,6 +1,6 @@
-use pg_joining::WorldFault;
+use pg_cluster_judges::WorldFault;
 use pg_ring::RingFault;
-use pg_term::pg_faults::NO_THREAD;
+use pg_term::faults::NO_THREAD;
 use std::alloc::{AllocError, AllocFailed};
 use thiserror::Error;
 
@@ -34,7 +34,7 @@ impl StartFault {
 
 impl From<AllocError> for StartFault {
     ghost use Rattle.std.specs.Prelude.{◌≡◌};
-    ghost use Rattle.pg_joining.specs.PgConfig.declared.fault.WorldFault.TheVariants.{OutOfMemory};
+    ghost use Rattle.pg_cluster_judges.specs.PgWorldConfig.declared.fault.WorldFault.TheVariants.{OutOfMemory};
     ghost use Rattle.pg_cluster.specs.declared.fault.StartFault.TheVariants as faults;
 
     ghost from_gives = { λ _ e. e ≡ faults.World OutOfMemory };
@@ -46,7 +46,7 @@ impl From<AllocError> for StartFault {
 
 impl<T: Drop> From<AllocFailed<T>> for StartFault {
     ghost use Rattle.std.specs.Prelude.{◌≡◌};
-    ghost use Rattle.pg_joining.specs.PgConfig.declared.fault.WorldFault.TheVariants.{OutOfMemory};
+    ghost use Rattle.pg_cluster_judges.specs.PgWorldConfig.declared.fault.WorldFault.TheVariants.{OutOfMemory};
     ghost use Rattle.pg_cluster.specs.declared.fault.StartFault.TheVariants as faults;
 
     ghost from_gives = { λ _ e. e ≡ faults.World OutOfMemory };

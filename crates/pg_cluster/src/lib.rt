@@ -1,43 +1,33 @@
 //! A cluster: the nodes of a configuration in threads of their own, with rings between them, and a client at each port.
 //!
 //! `Running::start(rt, alloc, config, seed, OpenGate, u64::MAX)?` starts one, `submit` and `poll` speak with it, and `close` ends it. Begin
-//! with CALLING.md, then `src/running.rt`; the contract of its end is in `specs/Together.antt`.
+//! with CALLING.md, then `src/running.rt`; the contract of its end is in `specs/Together.antt` of pg_cluster_judges.
 #![tactic(auto)]
 
-mod closed;
+mod closing;
 mod cluster;
 mod fault;
-mod history;
-mod judges;
 mod laws;
 mod member;
-mod nodes;
 mod notices;
 mod pairs;
 mod promise;
-mod replay;
 mod running;
 mod runs;
-mod same;
-mod schedule;
-mod survivors;
 mod threads;
 mod wires;
 
-pub use closed::{Closed, Stopped, TurnCount};
 pub use cluster::Cluster;
 pub use fault::StartFault;
-pub use laws::{
-    nodes_of_one_run_agree, one_losing_run_replays, one_run_replays, survivors_of_one_run_agree,
-    threads_are_one_losing_run, threads_are_one_run,
-};
-pub use pg_joining::{
-    Answer, AnyReader, AnyWriter, Client, Command, Config, Deframer, Done, FrameFault, FrameStep,
-    FrameWorld, Framed, Gate, Held, IndexTable, LinkedNode, LogEntry, MAX_NODES, Message,
-    MessageFault, NOTICE_PLACES, Node, NodeConfig, NodeEvent, NodeFault, NodeRun, NodeState,
-    Notice, Packet, Peer, Port, RefFault, RefSource, Refusal, Reply, Request, Said, ServeFault,
-    Sink, Source, Start, Step, Stepped, World, WorldFault, decode, encode_into, frame_into,
-    order_of_logs, port_pair, serve, starting_nodes, which_groups, write_packet_into,
+pub use laws::{threads_are_one_losing_run, threads_are_one_run};
+pub use pg_cluster_judges::{
+    Answer, Client, Closed, Command, Config, Deframer, Done, FrameFault, FrameStep, FrameWorld,
+    Framed, Gate, Held, IndexTable, LinkedNode, LogEntry, MAX_NODES, Message, MessageFault,
+    NOTICE_PLACES, Node, NodeConfig, NodeEvent, NodeFault, NodeRun, NodeState, Notice, Packet,
+    Peer, Port, RefFault, RefSource, Refusal, Reply, Request, Said, ServeFault, Start, Step,
+    Stepped, Stopped, TurnCount, Turned, World, WorldFault, decode, encode_into, frame_into,
+    nodes_of_one_run_agree, one_losing_run_replays, one_run_replays, order_of_logs, port_pair,
+    run_node, serve, starting_nodes, survivors_of_one_run_agree, which_groups, write_packet_into,
 };
 pub use pg_ring::{
     Inlet, Link, MemRing, RingFault, RingIn, RingOut, SlotIn, SlotOut, ring_pair, slot_pair,

@@ -1,12 +1,12 @@
 //! How the nodes of a cluster are told of losses.
 
 ghost use Rattle.std.specs.Prelude.{◌≡◌, length};
-ghost use Rattle.pg_joining.specs.PgFrameWorld.Views.{peer_place};
+ghost use Rattle.pg_cluster_judges.specs.PgWorldPackets.Views.{peer_place};
 ghost use Rattle.pg_ring.specs.Slots.{AreSlots, SameSlotOut};
 ghost use Rattle.pg_cluster.specs.Clients.{AllPairs};
 ghost use Rattle.pg_cluster.specs.Notices.{SameTellers, NotifiedIfRoom, NotifiedUpTo, Told};
 
-use pg_joining::Notice;
+use pg_cluster_judges::Notice;
 use pg_ring::{SlotIn, SlotOut, slots_together};
 
 /// Where a node is told of losses.

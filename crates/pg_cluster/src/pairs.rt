@@ -1,13 +1,13 @@
 //! Both ends of each ring in one hand, once the threads have ended.
 
 ghost use Rattle.std.specs.Prelude.{◌≡◌, ◌<◌, ◌≤◌, ◌+◌, ◌++◌, vec_len, vec_capacity, length, map};
-ghost use Rattle.pg_joining.specs.PgRun.Ports.{ArePort, Meets};
+ghost use Rattle.pg_cluster_judges.specs.PgNodeRun.Ports.{ArePort, Meets};
 ghost use Rattle.pg_cluster.specs.Clients.{AllPairs, ClientsRest};
 ghost use Rattle.pg_cluster.specs.Ended.{AreJoined, AllArrived, AreEndsAt, ArrivedAt};
 ghost use Rattle.pg_cluster.specs.Ended.{AreLast, ArrivedLast, SameRow, SameRows};
 
 use crate::wires::Row;
-use pg_joining::{Client, Port, ports_together};
+use pg_cluster_judges::{Client, Port, ports_together};
 use pg_ring::together;
 
 /// Looks at both ends of each ring between nodes, whose links these are: what was received, and then what is left, is what was sent.

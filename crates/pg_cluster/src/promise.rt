@@ -1,7 +1,7 @@
 //! What a node's thread promises.
 
 use crate::runs::Run;
-use pg_joining::{IndexTable, Ran};
+use pg_cluster_judges::{IndexTable, Ran};
 use pg_ring::{RingIn, RingOut};
 use rand_core::Rng;
 use std::snapshot::Snapshot;

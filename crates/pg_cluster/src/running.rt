@@ -2,15 +2,16 @@
 
 ghost use Rattle.std.specs.Prelude.{map, IfOk, length, ◌≡◌};
 ghost use Rattle.pg_cluster.specs.Clients.{AreClients};
-ghost use Rattle.pg_cluster.specs.Closed.{threads_of};
-ghost use Rattle.pg_joining.specs.PgFrameWorld.Openings.{CanBegin};
+ghost use Rattle.pg_cluster.specs.Clusters.{threads_of};
+ghost use Rattle.pg_cluster_judges.specs.PgWorldPackets.Openings.{CanBegin};
 ghost use Rattle.pg_cluster.specs.Seeds.{AreSeeded};
 ghost use Rattle.pg_cluster.specs.Threads.{AreMade, begun_by};
 
-use crate::closed::{Closed, Stopped};
 use crate::cluster::Cluster;
 use crate::fault::StartFault;
-use pg_joining::{Answer, Client, Command, Config, Gate, NodeFault, WorldFault};
+use pg_cluster_judges::{
+    Answer, Client, Closed, Command, Config, Gate, NodeFault, Stopped, WorldFault,
+};
 use rand_pcg::Pcg32;
 use std::alloc::{AllocError, Global};
 use std::thread::Threads;
@@ -42,21 +43,23 @@ impl Running {
     ghost use Rattle.std.specs.Prelude.{◌<◌, ◌++◌, ◌∷◌, [], ◌↔◌, ◌≤◌, ◌⊎◌, true, get_or, IfErr, IfSome};
     ghost use Rattle.std.specs.Prelude.{IfNone, OnOk, OnErr, Some, Err, MatchResult, slice_get, slice_set};
     ghost use Rattle.std.specs.List.{All};
-    ghost use Rattle.pg_joining.specs.PgNodeState.declared.state.fault.NodeFault.TheVariants.{Refused};
-    ghost use Rattle.pg_joining.specs.PgRun.Ports.{IsSilent, polled_count};
-    ghost use Rattle.pg_joining.specs.PgRun.declared.port.Client.{Client as ClientEnd};
-    ghost use Rattle.pg_joining.specs.PgStep.declared.refusal.Refusal.TheVariants.{NoSuchPlace, NodeLost};
+    ghost use Rattle.pg_cluster_judges.specs.PgNodeState.declared.state.fault.NodeFault.TheVariants.{Refused};
+    ghost use Rattle.pg_cluster_judges.specs.PgNodeRun.Ports.{IsSilent, polled_count};
+    ghost use Rattle.pg_cluster_judges.specs.PgNodeRun.declared.port.Client.{Client as ClientEnd};
+    ghost use Rattle.pg_cluster_judges.specs.PgStep.declared.refusal.Refusal.TheVariants.{NoSuchPlace, NodeLost};
     ghost use Rattle.pg_cluster.specs.Clients.{AllHeard, ClientsRest};
-    ghost use Rattle.pg_cluster.specs.Closed.{AllTold, HasSteps, IsByClock, IsOneLosingRun, IsOneRun, JoinsToOneLosingRun, JoinsToOneRun};
-    ghost use Rattle.pg_cluster.specs.Closed.{NoticesCame, nodes_of, logs_of, turns_of, losses_of, clients_of};
+    ghost use Rattle.pg_cluster.specs.Clusters.{AllTold};
+    ghost use Rattle.pg_cluster_judges.specs.Closed.{HasSteps, IsByClock, IsOneLosingRun, IsOneRun, JoinsToOneLosingRun, JoinsToOneRun};
+    ghost use Rattle.pg_cluster.specs.Clusters.{NoticesCame};
+    ghost use Rattle.pg_cluster_judges.specs.Closed.{nodes_of, logs_of, turns_of, losses_of, clients_of};
     ghost use Rattle.pg_cluster.specs.Fault.{CantRun};
-    ghost use Rattle.pg_cluster.specs.Judges.{Agree};
-    ghost use Rattle.pg_cluster.specs.Notices.{NobodyLost};
+    ghost use Rattle.pg_cluster_judges.specs.Judges.{Agree};
+    ghost use Rattle.pg_cluster_judges.specs.Schedule.{NobodyLost};
     ghost use Rattle.pg_cluster.specs.Running.{clients_in, config_in, tellers_in, threads_in};
     ghost use Rattle.pg_cluster.specs.Running.{losses_in, submitted_at, polled_at, OnlyClient};
     ghost use Rattle.pg_cluster.specs.Threads.{limit_of, EndedWith, HaveRings};
-    ghost use Rattle.pg_joining.specs.PgRun.Runs.{generator_of};
-    ghost use Rattle.pg_cluster.specs.Survivors.{SurvivorsAgree};
+    ghost use Rattle.pg_cluster_judges.specs.PgNodeRun.Runs.{generator_of};
+    ghost use Rattle.pg_cluster_judges.specs.Survivors.{SurvivorsAgree};
 
     /// Starts a thread for each node of a configuration, and a client for each port. `seed`: of the pauses of the
     /// first node; that of each further node is one more, and wraps. `gate`: what each node passes at the start of

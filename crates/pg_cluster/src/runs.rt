@@ -3,19 +3,19 @@
 ghost use Rattle.std.specs.Prelude.{◌≡◌, IfOk, IfErr, [], length, map};
 ghost use Rattle.std.specs.List.{All as AllOf};
 ghost use Rattle.pg_cluster.specs.Clients.{AllPairs as Pairs, IsOpenClient as IsOpened, OpensMore};
-ghost use Rattle.pg_joining.specs.PgRun.Notices.{IsUntold as IsUntoldAt};
-ghost use Rattle.pg_joining.specs.PgRun.Runs.{generator_of as generator_of_run};
-ghost use Rattle.pg_joining.specs.PgRun.Runs.{notices_at as notices_of_run, notices_of as told_of_run};
+ghost use Rattle.pg_cluster_judges.specs.PgNodeRun.Notices.{IsUntold as IsUntoldAt};
+ghost use Rattle.pg_cluster_judges.specs.PgNodeRun.Runs.{generator_of as generator_of_run};
+ghost use Rattle.pg_cluster_judges.specs.PgNodeRun.Runs.{notices_at as notices_of_run, notices_of as told_of_run};
 ghost use Rattle.pg_cluster.specs.Notices.{IsFresh as IsFreshPair};
 ghost use Rattle.pg_cluster.specs.Fault.{CantRun, IsShortage as IsShort};
-ghost use Rattle.pg_joining.specs.PgFrameWorld.Openings.{CanBegin};
+ghost use Rattle.pg_cluster_judges.specs.PgWorldPackets.Openings.{CanBegin};
 ghost use Rattle.pg_cluster.specs.Threads.{AreMade, HaveRings, HasLinks as HasLinksOf, node_in as node_of_run};
 ghost use Rattle.pg_cluster.specs.Threads.{row_in as row_of_run, log_in as log_of_run, ports_of_runs as ports_in_runs};
 
 use crate::fault::StartFault;
 use crate::notices::Teller;
 use crate::wires::{Row, wire_all};
-use pg_joining::{
+use pg_cluster_judges::{
     Client, Config, IndexTable, LinkedNode, NOTICE_PLACES, Node, NodeRun, Notice, Port, WorldFault,
     port_pair, starting_nodes,
 };
@@ -117,8 +117,8 @@ impl<K: Rng + Drop> Made<K> {
     ghost use Rattle.pg_cluster.specs.Clients.{AllPairs, IsOpenClient, OpensMore};
     ghost use Rattle.pg_cluster.specs.Fault.{IsShortage};
     ghost use Rattle.pg_ring.specs.Slots.{taken};
-    ghost use Rattle.pg_joining.specs.PgRun.Notices.{IsUntold};
-    ghost use Rattle.pg_joining.specs.PgRun.Runs.{generator_of, notices_at, notices_of};
+    ghost use Rattle.pg_cluster_judges.specs.PgNodeRun.Notices.{IsUntold};
+    ghost use Rattle.pg_cluster_judges.specs.PgNodeRun.Runs.{generator_of, notices_at, notices_of};
     ghost use Rattle.pg_cluster.specs.Notices.{IsFresh};
     ghost use Rattle.pg_cluster.specs.Threads.{HasLinks, node_in, row_in, log_in, ports_of_runs};
 

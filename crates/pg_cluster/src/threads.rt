@@ -3,7 +3,7 @@
 ghost use Rattle.std.specs.Prelude.{◌≡◌, false, Err, IfErr, IfOk};
 ghost use Rattle.pg_cluster.specs.Fault.{IsShortage};
 ghost use Rattle.pg_cluster.specs.Members.{is_lost, losses_in, thread_of, threads_in};
-ghost use Rattle.pg_cluster.specs.Notices.{NobodyLost};
+ghost use Rattle.pg_cluster_judges.specs.Schedule.{NobodyLost};
 ghost use Rattle.pg_cluster.specs.Promises.{RanAs};
 ghost use Rattle.pg_cluster.specs.Threads.{StartedWith, begun_by, limit_of};
 
@@ -11,7 +11,7 @@ use crate::fault::StartFault;
 use crate::member::Member;
 use crate::promise::{NodeRan, RanFrom};
 use crate::runs::Run;
-use pg_joining::{Gate, WorldFault, run_node};
+use pg_cluster_judges::{Gate, WorldFault, run_node};
 use pg_ring::{Link, RingOut};
 use rand_core::Rng;
 use std::alloc::Global;

@@ -3,7 +3,7 @@
 ghost use Rattle.std.specs.Prelude.{◌≡◌, ◌<◌, IfOk, OnOk, vec_len};
 ghost use Rattle.pg_cluster.specs.Rows.{HaveRowRoom, AreJoined, RowsWired};
 
-use pg_joining::Peer;
+use pg_cluster_judges::Peer;
 use pg_ring::{RingFault, RingIn, RingOut, ring_pair};
 use std::alloc::Global;
 

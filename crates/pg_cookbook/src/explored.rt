@@ -2,8 +2,8 @@
 
 use anyhow::Result;
 use pg_explore::Limits;
+use pg_explore_survey::{Findings, Observer, Scenario, read_scenario, survey};
 use pg_script::{ScriptFault, graph_svg};
-use pg_survey::{Findings, Observer, Scenario, read_scenario, survey};
 use std::alloc::{AllocError, Global};
 
 /// Watches nothing.

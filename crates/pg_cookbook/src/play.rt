@@ -3,9 +3,10 @@
 use crate::narrow::narrowed;
 use anyhow::Result;
 use pg_script::{
-    AnyWriter, Diagram, RunFault, Script, ScriptFault, diagram_of, read_script, run_script, svg_of,
+    Diagram, RunFault, Script, ScriptFault, diagram_of, read_script, run_script, svg_of,
     watch_script,
 };
+use pg_streams::AnyWriter;
 use std::alloc::Global;
 
 /// What `pg2sim script` prints for a script: on standard output, and then on standard error.

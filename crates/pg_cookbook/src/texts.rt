@@ -1,8 +1,8 @@
 //! Texts that are scripts or are none: those that are cut anywhere, and lines by chance.
 
 use anyhow::Result;
-use pg_random::Random;
 use pg_script::read_script;
+use pg_test_kit::Random;
 use std::alloc::{AllocError, Global};
 
 /// A faulty line, from 1, and the number of its fault.

@@ -1,6 +1,6 @@
 -- The numbers of the faults of making and ending.
 use Rattle.std.specs.Prelude.{ℕ}
-use Rattle.pg_term.specs.PgFaults.declared.TheConstants.{ALREADY_ENDED, FOREIGN_PID, NOT_MADE, OUT_OF_MEMORY, PROCESS_LIMIT}
+use Rattle.pg_term.specs.declared.faults.TheConstants.{ALREADY_ENDED, FOREIGN_PID, NOT_MADE, OUT_OF_MEMORY, PROCESS_LIMIT}
 use Rattle.pg_ends.specs.declared.fault.EndFault.{EndFault}
 use Rattle.pg_ends.specs.declared.fault.EndFault.TheVariants.{ForeignPid, NotMade, AlreadyEnded}
 use Rattle.pg_ends.specs.declared.fault.EndFault.TheVariants.{ProcessLimit, OutOfMemory}

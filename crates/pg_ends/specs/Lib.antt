@@ -3,5 +3,5 @@ pub mod Numbers
 pub mod Processes
 pub use Rattle.pg_group.specs.Ended
 pub use Rattle.pg_group.specs.Functions
-pub use Rattle.pg_group.specs.Table
 pub use Rattle.pg_term.specs.Same
+pub use Rattle.pg_group.specs.Table

@@ -1,6 +1,6 @@
 ghost use Rattle.std.specs.Prelude.{◌≡◌};
 
-use pg_term::pg_faults::{ALREADY_ENDED, FOREIGN_PID, NOT_MADE, OUT_OF_MEMORY, PROCESS_LIMIT};
+use pg_term::faults::{ALREADY_ENDED, FOREIGN_PID, NOT_MADE, OUT_OF_MEMORY, PROCESS_LIMIT};
 use std::alloc::{AllocError, AllocFailed};
 use thiserror::Error;
 

@@ -1,5 +1,5 @@
 pub mod Groups
 pub mod Marks
 pub mod Parts
-pub mod Undone
 pub mod Tables
+pub mod Undone

@@ -4,6 +4,6 @@ pub mod Marks
 pub mod Undone
 pub use Rattle.pg_group.specs.Ended
 pub use Rattle.pg_group.specs.Members
+pub use Rattle.pg_term.specs.Same
 pub use Rattle.pg_group.specs.Scope
 pub use Rattle.pg_group.specs.Table
-pub use Rattle.pg_term.specs.Same

@@ -4,15 +4,15 @@ use Rattle.std.proofs.Props.{props}
 use Rattle.std.proofs.lemmas.List.{length-map}
 use Rattle.std.specs.Prelude.{fold}
 use mathlib.Core.Logic.{∥∥₁_elim}
-use Rattle.pg_frame_world.specs.PgGroup.declared.table.GroupTable.{Ghosts}
-use Rattle.pg_frame_world.proofs.Ordered.{ordered_length}
-use Rattle.pg_frame_world.specs.declared.frame_world.FrameWorld.{FrameWorld}
-use Rattle.pg_frame_world.specs.Alike.{AreAlikeWorlds, without_clock, without_stamps}
-use Rattle.pg_frame_world.specs.PgAccount.Agreeing.{HaveSameUpdates}
-use Rattle.pg_frame_world.specs.FrameWorlds.{traffic_of, given_of}
-use Rattle.pg_frame_world.specs.PgStarts.Seen.{Seen}
-use Rattle.pg_frame_world.specs.Views.{View}
-use Rattle.pg_frame_world.specs.PgAccount.Histories.{Account}
+use Rattle.pg_world_packets.specs.PgGroup.declared.table.GroupTable.{Ghosts}
+use Rattle.pg_world_packets.proofs.Ordered.{ordered_length}
+use Rattle.pg_world_packets.specs.declared.frame_world.FrameWorld.{FrameWorld}
+use Rattle.pg_world_packets.specs.Alike.{AreAlikeWorlds, without_clock, without_stamps}
+use Rattle.pg_world_packets.specs.PgWorldAccount.Agreeing.{HaveSameUpdates}
+use Rattle.pg_world_packets.specs.FrameWorlds.{traffic_of, given_of}
+use Rattle.pg_world_packets.specs.PgWorldConfig.Seen.{Seen}
+use Rattle.pg_world_packets.specs.Views.{View}
+use Rattle.pg_world_packets.specs.PgWorldAccount.Histories.{Account}
 use Rattle.pg_term.specs.declared.term.Term.{Term}
 use Rattle.pg_explore.specs.Moments.{AreAlike, Sight}
 use Rattle.pg_explore.specs.Numbers.{mixed_node, mixed_progress, mixed_row, number_in}

@@ -3,7 +3,7 @@ use Rattle.std.proofs.Common.{◌≡◌, ◌<◌, ◌≤◌, ℕ, ◌+◌, max, 
 use Rattle.std.proofs.Common.{None, Bool, true, false, refl, sym, ap, ◌∙◌, subst, arith, append_assoc}
 use Rattle.std.proofs.lemmas.List.{append-nil, take_more}
 use Rattle.std.specs.Prelude.{slice_get}
-use Rattle.pg_frame_world.specs.PgStep.Config.{Config}
+use Rattle.pg_world_packets.specs.PgStep.Config.{Config}
 use Rattle.pg_explore.specs.declared.explored.Explored.{Explored}
 use Rattle.pg_explore.specs.declared.explored.Met.{Met}
 use Rattle.pg_explore.specs.declared.plan.Plan.{Plan}

@@ -6,9 +6,9 @@ use Rattle.std.proofs.lemmas.List.{get_or-take, take_more, take_all, nil_from_le
 use Rattle.std.proofs.lemmas.List.Elements.{Contains-append_left, Contains-append_right}
 use Rattle.std.proofs.lemmas.List.Elements.{Contains-push, Contains-push_cases, Contains-append_cases}
 use Rattle.std.specs.List.{Contains}
-use Rattle.pg_frame_world.specs.PgMachine.Clocked.{Stamped}
-use Rattle.pg_frame_world.specs.PgMessage.declared.message.Message.{Message}
-use Rattle.pg_frame_world.specs.Views.{CanStay}
+use Rattle.pg_world_packets.specs.PgStep.Machines.Clocked.{Stamped}
+use Rattle.pg_world_packets.specs.PgMessageTypes.declared.message.Message.{Message}
+use Rattle.pg_world_packets.specs.Views.{CanStay}
 use Rattle.pg_explore.specs.Keeping.{AddsLonger, AreLonger, AreUpTo, IsLonger, IsOneLonger, IsUpTo}
 
 none_in : {A : Type 0} (x : A) → Contains [] x → ⊥

@@ -6,21 +6,21 @@ use Rattle.std.proofs.lemmas.List.Elements.{Contains-append_left, Contains-push,
 use Rattle.std.proofs.lemmas.Option.{slice_get_read}
 use Rattle.std.specs.Prelude.{slice_get, Option, Some, None, Result, Ok, Err, IfOk}
 use Rattle.std.specs.List.{Contains, IsDistinct, list_any}
-use Rattle.pg_frame_world.specs.PgMachine.Clocked.{Stamped}
-use Rattle.pg_frame_world.specs.PgMachine.Places.{is_pair}
-use Rattle.pg_frame_world.specs.PgMessage.declared.message.Message.{Message}
-use Rattle.pg_frame_world.proofs.PgOpens.Followed.{op_is, op_same}
-use Rattle.pg_frame_world.specs.PgStep.declared.command.OpId.{OpId}
-use Rattle.pg_frame_world.specs.PgStep.Attempts.{same_op}
-use Rattle.pg_frame_world.specs.Losing.{seen_at}
-use Rattle.pg_frame_world.specs.PgAccount.Losses.{is_lost}
-use Rattle.pg_frame_world.specs.Views.{CanStay, on_the_way}
+use Rattle.pg_world_packets.specs.PgStep.Machines.Clocked.{Stamped}
+use Rattle.pg_world_packets.specs.PgStep.Machines.Places.{is_pair}
+use Rattle.pg_world_packets.specs.PgMessageTypes.declared.message.Message.{Message}
+use Rattle.pg_world_packets.proofs.PgNodeOpens.Followed.{op_is, op_same}
+use Rattle.pg_world_packets.specs.PgStep.declared.command.OpId.{OpId}
+use Rattle.pg_world_packets.specs.PgStep.Attempts.{same_op}
+use Rattle.pg_world_packets.specs.Losing.{seen_at}
+use Rattle.pg_world_packets.specs.PgWorldAccount.Losses.{is_lost}
+use Rattle.pg_world_packets.specs.Views.{CanStay, on_the_way}
 use Rattle.pg_explore.specs.declared.moves.Move.{Move}
 use Rattle.pg_explore.specs.declared.moves.Move.TheVariants.{Take, Next, Loss, Retry, SeeLoss}
 use Rattle.pg_explore.specs.declared.plan.Plan.{Plan}
 use Rattle.pg_explore.specs.declared.plan.Planned.{Planned}
 use Rattle.pg_explore.specs.declared.plan.Planned.TheVariants as planned
-use Rattle.pg_frame_world.specs.declared.step.FrameStep.{FrameStep}
+use Rattle.pg_world_packets.specs.declared.step.FrameStep.{FrameStep}
 use Rattle.pg_explore.specs.Keeping.{AreUpTo}
 use Rattle.pg_explore.specs.Listings.{ListsWanted, AddsOpen, IsLossOf, IsMoveOfPeer, IsOfPeers, IsOfPeersBelow}
 use Rattle.pg_explore.specs.Listings.{IsOpenMove, IsPlannedOf, IsRetryOf, IsThere, MayRetry, sight_waits_at}

@@ -1,13 +1,13 @@
 -- What the step of a world came to.
 use Rattle.std.proofs.Common.{◌≡◌, ◌⊎◌, Bool, true, false, List, ℕ, Option}
 use Rattle.std.proofs.Common.{Some, None, Result, Ok, Err, inl, inr, subst, sym}
-use Rattle.pg_frame_world.specs.PgStep.Config.{Config}
-use Rattle.pg_frame_world.specs.PgStep.LossLaws.{LosingFrameWorld}
-use Rattle.pg_frame_world.specs.PgNodeState.declared.state.fault.NodeFault.{NodeFault}
-use Rattle.pg_frame_world.specs.PgNodeState.declared.state.fault.NodeFault.TheVariants as faults
-use Rattle.pg_frame_world.specs.declared.step.Stepped.{Stepped}
-use Rattle.pg_frame_world.specs.declared.step.Stepped.TheVariants.{Nothing, Moved, Happened, Gone}
-use Rattle.pg_frame_world.specs.Losing.{Telling, LosingComesTo}
+use Rattle.pg_world_packets.specs.PgStep.Config.{Config}
+use Rattle.pg_world_packets.specs.PgStep.LossLaws.{LosingFrameWorld}
+use Rattle.pg_world_packets.specs.PgNodeState.declared.state.fault.NodeFault.{NodeFault}
+use Rattle.pg_world_packets.specs.PgNodeState.declared.state.fault.NodeFault.TheVariants as faults
+use Rattle.pg_world_packets.specs.declared.step.Stepped.{Stepped}
+use Rattle.pg_world_packets.specs.declared.step.Stepped.TheVariants.{Nothing, Moved, Happened, Gone}
+use Rattle.pg_world_packets.specs.Losing.{Telling, LosingComesTo}
 use Rattle.pg_explore.specs.Moves.{MoveCame, IsOutcome}
 
 -- what is told of a step came, or not, by whether it happened

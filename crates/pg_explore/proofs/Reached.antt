@@ -6,8 +6,8 @@ use Rattle.std.proofs.lemmas.Option.{slice_get_read, slice_get_within, get_or_fr
 use Rattle.std.specs.Prelude.{slice_get, Option, Some, None, Result, Ok, Err, IfOk, Bool, true, false}
 use Rattle.std.specs.List.{Contains}
 use Rattle.std.specs.Option.{ForSome}
-use Rattle.pg_frame_world.specs.PgStep.Config.{Config}
-use Rattle.pg_frame_world.specs.FrameWorlds.{given_of}
+use Rattle.pg_world_packets.specs.PgStep.Config.{Config}
+use Rattle.pg_world_packets.specs.FrameWorlds.{given_of}
 use Rattle.pg_explore.specs.declared.bins.Bins.{Bins}
 use Rattle.pg_explore.specs.declared.bins.Spot.{Spot}
 use Rattle.pg_explore.specs.declared.explored.Met.{Met}

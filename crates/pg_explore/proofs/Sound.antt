@@ -3,7 +3,7 @@ use Rattle.std.proofs.Common.{◌≡◌, ◌⊎◌, ◌<◌, ◌≤◌, ℕ, ◌
 use Rattle.std.proofs.Common.{Option, Some, None, refl, sym, ap, ◌∙◌, inl, inr, subst, arith}
 use Rattle.std.specs.Prelude.{slice_get}
 use Rattle.std.specs.List.{Contains}
-use Rattle.pg_frame_world.specs.PgStep.Config.{Config}
+use Rattle.pg_world_packets.specs.PgStep.Config.{Config}
 use Rattle.pg_explore.specs.declared.bins.Bins.{Bins}
 use Rattle.pg_explore.specs.declared.explored.Before.{Before}
 use Rattle.pg_explore.specs.declared.explored.Met.{Met}

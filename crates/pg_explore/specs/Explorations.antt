@@ -1,7 +1,7 @@
 -- What an exploration has met.
 use Rattle.std.specs.Prelude.{◌≡◌, ◌⊎◌, ◌<◌, ℕ, ◌+◌, Bool, true, false, length, slice_get, List, Option, Some, None}
 use Rattle.std.specs.List.{Contains}
-use Rattle.pg_frame_world.specs.PgStep.Config.{Config}
+use Rattle.pg_world_packets.specs.PgStep.Config.{Config}
 use Rattle.pg_explore.specs.declared.bins.Bins.{Bins}
 use Rattle.pg_explore.specs.declared.explored.Before.{Before}
 use Rattle.pg_explore.specs.declared.explored.Explored.{Explored}

@@ -1,8 +1,8 @@
 -- Why an exploration ends early.
 use Rattle.std.specs.Prelude.{ℕ, List}
-use Rattle.pg_frame_world.specs.PgConfig.declared.config.Config.{Config}
-use Rattle.pg_frame_world.specs.PgConfig.Faults.{world_number_of}
-use Rattle.pg_frame_world.specs.Openings.{CantBegin}
+use Rattle.pg_world_packets.specs.PgWorldConfig.declared.config.Config.{Config}
+use Rattle.pg_world_packets.specs.PgWorldConfig.Faults.{world_number_of}
+use Rattle.pg_world_packets.specs.Openings.{CantBegin}
 use Rattle.pg_explore.specs.declared.fault.ExploreFault.{ExploreFault}
 use Rattle.pg_explore.specs.declared.fault.ExploreFault.TheVariants.{World, OutOfMemory}
 

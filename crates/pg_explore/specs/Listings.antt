@@ -3,18 +3,18 @@ use Rattle.std.specs.Prelude.{◌≡◌, ◌≢◌, ◌⊎◌, ◌↔◌, ◌<�
 use Rattle.std.specs.Prelude.{length, get_or, slice_get, List, [], Option, Some}
 use Rattle.std.specs.List.{Contains}
 use Rattle.std.specs.Option.{option_map_or}
-use Rattle.pg_frame_world.specs.PgMachine.Clocked.{Stamped}
-use Rattle.pg_frame_world.specs.PgMachine.Places.{is_pair}
-use Rattle.pg_frame_world.specs.PgMessage.declared.message.Message.{Message}
-use Rattle.pg_frame_world.specs.PgOpens.Places.{whole_in}
-use Rattle.pg_frame_world.specs.PgStep.declared.command.OpId.{OpId}
-use Rattle.pg_frame_world.specs.PgStep.Attempts.{waits}
-use Rattle.pg_frame_world.specs.PgStep.State.{live_nodes}
-use Rattle.pg_frame_world.specs.declared.step.FrameStep.{FrameStep}
-use Rattle.pg_frame_world.specs.Losing.{seen_at}
-use Rattle.pg_frame_world.specs.PgAccount.Losses.{is_lost}
-use Rattle.pg_frame_world.specs.PgStarts.Seen.{Seen}
-use Rattle.pg_frame_world.specs.Views.{CanStay, on_the_way}
+use Rattle.pg_world_packets.specs.PgStep.Machines.Clocked.{Stamped}
+use Rattle.pg_world_packets.specs.PgStep.Machines.Places.{is_pair}
+use Rattle.pg_world_packets.specs.PgMessageTypes.declared.message.Message.{Message}
+use Rattle.pg_world_packets.specs.PgNodeOpens.Places.{whole_in}
+use Rattle.pg_world_packets.specs.PgStep.declared.command.OpId.{OpId}
+use Rattle.pg_world_packets.specs.PgStep.Attempts.{waits}
+use Rattle.pg_world_packets.specs.PgStep.State.{live_nodes}
+use Rattle.pg_world_packets.specs.declared.step.FrameStep.{FrameStep}
+use Rattle.pg_world_packets.specs.Losing.{seen_at}
+use Rattle.pg_world_packets.specs.PgWorldAccount.Losses.{is_lost}
+use Rattle.pg_world_packets.specs.PgWorldConfig.Seen.{Seen}
+use Rattle.pg_world_packets.specs.Views.{CanStay, on_the_way}
 use Rattle.pg_explore.specs.declared.moves.Move.{Move}
 use Rattle.pg_explore.specs.declared.moves.Move.TheVariants.{Take, Next, Loss, Retry, SeeLoss}
 use Rattle.pg_explore.specs.declared.plan.Plan.{Plan}

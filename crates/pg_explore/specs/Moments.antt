@@ -1,10 +1,10 @@
 -- Moments of runs, as they are seen.
 use Rattle.std.specs.Prelude.{◌≡◌, ℕ, ◌+◌, ◌-◌, zero, suc, map, length, replicate, List, [], ◌∷◌, ◌++◌}
-use Rattle.pg_frame_world.specs.PgStep.Config.{Config}
-use Rattle.pg_frame_world.specs.Alike.{AreAlikeWorlds}
-use Rattle.pg_frame_world.specs.FrameWorlds.{view_of, lost_of, given_of}
-use Rattle.pg_frame_world.specs.Starts.{Begins}
-use Rattle.pg_frame_world.specs.Views.{View}
+use Rattle.pg_world_packets.specs.PgStep.Config.{Config}
+use Rattle.pg_world_packets.specs.Alike.{AreAlikeWorlds}
+use Rattle.pg_world_packets.specs.FrameWorlds.{view_of, lost_of, given_of}
+use Rattle.pg_world_packets.specs.Starts.{Begins}
+use Rattle.pg_world_packets.specs.Views.{View}
 use Rattle.pg_explore.specs.declared.moment.Moment.{Moment}
 use Rattle.pg_explore.specs.declared.moves.Move.{Move}
 use Rattle.pg_explore.specs.declared.moves.Move.TheVariants.{Take, Next, Loss, Retry, SeeLoss}

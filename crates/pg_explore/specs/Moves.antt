@@ -1,18 +1,18 @@
 -- What a step makes of a moment.
 use Rattle.std.specs.Prelude.{◌≡◌, ◌⊎◌, ℕ, Bool, true, false, slice_get, List}
 use Rattle.std.specs.Prelude.{Option, Some, None, Result, Ok, Err, option_and_then}
-use Rattle.pg_frame_world.specs.PgStep.Config.{Config}
-use Rattle.pg_frame_world.specs.PgStep.LossLaws.{LosingFrameWorld}
-use Rattle.pg_frame_world.specs.PgStep.Step.{Retry as tried_again}
-use Rattle.pg_frame_world.specs.PgStep.declared.refusal.Refusal.{Refusal}
-use Rattle.pg_frame_world.specs.PgNodeState.declared.state.fault.NodeFault.{NodeFault}
-use Rattle.pg_frame_world.specs.PgNodeState.declared.state.fault.NodeFault.TheVariants.{OutOfMemory}
-use Rattle.pg_frame_world.specs.declared.step.FrameStep.{FrameStep}
-use Rattle.pg_frame_world.specs.declared.step.Stepped.{Stepped}
-use Rattle.pg_frame_world.specs.declared.step.Stepped.TheVariants.{Happened, Gone}
-use Rattle.pg_frame_world.specs.Views.{View}
-use Rattle.pg_frame_world.specs.Losing.{Telling, LosingLed, ShowsLosing, told_of}
-use Rattle.pg_frame_world.specs.Losing.{told_take, told_own, told_sight, told_loss}
+use Rattle.pg_world_packets.specs.PgStep.Config.{Config}
+use Rattle.pg_world_packets.specs.PgStep.LossLaws.{LosingFrameWorld}
+use Rattle.pg_world_packets.specs.PgStep.Step.{Retry as tried_again}
+use Rattle.pg_world_packets.specs.PgStep.declared.refusal.Refusal.{Refusal}
+use Rattle.pg_world_packets.specs.PgNodeState.declared.state.fault.NodeFault.{NodeFault}
+use Rattle.pg_world_packets.specs.PgNodeState.declared.state.fault.NodeFault.TheVariants.{OutOfMemory}
+use Rattle.pg_world_packets.specs.declared.step.FrameStep.{FrameStep}
+use Rattle.pg_world_packets.specs.declared.step.Stepped.{Stepped}
+use Rattle.pg_world_packets.specs.declared.step.Stepped.TheVariants.{Happened, Gone}
+use Rattle.pg_world_packets.specs.Views.{View}
+use Rattle.pg_world_packets.specs.Losing.{Telling, LosingLed, ShowsLosing, told_of}
+use Rattle.pg_world_packets.specs.Losing.{told_take, told_own, told_sight, told_loss}
 use Rattle.pg_explore.specs.declared.moment.Moment.{Moment}
 use Rattle.pg_explore.specs.declared.moves.Move.{Move}
 use Rattle.pg_explore.specs.declared.moves.Move.TheVariants.{Take, Next, Loss, Retry, SeeLoss}

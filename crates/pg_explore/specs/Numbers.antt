@@ -1,13 +1,13 @@
 -- The number of a moment: that of moments which are the same but for clocks and stamps is one.
 use Rattle.std.specs.Prelude.{ℕ, ◌+◌, ◌*◌, ◌%◌, ◌^◌, cond, nat_lt, fold, map, length, List}
-use Rattle.pg_frame_world.specs.PgGroup.declared.update.Update.{Update}
-use Rattle.pg_frame_world.specs.PgGroup.declared.update.Update.TheVariants.{Create, Delete, Join, Leave}
-use Rattle.pg_frame_world.specs.PgMachine.Clocked.{Stamped, packets_of}
-use Rattle.pg_frame_world.specs.PgMessage.declared.message.Message.{Message}
-use Rattle.pg_frame_world.specs.PgMessage.declared.message.Message.TheVariants.{Call, Reply, DelLock, Exchange, Down}
-use Rattle.pg_frame_world.specs.PgMessage.declared.message.Request.TheVariants.{SetLock, Change}
-use Rattle.pg_frame_world.specs.Alike.{without_clock, without_stamps}
-use Rattle.pg_frame_world.specs.PgStarts.Seen.{Seen}
+use Rattle.pg_world_packets.specs.PgGroup.declared.update.Update.{Update}
+use Rattle.pg_world_packets.specs.PgGroup.declared.update.Update.TheVariants.{Create, Delete, Join, Leave}
+use Rattle.pg_world_packets.specs.PgStep.Machines.Clocked.{Stamped, packets_of}
+use Rattle.pg_world_packets.specs.PgMessageTypes.declared.message.Message.{Message}
+use Rattle.pg_world_packets.specs.PgMessageTypes.declared.message.Message.TheVariants.{Call, Reply, DelLock, Exchange, Down}
+use Rattle.pg_world_packets.specs.PgMessageTypes.declared.message.Request.TheVariants.{SetLock, Change}
+use Rattle.pg_world_packets.specs.Alike.{without_clock, without_stamps}
+use Rattle.pg_world_packets.specs.PgWorldConfig.Seen.{Seen}
 use Rattle.pg_explore.specs.Moments.{Progress, Sight}
 
 -- a mark mixed into a number of 64 bits

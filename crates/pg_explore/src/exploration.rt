@@ -11,7 +11,7 @@ use crate::fault::ExploreFault;
 use crate::moves::Limits;
 use crate::plan::Plan;
 use crate::visitor::Visitor;
-use pg_frame_world::Config;
+use pg_world_packets::Config;
 use std::alloc::{AllocError, Global};
 
 /// Meets the moments of a configuration, of whose nodes this is planned, by their places: each order in which packets

@@ -22,7 +22,7 @@ use crate::moves::{Limits, Move};
 use crate::number::number_of;
 use crate::plan::Plan;
 use crate::visitor::{Led, Visitor};
-use pg_frame_world::Config;
+use pg_world_packets::Config;
 use std::alloc::{AllocError, Global};
 
 /// How a moment was met: by a step that was made at the moment of an earlier place.

@@ -1,7 +1,7 @@
 //! Why an exploration ends early.
 
-use pg_frame_world::WorldFault;
-use pg_term::pg_faults::OUT_OF_MEMORY;
+use pg_term::faults::OUT_OF_MEMORY;
+use pg_world_packets::WorldFault;
 use std::alloc::{AllocError, AllocFailed};
 use thiserror::Error;
 

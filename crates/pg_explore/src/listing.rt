@@ -2,12 +2,12 @@
 
 ghost use Rattle.std.specs.Prelude.{◌≡◌, ◌≢◌, ◌<◌, ◌↔◌, [], true, false, IsTrue, IfOk, OnOk, length};
 ghost use Rattle.std.specs.List.{Contains};
-ghost use Rattle.pg_frame_world.specs.PgMachine.Places.{is_pair};
-ghost use Rattle.pg_frame_world.specs.PgStep.declared.command.OpId.{OpId};
-ghost use Rattle.pg_frame_world.specs.FrameWorlds.{lost_of, traffic_of};
-ghost use Rattle.pg_frame_world.specs.Losing.{seen_at};
-ghost use Rattle.pg_frame_world.specs.PgAccount.Losses.{is_lost};
-ghost use Rattle.pg_frame_world.specs.Views.{on_the_way};
+ghost use Rattle.pg_world_packets.specs.PgStep.Machines.Places.{is_pair};
+ghost use Rattle.pg_world_packets.specs.PgStep.declared.command.OpId.{OpId};
+ghost use Rattle.pg_world_packets.specs.FrameWorlds.{lost_of, traffic_of};
+ghost use Rattle.pg_world_packets.specs.Losing.{seen_at};
+ghost use Rattle.pg_world_packets.specs.PgWorldAccount.Losses.{is_lost};
+ghost use Rattle.pg_world_packets.specs.Views.{on_the_way};
 ghost use Rattle.pg_explore.specs.Listings.{AddsOpen, IsAtNode, IsListed, IsMoveOfPeer, IsOfPeers};
 ghost use Rattle.pg_explore.specs.Listings.{IsPlannedOf, IsRetryOf, IsThere, MayRetry, sight_waits_at};
 ghost use Rattle.pg_explore.specs.Moments.{IsSized, sight_of};
@@ -17,7 +17,7 @@ use crate::moment::Moment;
 use crate::moves::{Limits, Move};
 use crate::plan::{Plan, Planned};
 use crate::strands::planned_next;
-use pg_frame_world::OpId;
+use pg_world_packets::OpId;
 use std::alloc::{AllocError, Global};
 
 /// The steps that can be made at a moment.

@@ -2,7 +2,7 @@
 
 ghost use Rattle.std.specs.Prelude.{◌≡◌, ◌<◌, ◌++◌, ◌∷◌, ◌↔◌, ◌≤◌, [], ℕ, IfOk, OnOk, get_or, length, map};
 ghost use Rattle.std.specs.List.{Contains};
-ghost use Rattle.pg_frame_world.specs.FrameWorlds.{traffic_of};
+ghost use Rattle.pg_world_packets.specs.FrameWorlds.{traffic_of};
 ghost use Rattle.pg_explore.specs.Listings.{ListsWanted, IsLossOf};
 ghost use Rattle.pg_explore.specs.Keeping.{AddsLonger, AreLonger, AreUpTo};
 ghost use Rattle.pg_explore.specs.Moments.{IsSized};

@@ -2,17 +2,17 @@
 
 ghost use Rattle.std.specs.Prelude.{◌≡◌, Some, IfOk, map};
 ghost use Rattle.std.specs.Option.{option_copied};
-ghost use Rattle.pg_frame_world.specs.FrameWorlds.{view_of, lost_of, given_of};
+ghost use Rattle.pg_world_packets.specs.FrameWorlds.{view_of, lost_of, given_of};
 ghost use Rattle.pg_explore.specs.Moments.{progress_of};
-ghost use Rattle.pg_frame_world.specs.PgStep.Step.{Retry as tried_again};
-ghost use Rattle.pg_frame_world.specs.Losing.{told_take, told_own, told_sight};
+ghost use Rattle.pg_world_packets.specs.PgStep.Step.{Retry as tried_again};
+ghost use Rattle.pg_world_packets.specs.Losing.{told_take, told_own, told_sight};
 ghost use Rattle.pg_explore.specs.Moves.{IsOutcome, Makes, MakesLoss, MakesPlanned, MakesStep, MakesTold};
 
 use crate::moves::Move;
 use crate::plan::{Plan, Planned};
 use crate::strand::Strand;
 use crate::strands::planned_next;
-use pg_frame_world::{FrameStep, FrameWorld, IndexTable, NodeFault, OpId, Stepped};
+use pg_world_packets::{FrameStep, FrameWorld, IndexTable, NodeFault, OpId, Stepped};
 use std::alloc::{AllocError, Global};
 
 /// Makes a step of a world, where the plans have come so far; whether it happened.

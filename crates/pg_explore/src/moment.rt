@@ -2,7 +2,7 @@
 
 ghost use Rattle.std.specs.Prelude.{◌≡◌, ◌↔◌, IsTrue, IfOk, IfErr, map};
 ghost use Rattle.std.specs.Option.{ForSome};
-ghost use Rattle.pg_frame_world.specs.FrameWorlds.{view_of, lost_of, given_of};
+ghost use Rattle.pg_world_packets.specs.FrameWorlds.{view_of, lost_of, given_of};
 ghost use Rattle.pg_explore.specs.Faults.{CantExplore};
 ghost use Rattle.pg_explore.specs.Moments.{AreAlike, IsFirst, IsMomentOf, progress_after, progress_of, sight_of};
 ghost use Rattle.pg_explore.specs.Moves.{ComesOf, ComesFrom};
@@ -13,7 +13,7 @@ use crate::moves::Move;
 use crate::plan::Plan;
 use crate::strand::Strand;
 use crate::strands::{idle_strands, same_strands, strands_after};
-use pg_frame_world::{Config, FrameWorld, IndexTable};
+use pg_world_packets::{Config, FrameWorld, IndexTable};
 use std::alloc::{AllocError, Global};
 
 /// A moment of a run: the world, and how far the plan of each node has come, by the places of the nodes.

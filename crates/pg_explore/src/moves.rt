@@ -2,8 +2,8 @@
 
 ghost use Rattle.std.specs.Prelude.{◌≡◌, IfOk};
 
-use pg_frame_world::OpId;
 use pg_term::Items;
+use pg_world_packets::OpId;
 use std::alloc::{AllocError, Global};
 
 /// How far an exploration goes.

@@ -2,10 +2,10 @@
 
 ghost use Rattle.std.specs.Prelude.{◌≡◌, ◌<◌, [], fold, get_or, length, map};
 ghost use Rattle.std.specs.Option.{option_copied, option_map_or};
-ghost use Rattle.pg_frame_world.specs.PgSends.Sent.{stamped_of};
-ghost use Rattle.pg_frame_world.specs.Alike.{without_clock, without_stamps};
-ghost use Rattle.pg_frame_world.specs.PgStarts.Seen.{seen_of};
-ghost use Rattle.pg_frame_world.specs.FrameWorlds.{traffic_of};
+ghost use Rattle.pg_world_packets.specs.PgNodeSends.Sent.{stamped_of};
+ghost use Rattle.pg_world_packets.specs.Alike.{without_clock, without_stamps};
+ghost use Rattle.pg_world_packets.specs.PgWorldConfig.Seen.{seen_of};
+ghost use Rattle.pg_world_packets.specs.FrameWorlds.{traffic_of};
 ghost use Rattle.pg_explore.specs.Moments.{IsSized, progress_of, sight_of};
 ghost use Rattle.pg_explore.specs.Numbers.{answer_count, kind_number, mixed, mixed_message, mixed_node};
 ghost use Rattle.pg_explore.specs.Numbers.{mixed_progress, mixed_row, mixed_way, number_in, unstamped_of};
@@ -13,7 +13,7 @@ ghost use Rattle.pg_explore.specs.Numbers.{mixed_progress, mixed_row, mixed_way,
 use crate::moment::Moment;
 use crate::strand::Strand;
 use crate::ways::way;
-use pg_frame_world::{IndexTable, Message, NodeState, Packet, Request, Update};
+use pg_world_packets::{IndexTable, Message, NodeState, Packet, Request, Update};
 use std::collections::VecDeque;
 
 /// The number of a moment. It takes no memory.

@@ -1,6 +1,6 @@
 //! What comes in at a node.
 
-use pg_frame_world::FrameStep;
+use pg_world_packets::FrameStep;
 
 /// What comes in at a node at its place among all that comes in there.
 #[derive(Debug, Drop)]

@@ -1,13 +1,13 @@
 //! What is on the way from a node.
 
 ghost use Rattle.std.specs.Prelude.{◌≡◌, ◌≢◌, ◌<◌, ◌≤◌, ◌+◌, ◌^◌, [], get_or, length, map};
-ghost use Rattle.pg_frame_world.specs.Views.{peer_place};
-ghost use Rattle.pg_frame_world.specs.PgSends.Sent.{stamped_of};
-ghost use Rattle.pg_frame_world.specs.FrameWorlds.{traffic_of};
+ghost use Rattle.pg_world_packets.specs.Views.{peer_place};
+ghost use Rattle.pg_world_packets.specs.PgNodeSends.Sent.{stamped_of};
+ghost use Rattle.pg_world_packets.specs.FrameWorlds.{traffic_of};
 ghost use Rattle.pg_explore.specs.Moments.{IsSized};
 
 use crate::moment::Moment;
-use pg_frame_world::Packet;
+use pg_world_packets::Packet;
 use std::collections::VecDeque;
 
 /// The packets on the way from a node to its peer at a place, which are the other nodes in their order. It takes no memory.

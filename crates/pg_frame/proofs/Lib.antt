@@ -1,6 +1,6 @@
-pub mod Fronts
 pub mod Bodies
-pub mod Readings
 mod Cut
+pub mod Fronts
 mod Moved
 mod Read
+pub mod Readings

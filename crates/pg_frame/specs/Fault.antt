@@ -1,6 +1,6 @@
 -- The faults' place in the one list of faults.
 use Rattle.std.specs.Prelude.{ℕ}
-use Rattle.pg_faults.specs.declared.TheConstants.{OUT_OF_MEMORY, TOO_LONG}
+use Rattle.pg_term.specs.declared.faults.TheConstants.{OUT_OF_MEMORY, TOO_LONG}
 use Rattle.pg_frame.specs.declared.fault.FrameFault.{FrameFault}
 use Rattle.pg_frame.specs.declared.fault.FrameFault.TheVariants.{OutOfMemory, TooLong}
 

@@ -1,6 +1,6 @@
 ghost use Rattle.std.specs.Prelude.{◌≡◌};
 
-use pg_faults::{OUT_OF_MEMORY, TOO_LONG};
+use pg_term::faults::{OUT_OF_MEMORY, TOO_LONG};
 use std::alloc::AllocError;
 use thiserror::Error;
 

@@ -1,9 +1,9 @@
 pub mod Changes
 pub mod Copies
 pub mod Drops
-pub mod EndedSets
 pub mod EndedCopies
 pub mod EndedListed
+pub mod EndedSets
 pub mod EndedWithin
 pub mod Exchanges
 pub mod Groups

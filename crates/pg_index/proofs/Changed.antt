@@ -13,8 +13,8 @@ use Rattle.pg_group.specs.Functions.{upd}
 use Rattle.pg_group.specs.Value.{Counts, greater, told, with_one_more}
 use Rattle.pg_group.proofs.Changes.{upd_from, upd_same, upd_at, upd_other, upd_twice}
 use Rattle.pg_group.proofs.Merges.{raised, between_so_far}
-use Rattle.pg_members.specs.declared.row.Row.{Row}
-use Rattle.pg_members.specs.Rows.{counts_of}
+use Rattle.pg_index_members.specs.declared.row.Row.{Row}
+use Rattle.pg_index_members.specs.Rows.{counts_of}
 use Rattle.pg_index.specs.Groups.{Numbered, is_used, counts_changed, IsPartlyRaised}
 use Rattle.pg_index.specs.Listings.{listed_as, ListsByMember}
 use Rattle.pg_index.proofs.Numbers.{number_is, number_itself}

@@ -18,7 +18,7 @@ use Rattle.pg_term.specs.Same.{same_term, atom_cmp}
 use Rattle.pg_term.specs.contracts.term.TermEq.TheImpl.Laws as term_laws
 use Rattle.pg_term.specs.contracts.atom.AtomEq.TheImpl.Laws as atom_laws
 use Rattle.pg_group.specs.Table.{AreNames}
-use Rattle.pg_members.specs.declared.row.Row.{Row}
+use Rattle.pg_index_members.specs.declared.row.Row.{Row}
 use Rattle.pg_index.specs.declared.listing.Listing.{Listing}
 use Rattle.pg_index.specs.Groups.{Numbered, counts_at, counts_by_number, is_used}
 use Rattle.pg_index.specs.Index.{Numbers, number_of, contents_of}

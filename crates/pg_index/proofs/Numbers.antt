@@ -14,8 +14,8 @@ use Rattle.pg_group.specs.Functions.{upd}
 use Rattle.pg_group.specs.Value.{Value, Counts, nobody}
 use Rattle.pg_group.specs.Scope.{at_node}
 use Rattle.pg_group.proofs.Changes.{upd_from, upd_same}
-use Rattle.pg_members.specs.declared.row.Row.{Row}
-use Rattle.pg_members.specs.Rows.{counts_of}
+use Rattle.pg_index_members.specs.declared.row.Row.{Row}
+use Rattle.pg_index_members.specs.Rows.{counts_of}
 use Rattle.pg_index.specs.Groups.{counts_at, counts_by_number, without_node}
 
 pub number_is : (m n : ℕ) → nat_eq m n ≡ true → m ≡ n

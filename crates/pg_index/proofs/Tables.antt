@@ -18,8 +18,8 @@ use Rattle.pg_group.specs.Scope.{at_node}
 use Rattle.pg_group.specs.Table.{Table, without, merged, PartlyMerged}
 use Rattle.pg_group.specs.Table as tables
 use Rattle.pg_group.proofs.Changes.{upd_from, upd_same, upd_at, upd_other, upd_twice}
-use Rattle.pg_members.specs.declared.row.Row.{Row}
-use Rattle.pg_members.specs.Rows.{counts_of}
+use Rattle.pg_index_members.specs.declared.row.Row.{Row}
+use Rattle.pg_index_members.specs.Rows.{counts_of}
 use Rattle.pg_index.specs.Groups.{Numbered, counts_at, counts_changed, counts_raised}
 use Rattle.pg_index.specs.Groups.{without_pid, without_nodes, IsPartlyRaised}
 use Rattle.pg_index.specs.Listings.{listed_as}

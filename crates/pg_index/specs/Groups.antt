@@ -6,8 +6,8 @@ use Rattle.pg_term.specs.Same.{same_pid}
 use Rattle.pg_group.specs.Functions.{upd}
 use Rattle.pg_group.specs.Value.{Counts, nobody, greater, told, IsBetween}
 use Rattle.pg_group.specs.Scope.{at_node}
-use Rattle.pg_members.specs.declared.row.Row.{Row}
-use Rattle.pg_members.specs.Rows.{counts_of}
+use Rattle.pg_index_members.specs.declared.row.Row.{Row}
+use Rattle.pg_index_members.specs.Rows.{counts_of}
 
 -- the counts of each group, by its number
 abbrev pub Numbered : Type 0

@@ -1,4 +1,4 @@
-pub mod Listings
 pub mod Groups
 pub mod Grown
 pub mod Index
+pub mod Listings

@@ -5,7 +5,7 @@ ghost use Rattle.pg_group.specs.Value.{with_one_less};
 ghost use Rattle.pg_index.specs.Groups.{counts_by_number, is_used, counts_changed, without_node};
 ghost use Rattle.pg_group.specs.Table.{LacksRoom};
 
-use pg_members::Members;
+use pg_index_members::Members;
 use pg_term::{Atom, Pid};
 use slab::Slab;
 use std::alloc::AllocError;

@@ -14,7 +14,7 @@ ghost use Rattle.pg_index.specs.declared.memberships.Memberships.{Memberships};
 use crate::memberships::Memberships;
 use indexmap::IndexMap;
 use pg_group::{Ended, GroupTable, Scope, Update};
-use pg_members::Members;
+use pg_index_members::Members;
 use pg_term::{Atom, Items, Pid, Term};
 use std::alloc::{AllocError, Global};
 

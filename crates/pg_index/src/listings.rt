@@ -3,14 +3,14 @@ ghost use Rattle.std.specs.BTreeSet.{contains};
 ghost use Rattle.pg_term.specs.declared.pid.Pid.{Pid};
 ghost use Rattle.pg_term.specs.Same.{same_pid};
 ghost use Rattle.pg_group.specs.Scope.{at_node};
-ghost use Rattle.pg_members.specs.Rows.{counts_of};
+ghost use Rattle.pg_index_members.specs.Rows.{counts_of};
 ghost use Rattle.pg_index.specs.Groups.{counts_by_number, is_used, without_pid, without_nodes};
 ghost use Rattle.pg_index.specs.Listings.{process_of, listing_of, listing_cmp, listed_in};
 ghost use Rattle.pg_index.specs.Listings.{listed_as, IsFirstListing, AreGroupsOf, ListsByMember};
 
 use crate::groups::{self, Groups};
 use crate::listing::{Listing, Process};
-use pg_members::Members;
+use pg_index_members::Members;
 use pg_term::{Atom, Pid};
 use std::alloc::{AllocError, Global};
 use std::collections::{BTreeMap, BTreeSet};

@@ -12,7 +12,7 @@ ghost use Rattle.pg_index.specs.Listings.{listed_in, ListsByMember};
 use crate::groups::{self, Groups};
 use crate::listings::{self, Listings};
 use pg_group::Ended;
-use pg_members::Members;
+use pg_index_members::Members;
 use pg_term::{Atom, Pid};
 use slab::Slab;
 use std::alloc::{AllocError, Global};

@@ -1,28 +1,14 @@
-//! Packets: what nodes say to each other, as terms and as bytes.
+//! Packets, as users know them: what they are (pg_message_types), read from bodies (pg_message_reader) and written (pg_message_writer).
 //!
-//! `check_name(&name)?` tests the name of a group. Begin with `src/message.rt`, which has each message, and then `specs/Writing.antt`, its
-//! term.
+//! `read_packet(alloc, body)?` gives the packet that a body spells, and `write_packet(alloc, &packet)?` its bytes. All is in these three.
 #![tactic(auto)]
 
-mod fault;
-mod groups;
-mod laws;
-mod message;
-mod name;
-mod packet;
-
-pub use fault::MessageFault;
-pub use groups::{are_named_once, are_told_once};
-pub use laws::read_back;
-pub use message::{Message, Request, Said};
-pub use name::{MAX_NAME_DEPTH, MAX_NAME_LEN, check_name, is_name, name_len};
-pub use packet::{MAX_STAMP, Packet};
-pub use pg_group::{Ended, GroupTable, RowTable, Scope, Update};
-pub use pg_term_io::{
-    Kind, MAX_LEN, NextElement, check_term, decode, decode_item, kind_at, next_element, skip_item,
-    tuple_at,
+pub use pg_message_reader::{OwnReply, read_own_reply, read_packet};
+pub use pg_message_types::{
+    MAX_NAME_DEPTH, MAX_NAME_LEN, MAX_STAMP, Message, MessageFault, Packet, Request, Said,
+    are_named_once, are_told_once, check_name, is_name, name_len, read_back,
 };
-pub use pg_term_writer::{
-    atom_len, encode, encode_into, encode_len, int_len, list_head_len, pid_len, put_atom, put_int,
-    put_item, put_list_head, put_pid, put_reference, reference_len,
+pub use pg_message_writer::{
+    Asked, MAX_SMALL_LEN, Mark, packet_len, write_call_into, write_del_lock_into, write_down_into,
+    write_packet, write_packet_into, write_reply_into,
 };

@@ -2,22 +2,22 @@
 use Rattle.std.proofs.Common.{◌≡◌, ◌<◌, ◌+◌, inl, inr, ℕ, zero, suc, Bool, true, false, cond}
 use Rattle.std.proofs.Common.{nat_lt, List, [], ◌∷◌, ◌++◌, length, Result, Ok, Err, refl, ap, arith}
 use Rattle.std.specs.Prelude.{IfOk, OnOk}
-use Rattle.pg_replica.specs.PgGroup.Table.{Table}
-use Rattle.pg_replica.specs.PgTermIo.declared.limits.TheConstants.{MAX_LEN}
-use Rattle.pg_replica.specs.PgTermIo.Writing.{written}
+use Rattle.pg_node_state.specs.PgGroup.Table.{Table}
+use Rattle.pg_node_state.specs.PgTermIo.declared.limits.TheConstants.{MAX_LEN}
+use Rattle.pg_node_state.specs.PgTermIo.Writing.{written}
 use Rattle.pg_term.specs.declared.fault.TermFault.TheVariants as term
-use Rattle.pg_replica.specs.PgMessage.declared.fault.MessageFault.{MessageFault}
-use Rattle.pg_replica.specs.PgMessage.declared.fault.MessageFault.TheVariants.{Term, NotAMessage, StampTooLarge, NameTooLarge}
-use Rattle.pg_replica.specs.PgMessage.declared.packet.Packet.{Packet}
-use Rattle.pg_replica.specs.PgMessage.Fault.{Fails}
-use Rattle.pg_replica.specs.PgMessage.Reading.{packet_of}
-use Rattle.pg_replica.specs.PgMessage.Writing.{body_of, length_of, sent, term_of_packet}
-use Rattle.pg_replica.specs.PgStep.Nodes.{Node}
+use Rattle.pg_node_state.specs.PgMessageTypes.declared.fault.MessageFault.{MessageFault}
+use Rattle.pg_node_state.specs.PgMessageTypes.declared.fault.MessageFault.TheVariants.{Term, NotAMessage, StampTooLarge, NameTooLarge}
+use Rattle.pg_node_state.specs.PgMessageTypes.declared.packet.Packet.{Packet}
+use Rattle.pg_node_state.specs.PgMessageTypes.Fault.{Fails}
+use Rattle.pg_node_state.specs.PgMessageTypes.Reading.{packet_of}
+use Rattle.pg_node_state.specs.PgMessageTypes.Writing.{body_of, length_of, sent, term_of_packet}
+use Rattle.pg_node_state.specs.PgStep.Nodes.{Node}
 use Rattle.pg_node.specs.declared.node.wire.Wire.{Wire}
-use Rattle.pg_replica.specs.PgNodeState.NodeFault.{from_message}
+use Rattle.pg_node_state.specs.NodeFault.{from_message}
 use Rattle.pg_node.specs.Begun.{BeginsLinked, IsOpened, CantOpen}
 use Rattle.pg_node.specs.Links.{Link, link_of, links_in}
-use Rattle.pg_replica.specs.PgSends.Opening.{IsAnnouncement}
+use Rattle.pg_node_state.specs.PgNodeSends.Opening.{IsAnnouncement}
 
 -- what can't be written, by the fault of the writer
 pub cant_write : (packet : Packet) (fault : MessageFault) → Fails fault (body_of packet) → CantOpen packet (from_message fault)

@@ -4,31 +4,31 @@ use Rattle.std.proofs.Common.{get_or, Option, Some, None, Result, Ok, Err, refl,
 use Rattle.std.specs.Prelude.{◌↔◌, if◌then◌else◌, slice_set}
 use Rattle.std.proofs.Math.Path.{fun_ext}
 use Rattle.std.proofs.lemmas.Bool.{eqb-true}
-use Rattle.pg_replica.specs.PgFrame.declared.fault.TooLong as frame
-use Rattle.pg_replica.specs.PgFrame.Frames.{front_of}
-use Rattle.pg_replica.specs.PgGroup.Functions.{upd}
-use Rattle.pg_replica.specs.PgMachine.Clocked.{Timed}
-use Rattle.pg_replica.specs.PgMessage.declared.fault.MessageFault.{MessageFault}
-use Rattle.pg_replica.specs.PgMessage.declared.packet.Packet.{Packet}
-use Rattle.pg_replica.specs.PgMessage.Reading.{packet_spelled}
-use Rattle.pg_replica.specs.PgStep.declared.answer.Answer.{Answer}
-use Rattle.pg_replica.specs.PgStep.declared.refusal.Refusal.{Refusal}
-use Rattle.pg_replica.specs.PgStep.declared.refusal.Refusal.TheVariants.{NodeLost}
-use Rattle.pg_replica.specs.PgStep.Nodes.{Node as Name, Nodes}
-use Rattle.pg_replica.specs.PgStep.State.{State}
-use Rattle.pg_replica.specs.PgStep.Step.{TimedTurn, step_take}
+use Rattle.pg_node_state.specs.PgFrame.declared.fault.TooLong as frame
+use Rattle.pg_node_state.specs.PgFrame.Frames.{front_of}
+use Rattle.pg_node_state.specs.PgGroup.Functions.{upd}
+use Rattle.pg_node_state.specs.PgStep.Machines.Clocked.{Timed}
+use Rattle.pg_node_state.specs.PgMessageTypes.declared.fault.MessageFault.{MessageFault}
+use Rattle.pg_node_state.specs.PgMessageTypes.declared.packet.Packet.{Packet}
+use Rattle.pg_node_state.specs.PgMessageTypes.Reading.{packet_spelled}
+use Rattle.pg_node_state.specs.PgStep.declared.answer.Answer.{Answer}
+use Rattle.pg_node_state.specs.PgStep.declared.refusal.Refusal.{Refusal}
+use Rattle.pg_node_state.specs.PgStep.declared.refusal.Refusal.TheVariants.{NodeLost}
+use Rattle.pg_node_state.specs.PgStep.Nodes.{Node as Name, Nodes}
+use Rattle.pg_node_state.specs.PgStep.State.{State}
+use Rattle.pg_node_state.specs.PgStep.Step.{TimedTurn, step_take}
 use Rattle.pg_node.specs.declared.node.wire.Wire.{Wire}
-use Rattle.pg_replica.specs.PgSends.Dones.{FramedDone}
-use Rattle.pg_replica.specs.PgNodeState.declared.state.fault.NodeFault.{NodeFault}
-use Rattle.pg_replica.specs.PgNodeState.declared.state.fault.NodeFault.TheVariants.{Refused, OutOfMemory}
-use Rattle.pg_replica.specs.PgNodeState.declared.state.fault.NodeFault.TheVariants.{Message, TooLong, Damaged}
+use Rattle.pg_node_state.specs.PgNodeSends.Dones.{FramedDone}
+use Rattle.pg_node_state.specs.declared.state.fault.NodeFault.{NodeFault}
+use Rattle.pg_node_state.specs.declared.state.fault.NodeFault.TheVariants.{Refused, OutOfMemory}
+use Rattle.pg_node_state.specs.declared.state.fault.NodeFault.TheVariants.{Message, TooLong, Damaged}
 use Rattle.pg_node.specs.Bytes.{ReadsNext, next_packet, packet_at, packet_in, damages, marked, passed, is_none, is_idle}
-use Rattle.pg_replica.specs.PgSends.Frames.{frames_to}
+use Rattle.pg_node_state.specs.PgNodeSends.Frames.{frames_to}
 use Rattle.pg_node.specs.Links.{Link, link_of, links_in, at_link, with_more}
 use Rattle.pg_node.specs.Nodes.{read_next, taken_as, taken_of, step_link, TakesNext, ComesInRoom, sent_out}
-use Rattle.pg_replica.specs.PgNodeState.States.{Comes}
-use Rattle.pg_replica.specs.PgSends.Sent.{stamped_of}
-use Rattle.pg_replica.proofs.PgOpens.Named.{clash}
+use Rattle.pg_node_state.specs.States.{Comes}
+use Rattle.pg_node_state.specs.PgNodeSends.Sent.{stamped_of}
+use Rattle.pg_node_state.proofs.PgNodeOpens.Named.{clash}
 use Rattle.pg_node.proofs.Linked.{one_link}
 
 -- a fault that damages nothing marks nothing

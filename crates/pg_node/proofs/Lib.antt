@@ -1,5 +1,8 @@
 pub mod Begun
 pub mod Events
 pub mod Linked
-pub use Rattle.pg_replica.proofs.PgFrame
-pub use Rattle.pg_replica.proofs as PgReplica
+pub mod Replicas
+pub use Rattle.pg_node_state.proofs.PgFrame
+pub use Rattle.pg_node_state.proofs as PgNodeState
+pub use Rattle.pg_node_state.proofs.PgNodeOpens
+pub use Rattle.pg_node_state.proofs.PgNodeSends

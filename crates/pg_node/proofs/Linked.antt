@@ -8,24 +8,24 @@ use Rattle.std.proofs.Math.Path.{fun_ext}
 use Rattle.std.proofs.Math.Dec.{eqb-zero-suc, eqb-suc-zero, eqb-suc-suc}
 use Rattle.std.proofs.lemmas.Bool.{eqb-true, eq-eqb, ne_eqb}
 use Rattle.std.proofs.lemmas.List.{length-set}
-use Rattle.pg_replica.specs.PgGroup.Functions.{upd}
-use Rattle.pg_replica.specs.PgMessage.declared.packet.Packet.{Packet}
-use Rattle.pg_replica.specs.PgMulticall.Places.{has_of}
-use Rattle.pg_replica.specs.PgMulticall.declared.places.Places.{Places}
-use Rattle.pg_replica.specs.PgWriter.declared.size.TheConstants.{MAX_SMALL_LEN}
-use Rattle.pg_replica.specs.PgWriter.Frames.{frame_of}
+use Rattle.pg_node_state.specs.PgGroup.Functions.{upd}
+use Rattle.pg_node_state.specs.PgMessageTypes.declared.packet.Packet.{Packet}
+use Rattle.pg_node_state.specs.PgMulticall.Places.{has_of}
+use Rattle.pg_node_state.specs.PgMulticall.declared.places.Places.{Places}
+use Rattle.pg_node_state.specs.PgMessageWriter.declared.size.TheConstants.{MAX_SMALL_LEN}
+use Rattle.pg_node_state.specs.PgMessageWriter.Frames.{frame_of}
 use Rattle.pg_node.specs.declared.node.wire.Wire.{Wire}
-use Rattle.pg_replica.specs.PgSends.declared.framed.Framed.{Framed}
-use Rattle.pg_replica.specs.PgSends.declared.goes.Goes.{Goes}
-use Rattle.pg_replica.specs.PgSends.declared.goes.Goes.TheVariants.{Nobody, One, Marked}
-use Rattle.pg_replica.specs.PgSends.Framed.{listed_of}
-use Rattle.pg_replica.specs.PgSends.Frames.{frames_to, IsSmallFrame, AreSmallFrames, IsFrame}
-use Rattle.pg_replica.specs.PgSends.Going.{going, goes_out}
-use Rattle.pg_replica.specs.PgSends.Marked.{marks_of, sent_below}
-use Rattle.pg_replica.specs.PgSends.Sendable.{FitLinks, IsSendable}
-use Rattle.pg_replica.proofs.PgSends.FrameLaws.{listed_nobody, packet_framed}
-use Rattle.pg_replica.proofs.PgSends.Sendables.{below_has, each_below}
-use Rattle.pg_replica.proofs.PgSends.Sent.{mark_at, sent_more}
+use Rattle.pg_node_state.specs.PgNodeSends.declared.framed.Framed.{Framed}
+use Rattle.pg_node_state.specs.PgNodeSends.declared.goes.Goes.{Goes}
+use Rattle.pg_node_state.specs.PgNodeSends.declared.goes.Goes.TheVariants.{Nobody, One, Marked}
+use Rattle.pg_node_state.specs.PgNodeSends.Framed.{listed_of}
+use Rattle.pg_node_state.specs.PgNodeSends.Frames.{frames_to, IsSmallFrame, AreSmallFrames, IsFrame}
+use Rattle.pg_node_state.specs.PgNodeSends.Going.{going, goes_out}
+use Rattle.pg_node_state.specs.PgNodeSends.Marked.{marks_of, sent_below}
+use Rattle.pg_node_state.specs.PgNodeSends.Sendable.{FitLinks, IsSendable}
+use Rattle.pg_node_state.proofs.PgNodeSends.FrameLaws.{listed_nobody, packet_framed}
+use Rattle.pg_node_state.proofs.PgNodeSends.Sendables.{below_has, each_below}
+use Rattle.pg_node_state.proofs.PgNodeSends.Sent.{mark_at, sent_more}
 use Rattle.pg_node.specs.Links.{Link, link_of, idle_link, part_in, links_in}
 use Rattle.pg_node.specs.Links.{at_link, room_in, with_more, HasFrameRoom, HaveFrameRoom}
 

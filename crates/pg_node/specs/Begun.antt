@@ -1,17 +1,17 @@
 -- How a node over bytes begins.
 use Rattle.std.specs.Prelude.{◌≡◌, ◌⊎◌, ◌<◌, ℕ, Ok, Err}
-use Rattle.pg_replica.specs.PgGroup.Table.{Table}
-use Rattle.pg_replica.specs.PgMessage.declared.fault.MessageFault.{MessageFault}
-use Rattle.pg_replica.specs.PgMessage.declared.packet.Packet.{Packet}
-use Rattle.pg_replica.specs.PgMessage.Reading.{packet_spelled}
-use Rattle.pg_replica.specs.PgMessage.Writing.{body_of, term_of_packet}
-use Rattle.pg_replica.specs.PgTermIo.Writing.{written}
-use Rattle.pg_replica.specs.PgStep.Nodes.{Node}
-use Rattle.pg_replica.specs.PgNodeState.declared.state.fault.NodeFault.{NodeFault}
-use Rattle.pg_replica.specs.PgNodeState.declared.state.fault.NodeFault.TheVariants.{OutOfMemory, Message}
-use Rattle.pg_replica.specs.PgWriter.Frames.{frame_of}
+use Rattle.pg_node_state.specs.PgGroup.Table.{Table}
+use Rattle.pg_node_state.specs.PgMessageTypes.declared.fault.MessageFault.{MessageFault}
+use Rattle.pg_node_state.specs.PgMessageTypes.declared.packet.Packet.{Packet}
+use Rattle.pg_node_state.specs.PgMessageTypes.Reading.{packet_spelled}
+use Rattle.pg_node_state.specs.PgMessageTypes.Writing.{body_of, term_of_packet}
+use Rattle.pg_node_state.specs.PgTermIo.Writing.{written}
+use Rattle.pg_node_state.specs.PgStep.Nodes.{Node}
+use Rattle.pg_node_state.specs.declared.state.fault.NodeFault.{NodeFault}
+use Rattle.pg_node_state.specs.declared.state.fault.NodeFault.TheVariants.{OutOfMemory, Message}
+use Rattle.pg_node_state.specs.PgMessageWriter.Frames.{frame_of}
 use Rattle.pg_node.specs.Links.{Link, idle_link, with_more}
-use Rattle.pg_replica.specs.PgSends.Opening.{IsAnnouncement}
+use Rattle.pg_node_state.specs.PgNodeSends.Opening.{IsAnnouncement}
 
 -- nothing came in, and the frame of a packet goes out, where it is read as it is
 pub record IsOpened (packet : Packet) (link : Link) : Type 0 where

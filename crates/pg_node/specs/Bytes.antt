@@ -1,15 +1,15 @@
 -- What a node takes of the bytes that came in.
 use Rattle.std.specs.Prelude.{◌≡◌, Bool, true, false, ◌||◌, ◌&&◌, not, ℕ, if◌then◌else◌}
 use Rattle.std.specs.Prelude.{List, [], Option, Some, None, Result, Ok, Err}
-use Rattle.pg_replica.specs.PgFrame.declared.fault.TooLong as frame
-use Rattle.pg_replica.specs.PgFrame.Frames.{front_of, after_front}
-use Rattle.pg_replica.specs.PgMessage.declared.fault.MessageFault.{MessageFault}
-use Rattle.pg_replica.specs.PgMessage.declared.packet.Packet.{Packet}
-use Rattle.pg_replica.specs.PgMessage.Reading.{packet_spelled}
-use Rattle.pg_replica.specs.PgStep.declared.refusal.Refusal.TheVariants.{NotAMessage}
-use Rattle.pg_replica.specs.PgNodeState.declared.state.fault.NodeFault.{NodeFault}
-use Rattle.pg_replica.specs.PgNodeState.declared.state.fault.NodeFault.TheVariants.{Refused, OutOfMemory}
-use Rattle.pg_replica.specs.PgNodeState.declared.state.fault.NodeFault.TheVariants.{Damaged, TooLong, Message}
+use Rattle.pg_node_state.specs.PgFrame.declared.fault.TooLong as frame
+use Rattle.pg_node_state.specs.PgFrame.Frames.{front_of, after_front}
+use Rattle.pg_node_state.specs.PgMessageTypes.declared.fault.MessageFault.{MessageFault}
+use Rattle.pg_node_state.specs.PgMessageTypes.declared.packet.Packet.{Packet}
+use Rattle.pg_node_state.specs.PgMessageTypes.Reading.{packet_spelled}
+use Rattle.pg_node_state.specs.PgStep.declared.refusal.Refusal.TheVariants.{NotAMessage}
+use Rattle.pg_node_state.specs.declared.state.fault.NodeFault.{NodeFault}
+use Rattle.pg_node_state.specs.declared.state.fault.NodeFault.TheVariants.{Refused, OutOfMemory}
+use Rattle.pg_node_state.specs.declared.state.fault.NodeFault.TheVariants.{Damaged, TooLong, Message}
 use Rattle.pg_node.specs.Links.{Link}
 
 -- the packet that a body spells

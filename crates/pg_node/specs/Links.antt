@@ -1,8 +1,8 @@
 -- The links of a node to its peers, by the places of the peers, and the frames that go out there.
 use Rattle.std.specs.Prelude.{◌≤◌, ◌+◌, ◌<◌, ℕ, zero, suc, nat_eq}
 use Rattle.std.specs.Prelude.{Bool, false, List, [], ◌∷◌, ◌++◌, length, drop}
-use Rattle.pg_replica.specs.PgGroup.Functions.{upd}
-use Rattle.pg_replica.specs.PgWriter.declared.size.TheConstants.{MAX_SMALL_LEN}
+use Rattle.pg_node_state.specs.PgGroup.Functions.{upd}
+use Rattle.pg_node_state.specs.PgMessageWriter.declared.size.TheConstants.{MAX_SMALL_LEN}
 use Rattle.pg_node.specs.declared.node.wire.Wire.{Wire}
 
 -- what stands in the link to a peer: the bytes that came in and were not taken, those that go out and were not put, and

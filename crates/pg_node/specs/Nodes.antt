@@ -1,26 +1,26 @@
 -- What a node over bytes is seen as, and what an event makes of it.
 use Rattle.std.specs.Prelude.{◌≡◌, ℕ, ◌+◌, Bool, cond, List, Option, Some, None, Result, Ok, Err}
 use Rattle.bytes.specs.Filled.{Filled}
-use Rattle.pg_replica.specs.PgGroup.declared.table.GroupTable.{Ghosts}
-use Rattle.pg_replica.specs.PgMachine.Clocked.{Timed}
-use Rattle.pg_replica.specs.PgMessage.declared.packet.Packet.{Packet}
-use Rattle.pg_replica.specs.PgOpens.Places.{name_at}
-use Rattle.pg_replica.specs.PgStep.declared.answer.Answer.{Answer}
-use Rattle.pg_replica.specs.PgStep.declared.refusal.Refusal.{Refusal}
-use Rattle.pg_replica.specs.PgStep.declared.refusal.Refusal.TheVariants.{NodeLost, NotDrained}
-use Rattle.pg_replica.specs.PgStep.Nodes.{Node as Name, Nodes}
-use Rattle.pg_replica.specs.PgStep.State.{State}
-use Rattle.pg_replica.specs.PgStep.Step.{TimedTurn, step_take}
+use Rattle.pg_node_state.specs.PgGroup.declared.table.GroupTable.{Ghosts}
+use Rattle.pg_node_state.specs.PgStep.Machines.Clocked.{Timed}
+use Rattle.pg_node_state.specs.PgMessageTypes.declared.packet.Packet.{Packet}
+use Rattle.pg_node_state.specs.PgNodeOpens.Places.{name_at}
+use Rattle.pg_node_state.specs.PgStep.declared.answer.Answer.{Answer}
+use Rattle.pg_node_state.specs.PgStep.declared.refusal.Refusal.{Refusal}
+use Rattle.pg_node_state.specs.PgStep.declared.refusal.Refusal.TheVariants.{NodeLost, NotDrained}
+use Rattle.pg_node_state.specs.PgStep.Nodes.{Node as Name, Nodes}
+use Rattle.pg_node_state.specs.PgStep.State.{State}
+use Rattle.pg_node_state.specs.PgStep.Step.{TimedTurn, step_take}
 use Rattle.pg_node.specs.declared.node.Node.{Node}
-use Rattle.pg_replica.specs.PgNodeState.declared.state.NodeState.{NodeState}
-use Rattle.pg_replica.specs.PgSends.Dones.{FramedDone}
-use Rattle.pg_replica.specs.PgNodeState.declared.state.fault.NodeFault.{NodeFault}
-use Rattle.pg_replica.specs.PgNodeState.declared.state.fault.NodeFault.TheVariants.{Refused, OutOfMemory, Message}
-use Rattle.pg_replica.specs.PgSends.Frames.{frames_to}
+use Rattle.pg_node_state.specs.declared.state.NodeState.{NodeState}
+use Rattle.pg_node_state.specs.PgNodeSends.Dones.{FramedDone}
+use Rattle.pg_node_state.specs.declared.state.fault.NodeFault.{NodeFault}
+use Rattle.pg_node_state.specs.declared.state.fault.NodeFault.TheVariants.{Refused, OutOfMemory, Message}
+use Rattle.pg_node_state.specs.PgNodeSends.Frames.{frames_to}
 use Rattle.pg_node.specs.Links.{Link, links_in, with_more}
 use Rattle.pg_node.specs.Bytes.{next_packet, is_drained}
-use Rattle.pg_replica.specs.PgNodeState.States.{names_of, kept_by, step_see_loss, Happens, Comes}
-use Rattle.pg_replica.specs.PgSends.Sent.{stamped_of}
+use Rattle.pg_node_state.specs.States.{names_of, kept_by, step_see_loss, Happens, Comes}
+use Rattle.pg_node_state.specs.PgNodeSends.Sent.{stamped_of}
 
 -- the node over packets
 abbrev pub held_by : {T : Type 0} {g : Ghosts T} → Node T g → NodeState T g

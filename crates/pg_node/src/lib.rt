@@ -1,16 +1,20 @@
-//! One node of a set over bytes. The crate hands on the node over packets (pg_node_state) and the replica that is fed a stream of
-//! frames (pg_replica), with what a node is told and answers.
+//! One node of a set over bytes, and the replica: one node with one peer, over a stream of frames. The crate hands on the node over
+//! packets (pg_node_state), with what a node is told and answers.
 //!
 //! `node.command(port, &command)?` gives a node a command, and `node.take(peer)?` has it take a packet. Begin with CALLING.md, then
-//! `src/node/events.rt`; docs/STEP.md says what each does.
+//! `src/node/events.rt`; docs/STEP.md says what each does. The replica begins in `src/replica.rt`.
 #![tactic(auto)]
 
 mod node;
+mod replica;
 
 pub use node::Node;
-pub use pg_replica::{
-    Answer, AnyReader, AnyWriter, Command, Done, Framed, Goes, GroupTable, Held, IndexTable,
-    Message, NodeConfig, NodeFault, NodeState, Odd, OpId, Outgoing, Packet, Refusal, Reply,
-    Request, Said, ServeFault, Sink, Source, encode, read_packet, serve,
+pub use pg_index::IndexTable;
+pub use pg_message_reader::{OwnReply, read_own_reply, read_packet};
+pub use pg_node_state::{
+    Answer, Command, Deframer, Done, Framed, Goes, GroupTable, Held, MAX_SMALL_LEN, Message,
+    NodeConfig, NodeFault, NodeState, Odd, OpId, Outgoing, Packet, Places, Refusal, Reply, Request,
+    Said, encode, packet_len, started, write_packet_into,
 };
 pub use pg_ring::{Inlet, Link, SlotIn, SlotOut, slot_pair, slots_together};
+pub use replica::{ServeFault, serve};

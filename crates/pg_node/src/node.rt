@@ -2,7 +2,7 @@
 
 ghost use Rattle.std.specs.Prelude.{◌≡◌, ◌+◌, true, length};
 ghost use Rattle.pg_node.specs.Links.{HaveFrameRoom};
-ghost use Rattle.pg_replica.specs.PgNodeState.States.{names_of as names_known};
+ghost use Rattle.pg_node_state.specs.States.{names_of as names_known};
 
 mod begun;
 mod events;
@@ -13,7 +13,7 @@ mod wires;
 
 use crate::node::wire::Wire;
 use bytes::BytesMut;
-use pg_replica::{GroupTable, NodeState};
+use pg_node_state::{GroupTable, NodeState};
 use std::alloc::Global;
 
 /// A node of a set over the bytes of its links.

@@ -2,14 +2,14 @@
 use Rattle.std.proofs.Common.{◌≡◌, ℕ, ◌+◌, ◌<◌, ◌≤◌, Bool, true, false, cond, nat_lt, nat_le, Ok, Err, ap, ◌∙◌, arith}
 use Rattle.std.proofs.lemmas.Bool.{le-leb}
 use Rattle.std.proofs.lemmas.Bool.Decides.{nat_tests}
-use Rattle.pg_ports.specs.PgMachine.Clocked.{Timed}
-use Rattle.pg_ports.specs.PgStep.declared.command.OpId.{OpId}
-use Rattle.pg_ports.specs.PgStep.Nodes.{Nodes}
-use Rattle.pg_ports.specs.PgStep.State.{State, live_nodes}
-use Rattle.pg_ports.specs.PgStep.Turns.{NodeTurn}
-use Rattle.pg_ports.specs.PgStep.Attempts.{waits, tried_again}
-use Rattle.pg_ports.specs.PgStep.Step.{CLOCK_LIMIT, Retry, at_clock, timed, step_act}
-use Rattle.pg_ports.specs.PgStep.declared.refusal.Refusal.TheVariants as refusal
+use Rattle.pg_node_ports.specs.PgStep.Machines.Clocked.{Timed}
+use Rattle.pg_node_ports.specs.PgStep.declared.command.OpId.{OpId}
+use Rattle.pg_node_ports.specs.PgStep.Nodes.{Nodes}
+use Rattle.pg_node_ports.specs.PgStep.State.{State, live_nodes}
+use Rattle.pg_node_ports.specs.PgStep.Turns.{NodeTurn}
+use Rattle.pg_node_ports.specs.PgStep.Attempts.{waits, tried_again}
+use Rattle.pg_node_ports.specs.PgStep.Step.{CLOCK_LIMIT, Retry, at_clock, timed, step_act}
+use Rattle.pg_node_ports.specs.PgStep.declared.refusal.Refusal.TheVariants as refusal
 
 is_below : (n m : ℕ) → n < m → nat_lt n m ≡ true
 is_below n m l = grind (arith, nat_tests)

@@ -5,23 +5,23 @@ use Rattle.std.specs.List.{list_any, list_all}
 use Rattle.std.proofs.Math.Path.{fun_ext}
 use Rattle.std.proofs.lemmas.Bool.{eq-eqb}
 use Rattle.pg_term.specs.Same.{same_atom}
-use Rattle.pg_ports.specs.PgGroup.declared.update.Update.{Update}
-use Rattle.pg_ports.specs.PgGroup.Functions.{upd}
-use Rattle.pg_ports.specs.PgGroup.Value.{name_of}
-use Rattle.pg_ports.specs.PgMessage.declared.message.Message.{Message}
-use Rattle.pg_ports.specs.PgStep.declared.command.OpId.{OpId}
-use Rattle.pg_ports.specs.PgStep.Nodes.{Node, Nodes, is_peer, every, to_peers}
-use Rattle.pg_ports.specs.PgStep.State.{State, Status, Use}
-use Rattle.pg_ports.specs.PgStep.State.Use.{Owning, Updating}
-use Rattle.pg_ports.specs.PgMachine.Clocked.{Timed}
-use Rattle.pg_ports.specs.PgStep.Turns.{NodeTurn, becomes, and_then}
-use Rattle.pg_ports.specs.PgMessage.declared.message.Message.TheVariants.{Call, DelLock}
-use Rattle.pg_ports.specs.PgMessage.declared.message.Request.TheVariants.{SetLock, Change}
-use Rattle.pg_ports.specs.PgOpens.Outlooks.{turn_by}
-use Rattle.pg_ports.specs.PgOpens.declared.outlook.Outlook.TheVariants.{Begin}
-use Rattle.pg_ports.specs.PgStep.Attempts.{ask, asks, begin, finish, replies_in, own_reference}
-use Rattle.pg_ports.proofs.PgOpens.Named.{atom_self, clash}
-use Rattle.pg_ports.proofs.PgGroup.Changes.{upd_at}
+use Rattle.pg_node_ports.specs.PgGroup.declared.update.Update.{Update}
+use Rattle.pg_node_ports.specs.PgGroup.Functions.{upd}
+use Rattle.pg_node_ports.specs.PgGroup.Value.{name_of}
+use Rattle.pg_node_ports.specs.PgMessageTypes.declared.message.Message.{Message}
+use Rattle.pg_node_ports.specs.PgStep.declared.command.OpId.{OpId}
+use Rattle.pg_node_ports.specs.PgStep.Nodes.{Node, Nodes, is_peer, every, to_peers}
+use Rattle.pg_node_ports.specs.PgStep.State.{State, Status, Use}
+use Rattle.pg_node_ports.specs.PgStep.State.Use.{Owning, Updating}
+use Rattle.pg_node_ports.specs.PgStep.Machines.Clocked.{Timed}
+use Rattle.pg_node_ports.specs.PgStep.Turns.{NodeTurn, becomes, and_then}
+use Rattle.pg_node_ports.specs.PgMessageTypes.declared.message.Message.TheVariants.{Call, DelLock}
+use Rattle.pg_node_ports.specs.PgMessageTypes.declared.message.Request.TheVariants.{SetLock, Change}
+use Rattle.pg_node_ports.specs.PgNodeOpens.Outlooks.{turn_by}
+use Rattle.pg_node_ports.specs.PgNodeOpens.declared.outlook.Outlook.TheVariants.{Begin}
+use Rattle.pg_node_ports.specs.PgStep.Attempts.{ask, asks, begin, finish, replies_in, own_reference}
+use Rattle.pg_node_ports.proofs.PgNodeOpens.Named.{atom_self, clash}
+use Rattle.pg_node_ports.proofs.PgGroup.Changes.{upd_at}
 
 pub no_peers : (m : Nodes) → ((q : Node) → is_peer m q ≡ false) → m.peers ≡ []
 no_peers m none = go m.peers none

@@ -1,10 +1,10 @@
 -- What a node sends as it begins.
 use Rattle.std.proofs.Common.{◌≡◌, Bool, false, not, cond, List, [], ◌∷◌, refl, ap, ◌∙◌}
 use Rattle.std.specs.List.{filter}
-use Rattle.pg_ports.specs.PgOpens.Places.{name_at}
-use Rattle.pg_ports.specs.PgOpens.declared.opens.Opens.{Opens}
-use Rattle.pg_ports.specs.PgOpens.Opens.{names_of, live_of, whole_of, lost_of}
-use Rattle.pg_ports.specs.PgStep.Nodes.{Node}
+use Rattle.pg_node_ports.specs.PgNodeOpens.Places.{name_at}
+use Rattle.pg_node_ports.specs.PgNodeOpens.declared.opens.Opens.{Opens}
+use Rattle.pg_node_ports.specs.PgNodeOpens.Opens.{names_of, live_of, whole_of, lost_of}
+use Rattle.pg_node_ports.specs.PgStep.Nodes.{Node}
 
 -- where no loss was seen every node counts
 all_kept : (lost : Node → Bool) (nodes : List Node) → lost ≡ (λ q. false) → filter (λ q. not (lost q)) nodes ≡ nodes

@@ -2,18 +2,18 @@
 use Rattle.std.proofs.Common.{◌≡◌, ◌<◌, ◌≤◌, ◌+◌, ℕ, Bool, true, false, cond, nat_eq}
 use Rattle.std.proofs.Common.{List, length, Option, Some, refl, sym, arith, subst}
 use Rattle.std.proofs.lemmas.Bool.{eqb-true, eq-eqb}
-use Rattle.pg_ports.specs.PgGroup.Functions.{upd}
-use Rattle.pg_ports.specs.PgGroup.declared.update.Update.{Update}
-use Rattle.pg_ports.specs.PgGroup.Value.{name_of}
-use Rattle.pg_ports.specs.PgMessage.Name.{is_name}
-use Rattle.pg_ports.specs.PgStep.declared.command.OpId.{OpId}
-use Rattle.pg_ports.specs.PgStep.State.{Use, Stage}
-use Rattle.pg_ports.specs.PgStep.State.Stage.{Closed, Waiting, Asking, Changing}
-use Rattle.pg_ports.specs.PgOpens.Readings.{stage_seen, is_closed}
-use Rattle.pg_ports.specs.declared.port.Port.{Port}
-use Rattle.pg_ports.specs.Ports.{counted_at}
+use Rattle.pg_node_ports.specs.PgGroup.Functions.{upd}
+use Rattle.pg_node_ports.specs.PgGroup.declared.update.Update.{Update}
+use Rattle.pg_node_ports.specs.PgGroup.Value.{name_of}
+use Rattle.pg_node_ports.specs.PgMessageTypes.Name.{is_name}
+use Rattle.pg_node_ports.specs.PgStep.declared.command.OpId.{OpId}
+use Rattle.pg_node_ports.specs.PgStep.State.{Use, Stage}
+use Rattle.pg_node_ports.specs.PgStep.State.Stage.{Closed, Waiting, Asking, Changing}
+use Rattle.pg_node_ports.specs.PgNodeOpens.Readings.{stage_seen, is_closed}
+use Rattle.pg_node_ports.specs.declared.port.Port.{Port}
+use Rattle.pg_node_ports.specs.Ports.{counted_at}
 use Rattle.pg_node_state.specs.Ports.{CameIn, AreGiven}
-use Rattle.pg_ports.specs.Ports.{port_commands}
+use Rattle.pg_node_ports.specs.Ports.{port_commands}
 use Rattle.pg_node_state.proofs.Given.{given_more}
 
 count_more : (counts : ℕ → ℕ) (k port : ℕ) → counts port ≤ counted_at k counts port

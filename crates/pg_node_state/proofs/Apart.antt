@@ -12,9 +12,9 @@ use Rattle.pg_term.specs.declared.pid.Pid.{Pid}
 use Rattle.pg_term.specs.declared.term.Term.{Term}
 use Rattle.pg_term.specs.Fault.{Gives, checked_atom}
 use Rattle.pg_term.specs.Same.{same_atom}
-use Rattle.pg_ports.specs.PgGroup.Table.{Table}
-use Rattle.pg_ports.specs.PgGroup.Value.{count_in}
-use Rattle.pg_ports.specs.PgStep.Nodes.{Node}
+use Rattle.pg_node_ports.specs.PgGroup.Table.{Table}
+use Rattle.pg_node_ports.specs.PgGroup.Value.{count_in}
+use Rattle.pg_node_ports.specs.PgStep.Nodes.{Node}
 
 -- ---- names
 

@@ -10,30 +10,30 @@ use Rattle.pg_term.specs.RefParts.{RefParts, ref_eq}
 use Rattle.pg_term.specs.Same.{same_atom, same_term}
 use Rattle.pg_term.proofs.Same.{same_term as term_is}
 use Rattle.pg_term.specs.contracts.term.TermEq.TheImpl.Laws as term_laws
-use Rattle.pg_ports.specs.PgGroup.declared.update.Update.{Update}
-use Rattle.pg_ports.specs.PgGroup.Functions.{upd}
-use Rattle.pg_ports.specs.PgGroup.Value.{name_of}
-use Rattle.pg_ports.specs.PgLock.Attempts.{after_round, does_wait}
-use Rattle.pg_ports.specs.PgLock.declared.attempt.Attempt.TheVariants.{AskingFirst, AskingRest}
-use Rattle.pg_ports.specs.PgLock.Locks.{Locks, after_ask, given_up, held, is_free, is_holder}
-use Rattle.pg_ports.specs.PgMessage.declared.message.Message.TheVariants.{Call, DelLock}
-use Rattle.pg_ports.specs.PgMessage.declared.message.Request.TheVariants.{SetLock, Change}
-use Rattle.pg_ports.specs.PgStep.declared.command.OpId.{OpId}
-use Rattle.pg_ports.specs.PgStep.Nodes.{Node, Nodes, all_of, is_node, is_peer, every, greatest, to_peers, to_one, to_nobody}
-use Rattle.pg_ports.specs.PgStep.State.{State, Status, Use, formed}
-use Rattle.pg_ports.specs.PgStep.State.Status.{Unasked, Asked, Yes, No}
-use Rattle.pg_ports.specs.PgStep.State.Use.{Locking, Owning, Updating}
-use Rattle.pg_ports.specs.PgStep.Turns.{NodeTurn, Report, nothing, becomes, and_then, first_of, both_reports}
-use Rattle.pg_ports.specs.PgStep.Peers.{would_grant}
-use Rattle.pg_ports.specs.PgStep.Attempts.{is_unasked, is_asked, is_yes, is_no, asks, none_missing, none_denied}
-use Rattle.pg_ports.specs.PgStep.Attempts.{all_granted, round_of, with_asked, own_verdict, own_reference, new_attempt}
-use Rattle.pg_ports.specs.PgStep.Attempts.{ask, begin, finish, give_up, locks_in, replies_in, go_on, attempt}
-use Rattle.pg_ports.specs.PgOpens.declared.outlook.Outlook.{Outlook}
-use Rattle.pg_ports.specs.PgOpens.declared.outlook.Outlook.TheVariants.{Ask, Begin}
-use Rattle.pg_ports.specs.PgOpens.Outlooks.{outlook_by, turn_by}
-use Rattle.pg_ports.proofs.PgOpens.Going.{goes_by_outlook}
-use Rattle.pg_ports.proofs.PgOpens.Rest.{passes, all_pass}
-use Rattle.pg_ports.proofs.PgOpens.Named.{atom_is, atom_other, atom_self, clash}
+use Rattle.pg_node_ports.specs.PgGroup.declared.update.Update.{Update}
+use Rattle.pg_node_ports.specs.PgGroup.Functions.{upd}
+use Rattle.pg_node_ports.specs.PgGroup.Value.{name_of}
+use Rattle.pg_node_ports.specs.PgLock.Attempts.{after_round, does_wait}
+use Rattle.pg_node_ports.specs.PgLock.declared.attempt.Attempt.TheVariants.{AskingFirst, AskingRest}
+use Rattle.pg_node_ports.specs.PgLock.Locks.{Locks, after_ask, given_up, held, is_free, is_holder}
+use Rattle.pg_node_ports.specs.PgMessageTypes.declared.message.Message.TheVariants.{Call, DelLock}
+use Rattle.pg_node_ports.specs.PgMessageTypes.declared.message.Request.TheVariants.{SetLock, Change}
+use Rattle.pg_node_ports.specs.PgStep.declared.command.OpId.{OpId}
+use Rattle.pg_node_ports.specs.PgStep.Nodes.{Node, Nodes, all_of, is_node, is_peer, every, greatest, to_peers, to_one, to_nobody}
+use Rattle.pg_node_ports.specs.PgStep.State.{State, Status, Use, formed}
+use Rattle.pg_node_ports.specs.PgStep.State.Status.{Unasked, Asked, Yes, No}
+use Rattle.pg_node_ports.specs.PgStep.State.Use.{Locking, Owning, Updating}
+use Rattle.pg_node_ports.specs.PgStep.Turns.{NodeTurn, Report, nothing, becomes, and_then, first_of, both_reports}
+use Rattle.pg_node_ports.specs.PgStep.Peers.{would_grant}
+use Rattle.pg_node_ports.specs.PgStep.Attempts.{is_unasked, is_asked, is_yes, is_no, asks, none_missing, none_denied}
+use Rattle.pg_node_ports.specs.PgStep.Attempts.{all_granted, round_of, with_asked, own_verdict, own_reference, new_attempt}
+use Rattle.pg_node_ports.specs.PgStep.Attempts.{ask, begin, finish, give_up, locks_in, replies_in, go_on, attempt}
+use Rattle.pg_node_ports.specs.PgNodeOpens.declared.outlook.Outlook.{Outlook}
+use Rattle.pg_node_ports.specs.PgNodeOpens.declared.outlook.Outlook.TheVariants.{Ask, Begin}
+use Rattle.pg_node_ports.specs.PgNodeOpens.Outlooks.{outlook_by, turn_by}
+use Rattle.pg_node_ports.proofs.PgNodeOpens.Going.{goes_by_outlook}
+use Rattle.pg_node_ports.proofs.PgNodeOpens.Rest.{passes, all_pass}
+use Rattle.pg_node_ports.proofs.PgNodeOpens.Named.{atom_is, atom_other, atom_self, clash}
 use Rattle.pg_node_state.specs.Issued.{asked_first}
 
 upd_here : (f : ℕ → Use) (c : ℕ) (used : Use) → upd nat_eq f c used c ≡ used

@@ -4,26 +4,26 @@ use Rattle.std.proofs.Common.{nat_eq, List, [], ◌∷◌, ◌++◌, refl, ap, s
 use Rattle.std.proofs.Math.Path.{fun_ext}
 use Rattle.std.proofs.lemmas.Bool.{eq-eqb}
 use Rattle.pg_term.specs.Same.{same_atom}
-use Rattle.pg_ports.specs.PgGroup.declared.update.Update.{Update}
-use Rattle.pg_ports.specs.PgGroup.Functions.{upd}
-use Rattle.pg_ports.specs.PgGroup.Value.{name_of}
-use Rattle.pg_ports.specs.PgLock.Attempts.{after_round, does_wait}
-use Rattle.pg_ports.specs.PgMessage.declared.message.Message.{Message}
-use Rattle.pg_ports.specs.PgMessage.declared.message.Message.TheVariants.{Call}
-use Rattle.pg_ports.specs.PgMessage.declared.message.Request.TheVariants.{SetLock}
-use Rattle.pg_ports.specs.PgStep.declared.command.OpId.{OpId}
-use Rattle.pg_ports.specs.PgStep.Nodes.{Node, Nodes, all_of, is_peer, every}
-use Rattle.pg_ports.specs.PgStep.State.{State, Status, Use}
-use Rattle.pg_ports.specs.PgStep.State.Status.{Unasked, Asked, Yes, No}
-use Rattle.pg_ports.specs.PgStep.State.Use.{Locking, Owning, Updating}
-use Rattle.pg_ports.specs.PgStep.Turns.{NodeTurn, becomes, and_then}
-use Rattle.pg_ports.specs.PgStep.Peers.{would_grant}
-use Rattle.pg_ports.specs.PgStep.Attempts.{is_asked, is_yes, none_missing, none_denied, all_granted}
-use Rattle.pg_ports.specs.PgStep.Attempts.{round_of, with_asked, own_reference, ask, begin, replies_in, finish}
-use Rattle.pg_ports.specs.PgOpens.Outlooks.{outlook_of, outlook_by, turn_by}
-use Rattle.pg_ports.specs.PgOpens.declared.outlook.Outlook.TheVariants.{Begin}
-use Rattle.pg_ports.proofs.PgOpens.Named.{clash}
-use Rattle.pg_ports.proofs.PgOpens.Rest.{passes, all_pass, peer_node, asks_nobody}
+use Rattle.pg_node_ports.specs.PgGroup.declared.update.Update.{Update}
+use Rattle.pg_node_ports.specs.PgGroup.Functions.{upd}
+use Rattle.pg_node_ports.specs.PgGroup.Value.{name_of}
+use Rattle.pg_node_ports.specs.PgLock.Attempts.{after_round, does_wait}
+use Rattle.pg_node_ports.specs.PgMessageTypes.declared.message.Message.{Message}
+use Rattle.pg_node_ports.specs.PgMessageTypes.declared.message.Message.TheVariants.{Call}
+use Rattle.pg_node_ports.specs.PgMessageTypes.declared.message.Request.TheVariants.{SetLock}
+use Rattle.pg_node_ports.specs.PgStep.declared.command.OpId.{OpId}
+use Rattle.pg_node_ports.specs.PgStep.Nodes.{Node, Nodes, all_of, is_peer, every}
+use Rattle.pg_node_ports.specs.PgStep.State.{State, Status, Use}
+use Rattle.pg_node_ports.specs.PgStep.State.Status.{Unasked, Asked, Yes, No}
+use Rattle.pg_node_ports.specs.PgStep.State.Use.{Locking, Owning, Updating}
+use Rattle.pg_node_ports.specs.PgStep.Turns.{NodeTurn, becomes, and_then}
+use Rattle.pg_node_ports.specs.PgStep.Peers.{would_grant}
+use Rattle.pg_node_ports.specs.PgStep.Attempts.{is_asked, is_yes, none_missing, none_denied, all_granted}
+use Rattle.pg_node_ports.specs.PgStep.Attempts.{round_of, with_asked, own_reference, ask, begin, replies_in, finish}
+use Rattle.pg_node_ports.specs.PgNodeOpens.Outlooks.{outlook_of, outlook_by, turn_by}
+use Rattle.pg_node_ports.specs.PgNodeOpens.declared.outlook.Outlook.TheVariants.{Begin}
+use Rattle.pg_node_ports.proofs.PgNodeOpens.Named.{clash}
+use Rattle.pg_node_ports.proofs.PgNodeOpens.Rest.{passes, all_pass, peer_node, asks_nobody}
 
 -- ---- what an outlook tells
 

@@ -3,27 +3,27 @@ use Rattle.std.proofs.Common.{◌≡◌, ◌↔◌, ◌⊎◌, inl, inr, ℕ, �
 use Rattle.std.proofs.Common.{List, Option, None, Result, Ok, Err, refl, sym, ap, ◌∙◌, subst}
 use Rattle.std.specs.Prelude.{OnOk, OnErr, IfOk, IfErr}
 use Rattle.std.proofs.lemmas.Bool.{le-leb}
-use Rattle.pg_ports.specs.PgMessage.declared.message.Message.{Message}
-use Rattle.pg_ports.specs.PgMessage.declared.message.Message.TheVariants.{Exchange}
-use Rattle.pg_ports.specs.PgExchange.GroupList.{GroupList}
-use Rattle.pg_ports.specs.PgMachine.Clocked.{Timed, Stamped}
-use Rattle.pg_ports.specs.PgOpens.Places.{name_at}
-use Rattle.pg_ports.specs.PgStep.declared.answer.Answer.{Answer}
-use Rattle.pg_ports.specs.PgStep.declared.command.OpId.{OpId}
-use Rattle.pg_ports.specs.PgStep.Nodes.{Node, Nodes}
-use Rattle.pg_ports.specs.PgStep.State.{State, Response, live_nodes}
-use Rattle.pg_ports.specs.PgStep.Turns.{NodeTurn}
-use Rattle.pg_ports.specs.PgStep.Peers.{is_bad_exchange, exchange}
-use Rattle.pg_ports.specs.PgStep.Losses.{see_loss}
-use Rattle.pg_ports.specs.PgStep.Step.{TimedTurn, CLOCK_LIMIT, taken, at_clock, timed, step_take}
-use Rattle.pg_ports.specs.PgStep.declared.refusal.Refusal.{Refusal}
-use Rattle.pg_ports.specs.PgStep.declared.refusal.Refusal.TheVariants as refusal
-use Rattle.pg_sends.specs.declared.done.Done.{Done}
-use Rattle.pg_sends.specs.declared.outgoing.Outgoing.{Ghosts as Listing}
+use Rattle.pg_node_ports.specs.PgMessageTypes.declared.message.Message.{Message}
+use Rattle.pg_node_ports.specs.PgMessageTypes.declared.message.Message.TheVariants.{Exchange}
+use Rattle.pg_node_ports.specs.PgExchange.GroupList.{GroupList}
+use Rattle.pg_node_ports.specs.PgStep.Machines.Clocked.{Timed, Stamped}
+use Rattle.pg_node_ports.specs.PgNodeOpens.Places.{name_at}
+use Rattle.pg_node_ports.specs.PgStep.declared.answer.Answer.{Answer}
+use Rattle.pg_node_ports.specs.PgStep.declared.command.OpId.{OpId}
+use Rattle.pg_node_ports.specs.PgStep.Nodes.{Node, Nodes}
+use Rattle.pg_node_ports.specs.PgStep.State.{State, Response, live_nodes}
+use Rattle.pg_node_ports.specs.PgStep.Turns.{NodeTurn}
+use Rattle.pg_node_ports.specs.PgStep.Peers.{is_bad_exchange, exchange}
+use Rattle.pg_node_ports.specs.PgStep.Losses.{see_loss}
+use Rattle.pg_node_ports.specs.PgStep.Step.{TimedTurn, CLOCK_LIMIT, taken, at_clock, timed, step_take}
+use Rattle.pg_node_ports.specs.PgStep.declared.refusal.Refusal.{Refusal}
+use Rattle.pg_node_ports.specs.PgStep.declared.refusal.Refusal.TheVariants as refusal
+use Rattle.pg_node_sends.specs.declared.done.Done.{Done}
+use Rattle.pg_node_sends.specs.declared.outgoing.Outgoing.{Ghosts as Listing}
 use Rattle.pg_node_state.specs.declared.state.fault.NodeFault.{NodeFault}
 use Rattle.pg_node_state.specs.declared.state.fault.NodeFault.TheVariants.{Refused, OutOfMemory}
 use Rattle.pg_node_state.specs.declared.state.fault.NodeFault.TheVariants as faults
-use Rattle.pg_ports.specs.PgGroup.declared.table.GroupTable.{Ghosts}
+use Rattle.pg_node_ports.specs.PgGroup.declared.table.GroupTable.{Ghosts}
 use Rattle.pg_node_state.specs.declared.state.NodeState.{NodeState}
 use Rattle.pg_node_state.specs.States.{IsReported, Gave, Comes, ComesAt, Stays, step_see_loss}
 use Rattle.pg_node_state.specs.States.{state_of, answers_of}

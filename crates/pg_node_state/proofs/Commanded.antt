@@ -3,44 +3,44 @@ use Rattle.std.proofs.Common.{◌≡◌, ◌<◌, ◌≤◌, ◌+◌, ◌∙◌,
 use Rattle.std.proofs.Common.{List, Option, Some, None, Result, Ok, Err, refl, sym, ap, subst}
 use Rattle.std.specs.Option.{is_some}
 use Rattle.std.proofs.lemmas.Bool.{le-leb, lt-ltb}
-use Rattle.pg_ports.specs.PgEnds.declared.fault.EndFault.{EndFault}
-use Rattle.pg_ports.specs.PgEnds.declared.fault.EndFault.TheVariants as end
-use Rattle.pg_ports.specs.PgEnds.Numbers.{is_among}
-use Rattle.pg_ports.specs.PgEnds.Processes.{made_of, finish_of}
-use Rattle.pg_ports.specs.PgGroup.declared.table.GroupTable.{Ghosts}
-use Rattle.pg_ports.specs.PgGroup.declared.update.Update.{Update}
-use Rattle.pg_ports.specs.PgGroup.declared.update.Update.TheVariants as update
-use Rattle.pg_ports.specs.PgGroup.Ended.{ended_of}
-use Rattle.pg_ports.specs.PgGroup.Value.{name_of}
-use Rattle.pg_ports.specs.PgMessage.Name.{is_name}
-use Rattle.pg_ports.specs.PgOpens.Opens.{lost_of}
-use Rattle.pg_ports.specs.PgOpens.Places.{name_at}
+use Rattle.pg_node_ports.specs.PgEnds.declared.fault.EndFault.{EndFault}
+use Rattle.pg_node_ports.specs.PgEnds.declared.fault.EndFault.TheVariants as end
+use Rattle.pg_node_ports.specs.PgEnds.Numbers.{is_among}
+use Rattle.pg_node_ports.specs.PgEnds.Processes.{made_of, finish_of}
+use Rattle.pg_node_ports.specs.PgGroup.declared.table.GroupTable.{Ghosts}
+use Rattle.pg_node_ports.specs.PgGroup.declared.update.Update.{Update}
+use Rattle.pg_node_ports.specs.PgGroup.declared.update.Update.TheVariants as update
+use Rattle.pg_node_ports.specs.PgGroup.Ended.{ended_of}
+use Rattle.pg_node_ports.specs.PgGroup.Value.{name_of}
+use Rattle.pg_node_ports.specs.PgMessageTypes.Name.{is_name}
+use Rattle.pg_node_ports.specs.PgNodeOpens.Opens.{lost_of}
+use Rattle.pg_node_ports.specs.PgNodeOpens.Places.{name_at}
 use Rattle.pg_term.specs.declared.pid.Pid.{Pid}
 use Rattle.pg_term.specs.Same.{same_atom}
-use Rattle.pg_ports.specs.PgMachine.Clocked.{Timed}
-use Rattle.pg_ports.specs.PgStep.declared.answer.Answer.{Answer}
-use Rattle.pg_ports.specs.PgStep.declared.command.Command.{Command}
-use Rattle.pg_ports.specs.PgStep.declared.command.Command.TheVariants.{Create, Delete, Join, Leave, Make, Finish}
-use Rattle.pg_ports.specs.PgStep.declared.command.Command.TheVariants.{Members, LocalMembers, WhichGroups, Closest}
-use Rattle.pg_ports.specs.PgStep.declared.command.OpId.{OpId}
-use Rattle.pg_ports.specs.PgStep.declared.command_fault.CommandFault.{CommandFault}
-use Rattle.pg_ports.specs.PgStep.declared.command_fault.CommandFault.TheVariants.{NameTooLarge, ForeignPid}
-use Rattle.pg_ports.specs.PgStep.declared.command_fault.CommandFault.TheVariants.{NotFormed, NotMade, AlreadyEnded}
-use Rattle.pg_ports.specs.PgStep.declared.refusal.Refusal.TheVariants as refusal
-use Rattle.pg_ports.specs.PgStep.Nodes.{Node, Nodes}
-use Rattle.pg_ports.specs.PgStep.State.{State, live_nodes, formed}
-use Rattle.pg_ports.specs.PgStep.State.Response.{Read}
-use Rattle.pg_ports.specs.PgStep.StepLaws.{is_query}
-use Rattle.pg_ports.specs.PgStep.Turns.{NodeTurn}
-use Rattle.pg_ports.specs.PgStep.Commands.{command, fault_of, change_of, change, carried_out, answer}
-use Rattle.pg_ports.specs.PgStep.Step.{Issue, CLOCK_LIMIT, at_clock, timed, step_act}
-use Rattle.pg_sends.specs.declared.done.Done.{Done}
-use Rattle.pg_sends.specs.declared.outgoing.Outgoing.{Ghosts as Listing}
+use Rattle.pg_node_ports.specs.PgStep.Machines.Clocked.{Timed}
+use Rattle.pg_node_ports.specs.PgStep.declared.answer.Answer.{Answer}
+use Rattle.pg_node_ports.specs.PgStep.declared.command.Command.{Command}
+use Rattle.pg_node_ports.specs.PgStep.declared.command.Command.TheVariants.{Create, Delete, Join, Leave, Make, Finish}
+use Rattle.pg_node_ports.specs.PgStep.declared.command.Command.TheVariants.{Members, LocalMembers, WhichGroups, Closest}
+use Rattle.pg_node_ports.specs.PgStep.declared.command.OpId.{OpId}
+use Rattle.pg_node_ports.specs.PgStep.declared.command_fault.CommandFault.{CommandFault}
+use Rattle.pg_node_ports.specs.PgStep.declared.command_fault.CommandFault.TheVariants.{NameTooLarge, ForeignPid}
+use Rattle.pg_node_ports.specs.PgStep.declared.command_fault.CommandFault.TheVariants.{NotFormed, NotMade, AlreadyEnded}
+use Rattle.pg_node_ports.specs.PgStep.declared.refusal.Refusal.TheVariants as refusal
+use Rattle.pg_node_ports.specs.PgStep.Nodes.{Node, Nodes}
+use Rattle.pg_node_ports.specs.PgStep.State.{State, live_nodes, formed}
+use Rattle.pg_node_ports.specs.PgStep.State.Response.{Read}
+use Rattle.pg_node_ports.specs.PgStep.StepLaws.{is_query}
+use Rattle.pg_node_ports.specs.PgStep.Turns.{NodeTurn}
+use Rattle.pg_node_ports.specs.PgStep.Commands.{command, fault_of, change_of, change, carried_out, answer}
+use Rattle.pg_node_ports.specs.PgStep.Step.{Issue, CLOCK_LIMIT, at_clock, timed, step_act}
+use Rattle.pg_node_sends.specs.declared.done.Done.{Done}
+use Rattle.pg_node_sends.specs.declared.outgoing.Outgoing.{Ghosts as Listing}
 use Rattle.pg_node_state.specs.declared.state.NodeState.{NodeState}
 use Rattle.pg_node_state.specs.Ports.{merged_in}
 use Rattle.pg_node_state.specs.States.{names_of, nodes_of, live_of, kept_by, Happens, Comes}
 use Rattle.pg_node_state.proofs.Formed.{all_left}
-use Rattle.pg_sends.proofs.Updates.{update_is}
+use Rattle.pg_node_sends.proofs.Updates.{update_is}
 
 -- a command at a port that is there, within the limit of the clock
 pub command_comes : {S : Type 0} {h : Listing S} (m : Nodes) (ports port : ℕ) (c : Command) (s : Timed State) → port < ports → s.clock + 1 ≤ CLOCK_LIMIT

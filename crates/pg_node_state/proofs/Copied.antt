@@ -2,23 +2,23 @@
 use Rattle.std.proofs.Common.{◌≡◌, ◌≤◌, ◌+◌, ◌*◌, ◌^◌, ◌∙◌, ℕ, true, Bool, List, length, sym, ap, subst}
 use Rattle.pg_term.specs.declared.pid.Pid.{Pid}
 use Rattle.pg_term.specs.declared.term.Term.{Term}
-use Rattle.pg_ports.specs.PgGroup.declared.table.GroupTable.{Ghosts}
-use Rattle.pg_ports.specs.PgGroup.Table.{Table}
-use Rattle.pg_ports.specs.PgGroup.Value.{count_in}
-use Rattle.pg_ports.specs.PgEnds.declared.processes.Processes.{Processes}
-use Rattle.pg_ports.specs.PgEnds.Processes.{node_of}
-use Rattle.pg_ports.specs.PgMessage.declared.packet.TheConstants.{MAX_STAMP}
-use Rattle.pg_ports.specs.PgOpens.declared.opens.Opens.{Opens}
-use Rattle.pg_ports.specs.PgOpens.Opens.{AreSame, names_of, lost_of, references_of, uses_of, stages_of}
-use Rattle.pg_ports.specs.PgOpens.Places.{name_at}
-use Rattle.pg_ports.specs.PgStep.declared.command.OpId.{OpId}
-use Rattle.pg_ports.specs.PgStep.Nodes.{Node}
-use Rattle.pg_ports.specs.PgStep.State.{Use, Stage}
+use Rattle.pg_node_ports.specs.PgGroup.declared.table.GroupTable.{Ghosts}
+use Rattle.pg_node_ports.specs.PgGroup.Table.{Table}
+use Rattle.pg_node_ports.specs.PgGroup.Value.{count_in}
+use Rattle.pg_node_ports.specs.PgEnds.declared.processes.Processes.{Processes}
+use Rattle.pg_node_ports.specs.PgEnds.Processes.{node_of}
+use Rattle.pg_node_ports.specs.PgMessageTypes.declared.packet.TheConstants.{MAX_STAMP}
+use Rattle.pg_node_ports.specs.PgNodeOpens.declared.opens.Opens.{Opens}
+use Rattle.pg_node_ports.specs.PgNodeOpens.Opens.{AreSame, names_of, lost_of, references_of, uses_of, stages_of}
+use Rattle.pg_node_ports.specs.PgNodeOpens.Places.{name_at}
+use Rattle.pg_node_ports.specs.PgStep.declared.command.OpId.{OpId}
+use Rattle.pg_node_ports.specs.PgStep.Nodes.{Node}
+use Rattle.pg_node_ports.specs.PgStep.State.{Use, Stage}
 use Rattle.pg_node_state.specs.declared.state.NodeState.{NodeState}
-use Rattle.pg_ports.specs.declared.port.Port.{Port}
+use Rattle.pg_node_ports.specs.declared.port.Port.{Port}
 use Rattle.pg_node_state.specs.Ports.{AreGiven, CameIn, merged_in}
-use Rattle.pg_ports.specs.Ports.{port_commands}
-use Rattle.pg_ports.specs.Same.{AreSamePorts}
+use Rattle.pg_node_ports.specs.Ports.{port_commands}
+use Rattle.pg_node_ports.specs.Same.{AreSamePorts}
 
 module _ {T : Type 0} {g : Ghosts T} (one : NodeState T g) (opens : Opens) (table : T) (formation : List Bool) (processes : Processes) (ports : List Port)
     (same : AreSame one.opens opens) (contents : g.contents table ≡ g.contents one.table) (marks : formation ≡ one.formation) (node : node_of processes ≡ node_of one.processes) (alike : AreSamePorts one.ports.items ports) where

@@ -6,16 +6,16 @@ use Rattle.std.proofs.lemmas.List.Sums.{count_by-le-length}
 use Rattle.pg_term.specs.declared.pid.Pid.{Pid}
 use Rattle.pg_term.specs.declared.term.Term.{Term}
 use Rattle.pg_term.specs.Same.{same_term, same_pid}
-use Rattle.pg_ports.specs.PgGroup.declared.update.Update.{Update}
-use Rattle.pg_ports.specs.PgGroup.Value.{Value, count_in, less, merge, listed}
-use Rattle.pg_ports.specs.PgGroup.Scope.{at_node}
-use Rattle.pg_ports.specs.PgGroup.Table.{Table, changed, without, without_node, merged, exchanged}
-use Rattle.pg_ports.proofs.PgGroup.Growth.{changed_grown}
-use Rattle.pg_ports.proofs.PgGroup.Changes.{upd_by}
-use Rattle.pg_ports.specs.PgExchange.GroupList.{GroupList, all_merged}
-use Rattle.pg_ports.specs.PgMessage.Members.{HasFewMembers, IsShort}
-use Rattle.pg_ports.specs.PgMessage.declared.message.Message.{Message}
-use Rattle.pg_ports.specs.PgMessage.declared.message.Message.TheVariants.{Call, Reply, DelLock, Exchange, Down}
+use Rattle.pg_node_ports.specs.PgGroup.declared.update.Update.{Update}
+use Rattle.pg_node_ports.specs.PgGroup.Value.{Value, count_in, less, merge, listed}
+use Rattle.pg_node_ports.specs.PgGroup.Scope.{at_node}
+use Rattle.pg_node_ports.specs.PgGroup.Table.{Table, changed, without, without_node, merged, exchanged}
+use Rattle.pg_node_ports.proofs.PgGroup.Growth.{changed_grown}
+use Rattle.pg_node_ports.proofs.PgGroup.Changes.{upd_by}
+use Rattle.pg_node_ports.specs.PgExchange.GroupList.{GroupList, all_merged}
+use Rattle.pg_node_ports.specs.PgMessageTypes.Members.{HasFewMembers, IsShort}
+use Rattle.pg_node_ports.specs.PgMessageTypes.declared.message.Message.{Message}
+use Rattle.pg_node_ports.specs.PgMessageTypes.declared.message.Message.TheVariants.{Call, Reply, DelLock, Exchange, Down}
 
 -- no count is above n
 abbrev pub Few : ℕ → Table → Type 0

@@ -6,23 +6,23 @@ use Rattle.std.proofs.lemmas.Bool.{eq-eqb}
 use Rattle.pg_term.specs.declared.term.Term.{Term}
 use Rattle.pg_term.specs.RefParts.{RefParts}
 use Rattle.pg_term.specs.Same.{same_atom}
-use Rattle.pg_ports.specs.PgGroup.declared.update.Update.{Update}
-use Rattle.pg_ports.specs.PgGroup.Functions.{upd}
-use Rattle.pg_ports.specs.PgGroup.Value.{name_of}
-use Rattle.pg_ports.proofs.PgGroup.Changes.{upd_at}
-use Rattle.pg_ports.specs.PgLock.Locks.{Locks, is_free, held}
-use Rattle.pg_ports.specs.PgStep.declared.command.OpId.{OpId}
-use Rattle.pg_ports.specs.PgStep.Nodes.{Node, Nodes, is_peer, is_node, greatest}
-use Rattle.pg_ports.specs.PgStep.State.{State, Status, Use, Stage, formed}
-use Rattle.pg_ports.specs.PgStep.State.Status.{Unasked}
-use Rattle.pg_ports.specs.PgStep.State.Use.{Locking, Owning, Updating, Spent}
-use Rattle.pg_ports.specs.PgStep.State.Stage.{Closed, Waiting, Asking, Changing}
-use Rattle.pg_ports.specs.PgStep.Peers.{would_grant}
-use Rattle.pg_ports.specs.PgStep.Attempts.{new_attempt, ask, begin, finish, with_asked, own_reference}
-use Rattle.pg_ports.specs.PgOpens.declared.opens.Opens.{Opens}
-use Rattle.pg_ports.specs.PgOpens.declared.command.Stage.TheVariants as seen
-use Rattle.pg_ports.specs.PgOpens.Opens.{Shows, Follows, names_of, live_of, uses_of}
-use Rattle.pg_ports.specs.PgOpens.Readings.{stage_seen}
+use Rattle.pg_node_ports.specs.PgGroup.declared.update.Update.{Update}
+use Rattle.pg_node_ports.specs.PgGroup.Functions.{upd}
+use Rattle.pg_node_ports.specs.PgGroup.Value.{name_of}
+use Rattle.pg_node_ports.proofs.PgGroup.Changes.{upd_at}
+use Rattle.pg_node_ports.specs.PgLock.Locks.{Locks, is_free, held}
+use Rattle.pg_node_ports.specs.PgStep.declared.command.OpId.{OpId}
+use Rattle.pg_node_ports.specs.PgStep.Nodes.{Node, Nodes, is_peer, is_node, greatest}
+use Rattle.pg_node_ports.specs.PgStep.State.{State, Status, Use, Stage, formed}
+use Rattle.pg_node_ports.specs.PgStep.State.Status.{Unasked}
+use Rattle.pg_node_ports.specs.PgStep.State.Use.{Locking, Owning, Updating, Spent}
+use Rattle.pg_node_ports.specs.PgStep.State.Stage.{Closed, Waiting, Asking, Changing}
+use Rattle.pg_node_ports.specs.PgStep.Peers.{would_grant}
+use Rattle.pg_node_ports.specs.PgStep.Attempts.{new_attempt, ask, begin, finish, with_asked, own_reference}
+use Rattle.pg_node_ports.specs.PgNodeOpens.declared.opens.Opens.{Opens}
+use Rattle.pg_node_ports.specs.PgNodeOpens.declared.command.Stage.TheVariants as seen
+use Rattle.pg_node_ports.specs.PgNodeOpens.Opens.{Shows, Follows, names_of, live_of, uses_of}
+use Rattle.pg_node_ports.specs.PgNodeOpens.Readings.{stage_seen}
 use Rattle.pg_node_state.specs.Issued.{asked_first}
 use Rattle.pg_node_state.specs.Ports.{CameIn, AreGiven}
 use Rattle.pg_node_state.proofs.Attempted.{statuses, granted_locks, held_there, lone_turn}

@@ -4,8 +4,8 @@ use Rattle.std.proofs.Common.{drop, List, [], ◌∷◌, length, refl, sym, ap, 
 use Rattle.std.specs.List.{AllByRecursion, IsDistinct, list_all, filter}
 use Rattle.std.proofs.lemmas.Cmp.{nat_list_eq_equiv}
 use Rattle.pg_term.specs.Same.{same_atom}
-use Rattle.pg_ports.specs.PgStep.Nodes.{Node}
-use Rattle.pg_ports.specs.PgOpens.Places.{reads}
+use Rattle.pg_node_ports.specs.PgStep.Nodes.{Node}
+use Rattle.pg_node_ports.specs.PgNodeOpens.Places.{reads}
 use Rattle.pg_node_state.specs.Ports.{merged_in}
 
 -- what is said of others does not change for a name that stands before them

@@ -2,20 +2,20 @@
 use Rattle.std.proofs.Common.{◌≡◌, ◌<◌, ◌≤◌, ◌&&◌, ℕ, Bool, true, false, cond}
 use Rattle.std.proofs.Common.{nat_eq, Option, Some, None, refl, sym, ap, ◌∙◌, subst}
 use Rattle.std.proofs.lemmas.Bool.{eqb-true}
-use Rattle.pg_ports.specs.PgGroup.Functions.{upd}
-use Rattle.pg_ports.specs.PgGroup.declared.update.Update.{Update as Change}
-use Rattle.pg_ports.specs.PgGroup.Value.{name_of}
-use Rattle.pg_ports.specs.PgMessage.Name.{is_name}
-use Rattle.pg_ports.specs.PgStep.declared.command.OpId.{OpId}
-use Rattle.pg_ports.specs.PgStep.Nodes.{Node}
-use Rattle.pg_ports.specs.PgStep.State.{Status, Use, Stage}
-use Rattle.pg_ports.specs.PgStep.State.Use.{Fresh, Locking, Owning, Updating, Spent}
-use Rattle.pg_ports.specs.PgStep.State.Stage.{Closed, Waiting}
-use Rattle.pg_ports.specs.PgStep.Attempts.{same_op}
-use Rattle.pg_ports.specs.PgStep.Losses.{forgets}
-use Rattle.pg_ports.specs.PgOpens.declared.command.Gathering.{Gathering}
-use Rattle.pg_ports.specs.PgOpens.declared.command.Gathering.TheVariants.{Nothing, Lock, Update}
-use Rattle.pg_ports.specs.PgOpens.Readings.{update_of, stage_seen, is_closed, waiting_of}
+use Rattle.pg_node_ports.specs.PgGroup.Functions.{upd}
+use Rattle.pg_node_ports.specs.PgGroup.declared.update.Update.{Update as Change}
+use Rattle.pg_node_ports.specs.PgGroup.Value.{name_of}
+use Rattle.pg_node_ports.specs.PgMessageTypes.Name.{is_name}
+use Rattle.pg_node_ports.specs.PgStep.declared.command.OpId.{OpId}
+use Rattle.pg_node_ports.specs.PgStep.Nodes.{Node}
+use Rattle.pg_node_ports.specs.PgStep.State.{Status, Use, Stage}
+use Rattle.pg_node_ports.specs.PgStep.State.Use.{Fresh, Locking, Owning, Updating, Spent}
+use Rattle.pg_node_ports.specs.PgStep.State.Stage.{Closed, Waiting}
+use Rattle.pg_node_ports.specs.PgStep.Attempts.{same_op}
+use Rattle.pg_node_ports.specs.PgStep.Losses.{forgets}
+use Rattle.pg_node_ports.specs.PgNodeOpens.declared.command.Gathering.{Gathering}
+use Rattle.pg_node_ports.specs.PgNodeOpens.declared.command.Gathering.TheVariants.{Nothing, Lock, Update}
+use Rattle.pg_node_ports.specs.PgNodeOpens.Readings.{update_of, stage_seen, is_closed, waiting_of}
 use Rattle.pg_node_state.specs.Ports.{is_named, CameIn, gathers_for, IsOf, AreGiven}
 
 pub same_is : (op other : OpId) → same_op op other ≡ true → op ≡ other

@@ -1,20 +1,20 @@
 -- The open commands of a node show its state.
 use Rattle.std.proofs.Common.{◌≡◌, ℕ, Bool, List, None, refl, sym, ap, subst}
 use Rattle.pg_term.specs.declared.pid.Pid.{Pid}
-use Rattle.pg_ports.specs.PgGroup.declared.table.GroupTable.{Ghosts}
-use Rattle.pg_ports.specs.PgGroup.Table.{Table}
-use Rattle.pg_ports.specs.PgLock.Locks.{Locks}
-use Rattle.pg_ports.specs.PgMachine.Clocked.{Timed}
-use Rattle.pg_ports.specs.PgOpens.declared.opens.Opens.{Opens}
-use Rattle.pg_ports.specs.PgOpens.Opens.{Shows, lost_of, references_of, uses_of, opened_of, stages_of}
-use Rattle.pg_ports.specs.PgStep.Nodes.{Node}
-use Rattle.pg_ports.specs.PgStep.State.{State, new_state}
+use Rattle.pg_node_ports.specs.PgGroup.declared.table.GroupTable.{Ghosts}
+use Rattle.pg_node_ports.specs.PgGroup.Table.{Table}
+use Rattle.pg_node_ports.specs.PgLock.Locks.{Locks}
+use Rattle.pg_node_ports.specs.PgStep.Machines.Clocked.{Timed}
+use Rattle.pg_node_ports.specs.PgNodeOpens.declared.opens.Opens.{Opens}
+use Rattle.pg_node_ports.specs.PgNodeOpens.Opens.{Shows, lost_of, references_of, uses_of, opened_of, stages_of}
+use Rattle.pg_node_ports.specs.PgStep.Nodes.{Node}
+use Rattle.pg_node_ports.specs.PgStep.State.{State, new_state}
 use Rattle.pg_node_state.specs.declared.state.NodeState.{NodeState}
-use Rattle.pg_ports.specs.PgStep.declared.answer.Answer.{Answer}
-use Rattle.pg_ports.specs.PgStep.Turns.{NodeTurn}
-use Rattle.pg_ports.specs.PgStep.Step.{at_clock}
-use Rattle.pg_sends.specs.declared.done.Done.{Done}
-use Rattle.pg_sends.specs.declared.outgoing.Outgoing.{Ghosts as Listing}
+use Rattle.pg_node_ports.specs.PgStep.declared.answer.Answer.{Answer}
+use Rattle.pg_node_ports.specs.PgStep.Turns.{NodeTurn}
+use Rattle.pg_node_ports.specs.PgStep.Step.{at_clock}
+use Rattle.pg_node_sends.specs.declared.done.Done.{Done}
+use Rattle.pg_node_sends.specs.declared.outgoing.Outgoing.{Ghosts as Listing}
 use Rattle.pg_node_state.specs.States.{kept_by, Happens}
 
 -- a state that has these open commands, and nothing else

@@ -21,13 +21,12 @@ pub mod SameNodes
 pub mod Steady
 pub mod Turned
 pub mod Waits
-pub use Rattle.pg_ports.proofs.PgExchange
+pub use Rattle.pg_node_ports.proofs.PgExchange
 pub use Rattle.pg_frame.proofs as PgFrame
-pub use Rattle.pg_ports.proofs.PgGroup
-pub use Rattle.pg_ports.proofs.PgMachine
-pub use Rattle.pg_ports.proofs.PgMessage
-pub use Rattle.pg_ports.proofs.PgOpens
-pub use Rattle.pg_ports.proofs.PgQuery
-pub use Rattle.pg_sends.proofs as PgSends
-pub use Rattle.pg_ports.proofs.PgStep
-pub use Rattle.pg_ports.proofs.PgTermIo
+pub use Rattle.pg_node_ports.proofs.PgGroup
+pub use Rattle.pg_node_ports.proofs.PgMessageTypes
+pub use Rattle.pg_node_ports.proofs.PgNodeOpens
+pub use Rattle.pg_node_ports.proofs.PgQuery
+pub use Rattle.pg_node_sends.proofs as PgNodeSends
+pub use Rattle.pg_node_ports.proofs.PgStep
+pub use Rattle.pg_node_ports.proofs.PgTermIo

@@ -7,10 +7,10 @@ use Rattle.std.proofs.Math.Path.{fun_ext}
 use Rattle.std.proofs.Math.ListN.{length-set}
 use Rattle.std.proofs.lemmas.Option.{slice_get-get_or, get_or_from_slice_get}
 use Rattle.pg_term.specs.Same.{same_atom}
-use Rattle.pg_ports.specs.PgGroup.Functions.{upd}
-use Rattle.pg_ports.specs.PgStep.Nodes.{Node}
-use Rattle.pg_ports.specs.PgOpens.Places.{name_at, reads}
-use Rattle.pg_ports.proofs.PgOpens.Named.{reads_at, reads_set}
+use Rattle.pg_node_ports.specs.PgGroup.Functions.{upd}
+use Rattle.pg_node_ports.specs.PgStep.Nodes.{Node}
+use Rattle.pg_node_ports.specs.PgNodeOpens.Places.{name_at, reads}
+use Rattle.pg_node_ports.proofs.PgNodeOpens.Named.{reads_at, reads_set}
 use Rattle.pg_node_state.specs.Ports.{merged_in}
 
 next : (k : ℕ) → k + 1 ≡ suc k

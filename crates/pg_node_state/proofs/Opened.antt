@@ -1,16 +1,16 @@
 -- A command is opened behind its count, and taken back.
 use Rattle.std.proofs.Common.{◌≡◌, ℕ, ◌+◌, ◌-◌, sym, ◌∙◌, arith}
-use Rattle.pg_ports.specs.PgGroup.declared.update.Update.{Update}
-use Rattle.pg_ports.proofs.PgGroup.Changes.{upd_same, upd_twice}
-use Rattle.pg_ports.specs.PgOpens.declared.opens.Opens.{Opens}
-use Rattle.pg_ports.specs.PgOpens.Opens.{Shows}
-use Rattle.pg_ports.specs.PgOpens.TakenBack.{command_taken_back}
-use Rattle.pg_ports.proofs.PgOpens.Followed.{op_is}
-use Rattle.pg_ports.specs.PgStep.declared.command.OpId.{OpId}
-use Rattle.pg_ports.specs.PgStep.State.{State}
-use Rattle.pg_ports.specs.PgStep.State.Stage.{Closed, Waiting}
-use Rattle.pg_ports.specs.PgStep.Attempts.{same_op}
-use Rattle.pg_ports.specs.PgStep.Commands.{count_command, open_command}
+use Rattle.pg_node_ports.specs.PgGroup.declared.update.Update.{Update}
+use Rattle.pg_node_ports.proofs.PgGroup.Changes.{upd_same, upd_twice}
+use Rattle.pg_node_ports.specs.PgNodeOpens.declared.opens.Opens.{Opens}
+use Rattle.pg_node_ports.specs.PgNodeOpens.Opens.{Shows}
+use Rattle.pg_node_ports.specs.PgNodeOpens.TakenBack.{command_taken_back}
+use Rattle.pg_node_ports.proofs.PgNodeOpens.Followed.{op_is}
+use Rattle.pg_node_ports.specs.PgStep.declared.command.OpId.{OpId}
+use Rattle.pg_node_ports.specs.PgStep.State.{State}
+use Rattle.pg_node_ports.specs.PgStep.State.Stage.{Closed, Waiting}
+use Rattle.pg_node_ports.specs.PgStep.Attempts.{same_op}
+use Rattle.pg_node_ports.specs.PgStep.Commands.{count_command, open_command}
 
 abbrev pub counted_state : ℕ → State → State
 counted_state port s = (count_command port s).state

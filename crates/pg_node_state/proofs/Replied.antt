@@ -7,26 +7,26 @@ use Rattle.std.proofs.lemmas.Bool.Decides.{nat_tests}
 use Rattle.std.proofs.lemmas.Nat.{div-add-mod'}
 use Rattle.pg_term.specs.RefParts.{RefParts, ref_eq}
 use Rattle.pg_term.proofs.Same.{ref_is}
-use Rattle.pg_ports.specs.PgRefs.Numbered.{numbered, number_in}
-use Rattle.pg_ports.specs.PgMessage.declared.message.Said.{Said}
-use Rattle.pg_ports.specs.PgMachine.Clocked.{Timed}
-use Rattle.pg_ports.specs.PgMulticall.Gathered.{what_of}
-use Rattle.pg_ports.specs.PgMulticall.declared.gather.Taken.{Taken}
-use Rattle.pg_ports.specs.PgOpens.declared.opens.Opens.{Opens}
-use Rattle.pg_ports.specs.PgOpens.Opens.{uses_of, references_of}
-use Rattle.pg_ports.specs.PgOpens.Places.{name_at}
-use Rattle.pg_ports.specs.PgOpens.Layers.{or_as, answers, seek}
-use Rattle.pg_ports.specs.PgOpens.Commands.{is_made, unused, use_at}
-use Rattle.pg_ports.specs.PgStep.Nodes.{Node, Nodes}
-use Rattle.pg_ports.specs.PgStep.State.{State, Use}
-use Rattle.pg_ports.specs.PgStep.State.Use.{Fresh, Spent}
-use Rattle.pg_ports.specs.PgStep.Attempts.{use_of, gathered, is_kind, reply_by, reply_under, reply_taken, strange}
-use Rattle.pg_ports.specs.PgStep.declared.answer.Odd.TheVariants.{Stranger}
-use Rattle.pg_ports.specs.PgStep.declared.answer.Answer.{Answer}
-use Rattle.pg_ports.specs.PgStep.declared.refusal.Refusal.{Refusal}
-use Rattle.pg_ports.specs.PgStep.Turns.{NodeTurn}
-use Rattle.pg_sends.specs.declared.done.Done.{Done}
-use Rattle.pg_sends.specs.declared.outgoing.Outgoing.{Ghosts as Listing}
+use Rattle.pg_node_ports.specs.PgRefs.Numbered.{numbered, number_in}
+use Rattle.pg_node_ports.specs.PgMessageTypes.declared.message.Said.{Said}
+use Rattle.pg_node_ports.specs.PgStep.Machines.Clocked.{Timed}
+use Rattle.pg_node_ports.specs.PgMulticall.Gathered.{what_of}
+use Rattle.pg_node_ports.specs.PgMulticall.declared.gather.Taken.{Taken}
+use Rattle.pg_node_ports.specs.PgNodeOpens.declared.opens.Opens.{Opens}
+use Rattle.pg_node_ports.specs.PgNodeOpens.Opens.{uses_of, references_of}
+use Rattle.pg_node_ports.specs.PgNodeOpens.Places.{name_at}
+use Rattle.pg_node_ports.specs.PgNodeOpens.Layers.{or_as, answers, seek}
+use Rattle.pg_node_ports.specs.PgNodeOpens.Commands.{is_made, unused, use_at}
+use Rattle.pg_node_ports.specs.PgStep.Nodes.{Node, Nodes}
+use Rattle.pg_node_ports.specs.PgStep.State.{State, Use}
+use Rattle.pg_node_ports.specs.PgStep.State.Use.{Fresh, Spent}
+use Rattle.pg_node_ports.specs.PgStep.Attempts.{use_of, gathered, is_kind, reply_by, reply_under, reply_taken, strange}
+use Rattle.pg_node_ports.specs.PgStep.declared.answer.Odd.TheVariants.{Stranger}
+use Rattle.pg_node_ports.specs.PgStep.declared.answer.Answer.{Answer}
+use Rattle.pg_node_ports.specs.PgStep.declared.refusal.Refusal.{Refusal}
+use Rattle.pg_node_ports.specs.PgStep.Turns.{NodeTurn}
+use Rattle.pg_node_sends.specs.declared.done.Done.{Done}
+use Rattle.pg_node_sends.specs.declared.outgoing.Outgoing.{Ghosts as Listing}
 use Rattle.pg_node_state.specs.declared.state.fault.NodeFault.{NodeFault}
 use Rattle.pg_node_state.specs.States.{ComesAt}
 

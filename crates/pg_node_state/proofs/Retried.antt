@@ -1,16 +1,16 @@
 -- What a retry leads to, by how its command stands.
 use Rattle.std.proofs.Common.{◌≡◌, ℕ, Bool, true, false, cond, refl, ap, sym, ◌∙◌}
-use Rattle.pg_ports.specs.PgStep.declared.command.OpId.{OpId}
-use Rattle.pg_ports.specs.PgGroup.declared.update.Update.{Update}
-use Rattle.pg_ports.specs.PgStep.Nodes.{Node, Nodes}
-use Rattle.pg_ports.specs.PgStep.State.{State, Stage, Use}
-use Rattle.pg_ports.specs.PgStep.State.Stage.{Closed, Waiting, Asking, Changing}
-use Rattle.pg_ports.specs.PgStep.State.Use.{Fresh, Locking, Owning, Updating, Spent}
-use Rattle.pg_ports.specs.PgStep.Turns.{becomes}
-use Rattle.pg_ports.specs.PgStep.Attempts.{go_on, replies_in, finish, is_complete}
-use Rattle.pg_ports.specs.PgOpens.declared.command.Stage.{Stage as SeenStage}
-use Rattle.pg_ports.specs.PgOpens.declared.command.Stage.TheVariants as seen
-use Rattle.pg_ports.specs.PgOpens.Readings.{gathering_of, stage_seen, is_lock, is_update}
+use Rattle.pg_node_ports.specs.PgStep.declared.command.OpId.{OpId}
+use Rattle.pg_node_ports.specs.PgGroup.declared.update.Update.{Update}
+use Rattle.pg_node_ports.specs.PgStep.Nodes.{Node, Nodes}
+use Rattle.pg_node_ports.specs.PgStep.State.{State, Stage, Use}
+use Rattle.pg_node_ports.specs.PgStep.State.Stage.{Closed, Waiting, Asking, Changing}
+use Rattle.pg_node_ports.specs.PgStep.State.Use.{Fresh, Locking, Owning, Updating, Spent}
+use Rattle.pg_node_ports.specs.PgStep.Turns.{becomes}
+use Rattle.pg_node_ports.specs.PgStep.Attempts.{go_on, replies_in, finish, is_complete}
+use Rattle.pg_node_ports.specs.PgNodeOpens.declared.command.Stage.{Stage as SeenStage}
+use Rattle.pg_node_ports.specs.PgNodeOpens.declared.command.Stage.TheVariants as seen
+use Rattle.pg_node_ports.specs.PgNodeOpens.Readings.{gathering_of, stage_seen, is_lock, is_update}
 
 pub closed_is : (stage : Stage) → stage_seen stage ≡ seen.Closed → stage ≡ Closed
 closed_is Closed e = refl

@@ -3,11 +3,11 @@ use Rattle.std.proofs.Common.{◌≡◌, ◌<◌, ◌+◌, ◌∙◌, ℕ, Bool,
 use Rattle.std.specs.List.{IsDistinct}
 use Rattle.std.proofs.lemmas.List.{same_lists, get_or_default}
 use Rattle.pg_term.specs.Same.{same_atom}
-use Rattle.pg_ports.specs.PgGroup.declared.table.GroupTable.{Ghosts}
-use Rattle.pg_ports.specs.PgMachine.Clocked.{Timed}
-use Rattle.pg_ports.specs.PgOpens.Places.{name_at}
-use Rattle.pg_ports.specs.PgStep.Nodes.{Node}
-use Rattle.pg_ports.specs.PgStep.State.{State}
+use Rattle.pg_node_ports.specs.PgGroup.declared.table.GroupTable.{Ghosts}
+use Rattle.pg_node_ports.specs.PgStep.Machines.Clocked.{Timed}
+use Rattle.pg_node_ports.specs.PgNodeOpens.Places.{name_at}
+use Rattle.pg_node_ports.specs.PgStep.Nodes.{Node}
+use Rattle.pg_node_ports.specs.PgStep.State.{State}
 use Rattle.pg_node_state.specs.declared.state.NodeState.{NodeState}
 use Rattle.pg_node_state.specs.Ports.{merged_in}
 use Rattle.pg_node_state.specs.Same.{AreSameNodes, AreAlike, AreSameBeside}

@@ -1,13 +1,13 @@
 -- What stays as it was where the open commands change by a turn that loses no peer.
 use Rattle.std.proofs.Common.{◌≡◌, ◌≤◌, ◌*◌, ◌+◌, ℕ, Bool, true, not, drop, List, length, Option, sym, ap, ◌∙◌, subst}
 use Rattle.std.specs.List.{filter}
-use Rattle.pg_ports.specs.PgGroup.declared.update.Update.{Update}
-use Rattle.pg_ports.specs.PgOpens.declared.opens.Opens.{Opens}
-use Rattle.pg_ports.specs.PgOpens.Opens.{Shows, names_of, lost_of, live_of, references_of, uses_of, stages_of}
-use Rattle.pg_ports.specs.PgOpens.Places.{name_at}
-use Rattle.pg_ports.specs.PgStep.declared.command.OpId.{OpId}
-use Rattle.pg_ports.specs.PgStep.Nodes.{Node}
-use Rattle.pg_ports.specs.PgStep.State.{State}
+use Rattle.pg_node_ports.specs.PgGroup.declared.update.Update.{Update}
+use Rattle.pg_node_ports.specs.PgNodeOpens.declared.opens.Opens.{Opens}
+use Rattle.pg_node_ports.specs.PgNodeOpens.Opens.{Shows, names_of, lost_of, live_of, references_of, uses_of, stages_of}
+use Rattle.pg_node_ports.specs.PgNodeOpens.Places.{name_at}
+use Rattle.pg_node_ports.specs.PgStep.declared.command.OpId.{OpId}
+use Rattle.pg_node_ports.specs.PgStep.Nodes.{Node}
+use Rattle.pg_node_ports.specs.PgStep.State.{State}
 use Rattle.pg_node_state.specs.Ports.{merged_in, AreGiven}
 use Rattle.pg_node_state.proofs.Given.{given_same}
 

@@ -2,31 +2,31 @@
 use Rattle.std.proofs.Common.{◌≡◌, ℕ, Bool, true, false, not, cond, nat_eq, refl, sym, ap, ◌∙◌, Option, Some, None}
 use Rattle.std.proofs.lemmas.Bool.{eqb-true, eq-eqb}
 use Rattle.pg_term.specs.Same.{same_atom}
-use Rattle.pg_ports.specs.PgGroup.Functions.{upd}
-use Rattle.pg_ports.specs.PgGroup.declared.update.Update.{Update as Change}
-use Rattle.pg_ports.proofs.PgGroup.Changes.{upd_same, upd_twice, upd_at}
-use Rattle.pg_ports.specs.PgMessage.declared.message.Said.TheVariants.{Applied}
-use Rattle.pg_ports.specs.PgMulticall.Gathered.{what_of}
-use Rattle.pg_ports.specs.PgMulticall.declared.gather.Taken.TheVariants.{Counted}
-use Rattle.pg_ports.specs.PgStep.declared.command.OpId.{OpId}
-use Rattle.pg_ports.specs.PgStep.Nodes.{Node, Nodes, is_peer, every}
-use Rattle.pg_ports.specs.PgStep.State.{State, Status, Use}
-use Rattle.pg_ports.specs.PgStep.State.Status.{Unasked, Asked, Yes, No}
-use Rattle.pg_ports.specs.PgStep.State.Use.{Fresh, Locking, Owning, Updating, Spent}
-use Rattle.pg_ports.specs.PgStep.Attempts.{go_on, gathered, lock_entry, counted, count_answer}
-use Rattle.pg_ports.specs.PgStep.Attempts.{count_ok, lock_status, replies_in, finish}
-use Rattle.pg_ports.specs.PgStep.Turns.{becomes}
-use Rattle.pg_ports.specs.PgMessage.declared.message.Said.{Said}
-use Rattle.pg_ports.specs.PgOpens.Outlooks.{outlook_of, turn_by}
-use Rattle.pg_ports.specs.PgOpens.declared.outlook.Outlook.{Outlook}
-use Rattle.pg_ports.specs.PgOpens.declared.command.Gathering.{Gathering}
-use Rattle.pg_ports.specs.PgOpens.declared.command.Gathering.TheVariants.{Lock, Update}
-use Rattle.pg_ports.specs.PgOpens.declared.opens.Opens.{Opens}
-use Rattle.pg_ports.specs.PgOpens.Opens.{names_of, live_of}
-use Rattle.pg_ports.specs.PgOpens.Places.{name_at, lost_in}
-use Rattle.pg_ports.specs.PgOpens.Readings.{gathering_of, is_locking, is_updating, update_of}
-use Rattle.pg_ports.proofs.PgOpens.Named.{atom_is, clash}
-use Rattle.pg_ports.proofs.PgOpens.Asking.{own_no_peer}
+use Rattle.pg_node_ports.specs.PgGroup.Functions.{upd}
+use Rattle.pg_node_ports.specs.PgGroup.declared.update.Update.{Update as Change}
+use Rattle.pg_node_ports.proofs.PgGroup.Changes.{upd_same, upd_twice, upd_at}
+use Rattle.pg_node_ports.specs.PgMessageTypes.declared.message.Said.TheVariants.{Applied}
+use Rattle.pg_node_ports.specs.PgMulticall.Gathered.{what_of}
+use Rattle.pg_node_ports.specs.PgMulticall.declared.gather.Taken.TheVariants.{Counted}
+use Rattle.pg_node_ports.specs.PgStep.declared.command.OpId.{OpId}
+use Rattle.pg_node_ports.specs.PgStep.Nodes.{Node, Nodes, is_peer, every}
+use Rattle.pg_node_ports.specs.PgStep.State.{State, Status, Use}
+use Rattle.pg_node_ports.specs.PgStep.State.Status.{Unasked, Asked, Yes, No}
+use Rattle.pg_node_ports.specs.PgStep.State.Use.{Fresh, Locking, Owning, Updating, Spent}
+use Rattle.pg_node_ports.specs.PgStep.Attempts.{go_on, gathered, lock_entry, counted, count_answer}
+use Rattle.pg_node_ports.specs.PgStep.Attempts.{count_ok, lock_status, replies_in, finish}
+use Rattle.pg_node_ports.specs.PgStep.Turns.{becomes}
+use Rattle.pg_node_ports.specs.PgMessageTypes.declared.message.Said.{Said}
+use Rattle.pg_node_ports.specs.PgNodeOpens.Outlooks.{outlook_of, turn_by}
+use Rattle.pg_node_ports.specs.PgNodeOpens.declared.outlook.Outlook.{Outlook}
+use Rattle.pg_node_ports.specs.PgNodeOpens.declared.command.Gathering.{Gathering}
+use Rattle.pg_node_ports.specs.PgNodeOpens.declared.command.Gathering.TheVariants.{Lock, Update}
+use Rattle.pg_node_ports.specs.PgNodeOpens.declared.opens.Opens.{Opens}
+use Rattle.pg_node_ports.specs.PgNodeOpens.Opens.{names_of, live_of}
+use Rattle.pg_node_ports.specs.PgNodeOpens.Places.{name_at, lost_in}
+use Rattle.pg_node_ports.specs.PgNodeOpens.Readings.{gathering_of, is_locking, is_updating, update_of}
+use Rattle.pg_node_ports.proofs.PgNodeOpens.Named.{atom_is, clash}
+use Rattle.pg_node_ports.proofs.PgNodeOpens.Asking.{own_no_peer}
 use Rattle.pg_node_state.proofs.Given.{op_in, lock_in}
 
 -- no peer that counts has the own name

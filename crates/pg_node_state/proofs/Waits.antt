@@ -6,14 +6,14 @@ use Rattle.std.specs.List.{AllByRecursion, IsDistinct, filter}
 use Rattle.std.proofs.lemmas.List.Elements.{filter_more}
 use Rattle.std.proofs.lemmas.Map.Keys.{IsDistinct-head, IsDistinct-tail, IsDistinct-cons}
 use Rattle.std.proofs.lemmas.Map.Views.{any-filter_same}
-use Rattle.pg_ports.specs.PgStep.declared.command.OpId.{OpId}
-use Rattle.pg_ports.specs.PgStep.Nodes.{Nodes}
-use Rattle.pg_ports.specs.PgStep.State.{State, Stage}
-use Rattle.pg_ports.specs.PgStep.State.Stage.{Closed, Waiting, Asking, Changing}
-use Rattle.pg_ports.specs.PgStep.Attempts.{same_op, waits}
-use Rattle.pg_ports.specs.PgOpens.declared.opens.Opens.{Opens}
-use Rattle.pg_ports.specs.PgOpens.Opens.{AreListed, stages_of}
-use Rattle.pg_ports.specs.PgOpens.Readings.{stage_seen, is_closed}
+use Rattle.pg_node_ports.specs.PgStep.declared.command.OpId.{OpId}
+use Rattle.pg_node_ports.specs.PgStep.Nodes.{Nodes}
+use Rattle.pg_node_ports.specs.PgStep.State.{State, Stage}
+use Rattle.pg_node_ports.specs.PgStep.State.Stage.{Closed, Waiting, Asking, Changing}
+use Rattle.pg_node_ports.specs.PgStep.Attempts.{same_op, waits}
+use Rattle.pg_node_ports.specs.PgNodeOpens.declared.opens.Opens.{Opens}
+use Rattle.pg_node_ports.specs.PgNodeOpens.Opens.{AreListed, stages_of}
+use Rattle.pg_node_ports.specs.PgNodeOpens.Readings.{stage_seen, is_closed}
 use Rattle.pg_node_state.proofs.Given.{same_is}
 use Rattle.pg_node_state.specs.Waiting.{AreWaiting, waiting_among}
 

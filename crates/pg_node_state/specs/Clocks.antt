@@ -1,6 +1,6 @@
 -- The clock at which an event happens.
 use Rattle.std.specs.Prelude.{◌<◌, ◌≤◌, ℕ}
-use Rattle.pg_ports.specs.PgMessage.declared.packet.TheConstants.{MAX_STAMP}
+use Rattle.pg_node_ports.specs.PgMessageTypes.declared.packet.TheConstants.{MAX_STAMP}
 
 -- it is later than the one before, and within the limit
 pub record IsNow (before clock : ℕ) : Type 0 where

@@ -1,15 +1,15 @@
 -- What comes of a command at the port where it came in.
 use Rattle.std.specs.Prelude.{ℕ, length}
-use Rattle.pg_ports.specs.PgGroup.declared.table.GroupTable.{Ghosts}
-use Rattle.pg_ports.specs.PgGroup.declared.update.Update.{Update}
+use Rattle.pg_node_ports.specs.PgGroup.declared.table.GroupTable.{Ghosts}
+use Rattle.pg_node_ports.specs.PgGroup.declared.update.Update.{Update}
 use Rattle.pg_term.specs.Same.{same_atom}
-use Rattle.pg_ports.specs.PgStep.declared.command.OpId.{OpId}
-use Rattle.pg_ports.specs.PgStep.Nodes.{Nodes, greatest}
-use Rattle.pg_ports.specs.PgStep.State.{State}
-use Rattle.pg_ports.specs.PgStep.State.Status.{Unasked}
-use Rattle.pg_ports.specs.PgStep.Turns.{NodeTurn, and_then}
-use Rattle.pg_ports.specs.PgStep.Attempts.{new_attempt, ask}
-use Rattle.pg_ports.specs.PgStep.Commands.{count_command, next_op}
+use Rattle.pg_node_ports.specs.PgStep.declared.command.OpId.{OpId}
+use Rattle.pg_node_ports.specs.PgStep.Nodes.{Nodes, greatest}
+use Rattle.pg_node_ports.specs.PgStep.State.{State}
+use Rattle.pg_node_ports.specs.PgStep.State.Status.{Unasked}
+use Rattle.pg_node_ports.specs.PgStep.Turns.{NodeTurn, and_then}
+use Rattle.pg_node_ports.specs.PgStep.Attempts.{new_attempt, ask}
+use Rattle.pg_node_ports.specs.PgStep.Commands.{count_command, next_op}
 use Rattle.pg_node_state.specs.declared.state.NodeState.{NodeState}
 
 -- how many ports a node has

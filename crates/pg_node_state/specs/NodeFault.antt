@@ -1,11 +1,11 @@
 -- The faults of a node's events, and how they stand to what the step tells.
 use Rattle.std.specs.Prelude.{ℕ}
-use Rattle.pg_term.specs.PgFaults.declared.TheConstants.{DAMAGED, OUT_OF_MEMORY, TOO_LONG}
+use Rattle.pg_term.specs.declared.faults.TheConstants.{DAMAGED, OUT_OF_MEMORY, TOO_LONG}
 use Rattle.pg_term.specs.declared.fault.TermFault.TheVariants as term
-use Rattle.pg_ports.specs.PgMessage.declared.fault.MessageFault.{MessageFault}
-use Rattle.pg_ports.specs.PgMessage.declared.fault.MessageFault.TheVariants.{Term}
-use Rattle.pg_ports.specs.PgMessage.Fault.{message_number_of}
-use Rattle.pg_ports.specs.PgStep.Faults.{refusal_number_of}
+use Rattle.pg_node_ports.specs.PgMessageTypes.declared.fault.MessageFault.{MessageFault}
+use Rattle.pg_node_ports.specs.PgMessageTypes.declared.fault.MessageFault.TheVariants.{Term}
+use Rattle.pg_node_ports.specs.PgMessageTypes.Fault.{message_number_of}
+use Rattle.pg_node_ports.specs.PgStep.Faults.{refusal_number_of}
 use Rattle.pg_node_state.specs.declared.state.fault.NodeFault.{NodeFault}
 use Rattle.pg_node_state.specs.declared.state.fault.NodeFault.TheVariants.{Refused, OutOfMemory}
 use Rattle.pg_node_state.specs.declared.state.fault.NodeFault.TheVariants.{Message, TooLong, Damaged}

@@ -1,14 +1,14 @@
 -- What a node keeps of its peers and of its ports, by their places.
 use Rattle.std.specs.Prelude.{◌≡◌, ◌<◌, ◌≤◌, ℕ, Bool, true, false, List, Option, Some, None}
-use Rattle.pg_ports.specs.PgGroup.declared.update.Update.{Update}
-use Rattle.pg_ports.specs.PgGroup.Value.{name_of}
-use Rattle.pg_ports.specs.PgMessage.Name.{is_name}
-use Rattle.pg_ports.specs.PgStep.declared.command.OpId.{OpId}
-use Rattle.pg_ports.specs.PgStep.Nodes.{Node}
-use Rattle.pg_ports.specs.PgStep.State.{Use, Stage}
-use Rattle.pg_ports.specs.PgStep.State.Use.{Locking, Updating}
-use Rattle.pg_ports.specs.PgOpens.Readings.{stage_seen, is_closed, waiting_of}
-use Rattle.pg_sends.specs.Marked.{is_marked}
+use Rattle.pg_node_ports.specs.PgGroup.declared.update.Update.{Update}
+use Rattle.pg_node_ports.specs.PgGroup.Value.{name_of}
+use Rattle.pg_node_ports.specs.PgMessageTypes.Name.{is_name}
+use Rattle.pg_node_ports.specs.PgStep.declared.command.OpId.{OpId}
+use Rattle.pg_node_ports.specs.PgStep.Nodes.{Node}
+use Rattle.pg_node_ports.specs.PgStep.State.{Use, Stage}
+use Rattle.pg_node_ports.specs.PgStep.State.Use.{Locking, Updating}
+use Rattle.pg_node_ports.specs.PgNodeOpens.Readings.{stage_seen, is_closed, waiting_of}
+use Rattle.pg_node_sends.specs.Marked.{is_marked}
 
 -- the peers whose exchange was taken, by the marks of the peers
 abbrev pub merged_in : List Node → List Bool → Node → Bool

@@ -1,12 +1,12 @@
 -- When two nodes are the same in all that is seen of them.
 use Rattle.std.specs.Prelude.{◌≡◌}
-use Rattle.pg_ports.specs.PgGroup.declared.table.GroupTable.{Ghosts}
-use Rattle.pg_ports.specs.PgGroup.Ended.{ended_of}
-use Rattle.pg_ports.specs.PgLock.Locks.{locks_of}
-use Rattle.pg_ports.specs.PgEnds.Processes.{made_of}
-use Rattle.pg_ports.specs.PgOpens.Opens.{AreSame}
+use Rattle.pg_node_ports.specs.PgGroup.declared.table.GroupTable.{Ghosts}
+use Rattle.pg_node_ports.specs.PgGroup.Ended.{ended_of}
+use Rattle.pg_node_ports.specs.PgLock.Locks.{locks_of}
+use Rattle.pg_node_ports.specs.PgEnds.Processes.{made_of}
+use Rattle.pg_node_ports.specs.PgNodeOpens.Opens.{AreSame}
 use Rattle.pg_node_state.specs.declared.state.NodeState.{NodeState}
-use Rattle.pg_ports.specs.Same.{AreSamePorts}
+use Rattle.pg_node_ports.specs.Same.{AreSamePorts}
 use Rattle.pg_node_state.specs.Issued.{ports_of}
 use Rattle.pg_node_state.specs.States.{names_of, kept_by, state_of, answers_of}
 

@@ -1,40 +1,40 @@
 -- What a node's state is seen as, and what an event makes of it.
 use Rattle.std.specs.Prelude.{◌≡◌, ℕ, ◌+◌, ◌++◌, Bool, true, false, not, cond, max}
 use Rattle.std.specs.Prelude.{nat_eq, List, [], ◌∷◌, Option, Some, None, Result, Ok, Err, OnErr}
-use Rattle.pg_ports.specs.PgGroup.declared.table.GroupTable.{Ghosts}
-use Rattle.pg_ports.specs.PgGroup.Ended.{ended_of}
-use Rattle.pg_ports.specs.PgGroup.Functions.{upd}
-use Rattle.pg_ports.specs.PgLock.Locks.{locks_of}
-use Rattle.pg_ports.specs.PgEnds.Processes.{made_of}
-use Rattle.pg_ports.specs.PgMessage.declared.message.Message.{Message}
-use Rattle.pg_ports.specs.PgMessage.declared.message.Message.TheVariants.{DelLock, Exchange, Reply as Replied}
-use Rattle.pg_ports.specs.PgExchange.GroupList.{GroupList}
-use Rattle.pg_ports.specs.PgMachine.Clocked.{Timed, Stamped}
-use Rattle.pg_ports.specs.PgMulticall.Gathered.{what_of}
-use Rattle.pg_ports.specs.PgMulticall.declared.gather.Taken.{Taken}
-use Rattle.pg_ports.specs.PgMulticall.declared.gather.Taken.TheVariants.{Counted}
-use Rattle.pg_ports.specs.PgOpens.Opens as opens
-use Rattle.pg_ports.specs.PgOpens.Places.{name_at}
-use Rattle.pg_ports.specs.PgStep.declared.answer.Answer.{Answer}
-use Rattle.pg_ports.specs.PgStep.declared.answer.Reply.{Reply}
-use Rattle.pg_ports.specs.PgStep.declared.command.OpId.{OpId}
-use Rattle.pg_ports.specs.PgStep.Nodes.{Node, Nodes}
-use Rattle.pg_ports.specs.PgStep.State.{State, Response}
-use Rattle.pg_ports.specs.PgStep.Attempts.{gathered, use_of}
-use Rattle.pg_ports.specs.PgStep.Commands.{Answers}
-use Rattle.pg_ports.specs.PgStep.Losses.{see_loss}
-use Rattle.pg_ports.specs.PgStep.Turns.{NodeTurn}
-use Rattle.pg_ports.specs.PgStep.Step.{TimedTurn, at_clock, timed}
-use Rattle.pg_ports.specs.PgStep.declared.refusal.Refusal.{Refusal}
-use Rattle.pg_ports.specs.PgStep.declared.refusal.Refusal.TheVariants.{NodeLost}
+use Rattle.pg_node_ports.specs.PgGroup.declared.table.GroupTable.{Ghosts}
+use Rattle.pg_node_ports.specs.PgGroup.Ended.{ended_of}
+use Rattle.pg_node_ports.specs.PgGroup.Functions.{upd}
+use Rattle.pg_node_ports.specs.PgLock.Locks.{locks_of}
+use Rattle.pg_node_ports.specs.PgEnds.Processes.{made_of}
+use Rattle.pg_node_ports.specs.PgMessageTypes.declared.message.Message.{Message}
+use Rattle.pg_node_ports.specs.PgMessageTypes.declared.message.Message.TheVariants.{DelLock, Exchange, Reply as Replied}
+use Rattle.pg_node_ports.specs.PgExchange.GroupList.{GroupList}
+use Rattle.pg_node_ports.specs.PgStep.Machines.Clocked.{Timed, Stamped}
+use Rattle.pg_node_ports.specs.PgMulticall.Gathered.{what_of}
+use Rattle.pg_node_ports.specs.PgMulticall.declared.gather.Taken.{Taken}
+use Rattle.pg_node_ports.specs.PgMulticall.declared.gather.Taken.TheVariants.{Counted}
+use Rattle.pg_node_ports.specs.PgNodeOpens.Opens as opens
+use Rattle.pg_node_ports.specs.PgNodeOpens.Places.{name_at}
+use Rattle.pg_node_ports.specs.PgStep.declared.answer.Answer.{Answer}
+use Rattle.pg_node_ports.specs.PgStep.declared.answer.Reply.{Reply}
+use Rattle.pg_node_ports.specs.PgStep.declared.command.OpId.{OpId}
+use Rattle.pg_node_ports.specs.PgStep.Nodes.{Node, Nodes}
+use Rattle.pg_node_ports.specs.PgStep.State.{State, Response}
+use Rattle.pg_node_ports.specs.PgStep.Attempts.{gathered, use_of}
+use Rattle.pg_node_ports.specs.PgStep.Commands.{Answers}
+use Rattle.pg_node_ports.specs.PgStep.Losses.{see_loss}
+use Rattle.pg_node_ports.specs.PgStep.Turns.{NodeTurn}
+use Rattle.pg_node_ports.specs.PgStep.Step.{TimedTurn, at_clock, timed}
+use Rattle.pg_node_ports.specs.PgStep.declared.refusal.Refusal.{Refusal}
+use Rattle.pg_node_ports.specs.PgStep.declared.refusal.Refusal.TheVariants.{NodeLost}
 use Rattle.pg_node_state.specs.declared.state.NodeState.{NodeState}
-use Rattle.pg_sends.specs.declared.done.Done.{Done}
-use Rattle.pg_sends.specs.declared.outgoing.Outgoing.{Ghosts as Listing}
+use Rattle.pg_node_sends.specs.declared.done.Done.{Done}
+use Rattle.pg_node_sends.specs.declared.outgoing.Outgoing.{Ghosts as Listing}
 use Rattle.pg_node_state.specs.declared.state.fault.NodeFault.{NodeFault}
 use Rattle.pg_node_state.specs.declared.state.fault.NodeFault.TheVariants.{Refused, OutOfMemory}
 use Rattle.pg_node_state.specs.Ports.{merged_in}
-use Rattle.pg_ports.specs.Ports.{port_commands, answers_in}
-use Rattle.pg_sends.specs.Sent.{sends_in}
+use Rattle.pg_node_ports.specs.Ports.{port_commands, answers_in}
+use Rattle.pg_node_sends.specs.Sent.{sends_in}
 use Rattle.pg_node_state.specs.Issued.{ports_of}
 
 -- ---- the state

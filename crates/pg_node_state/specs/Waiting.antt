@@ -1,13 +1,13 @@
 -- The open commands of a node that wait for their retry.
 use Rattle.std.specs.Prelude.{◌≡◌, Bool, false, List}
 use Rattle.std.specs.List.{IsDistinct, filter, list_any}
-use Rattle.pg_ports.specs.PgGroup.declared.table.GroupTable.{Ghosts}
-use Rattle.pg_ports.specs.PgStep.declared.command.OpId.{OpId}
-use Rattle.pg_ports.specs.PgStep.Nodes.{Nodes}
-use Rattle.pg_ports.specs.PgStep.State.{State, Stage}
-use Rattle.pg_ports.specs.PgStep.State.Stage.{Asking, Changing}
-use Rattle.pg_ports.specs.PgStep.Attempts.{same_op, is_complete, waits}
-use Rattle.pg_ports.specs.PgOpens.Opens as opens
+use Rattle.pg_node_ports.specs.PgGroup.declared.table.GroupTable.{Ghosts}
+use Rattle.pg_node_ports.specs.PgStep.declared.command.OpId.{OpId}
+use Rattle.pg_node_ports.specs.PgStep.Nodes.{Nodes}
+use Rattle.pg_node_ports.specs.PgStep.State.{State, Stage}
+use Rattle.pg_node_ports.specs.PgStep.State.Stage.{Asking, Changing}
+use Rattle.pg_node_ports.specs.PgStep.Attempts.{same_op, is_complete, waits}
+use Rattle.pg_node_ports.specs.PgNodeOpens.Opens as opens
 use Rattle.pg_node_state.specs.declared.state.NodeState.{NodeState}
 
 -- the open commands, the earliest first

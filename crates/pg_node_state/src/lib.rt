@@ -11,13 +11,13 @@ pub use pg_frame::{
     loss_cuts_packets, moving_keeps_packets, pieces_continue, sending_adds_packets, write_frame,
     written_is_read,
 };
-pub use pg_ports::{
+pub use pg_node_ports::{
     Answer, Command, Ended, GroupTable, Message, MessageFault, Odd, OpId, Packet, Places, RefFault,
     RefSource, Refusal, Reply, Request, Said, Scope, Start, Update, decode, encode, encode_into,
     losing_nodes_keep_time, nodes_keep_time, numbered_from_one, same_group, same_groups,
     which_groups,
 };
-pub use pg_sends::{
+pub use pg_node_sends::{
     Done, Framed, Goes, Held, MAX_SMALL_LEN, Outgoing, packet_len, write_packet_into, write_small,
 };
 pub use state::{NodeConfig, NodeFault, NodeState, started};

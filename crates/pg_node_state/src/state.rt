@@ -3,14 +3,14 @@
 ghost use Rattle.std.specs.Prelude.{◌≡◌, ◌≤◌, ◌<◌, ◌+◌, ◌*◌, ◌^◌, ℕ, true, length};
 ghost use Rattle.pg_term.specs.declared.pid.Pid.{Pid};
 ghost use Rattle.pg_term.specs.declared.term.Term.{Term};
-ghost use Rattle.pg_ports.specs.PgGroup.Value.{count_in};
-ghost use Rattle.pg_ports.specs.PgEnds.Processes.{node_of};
-ghost use Rattle.pg_ports.specs.PgMessage.declared.packet.TheConstants.{MAX_STAMP};
-ghost use Rattle.pg_ports.specs.PgStep.Nodes.{Node};
-ghost use Rattle.pg_ports.specs.PgOpens.Opens.{names_of as open_names, lost_of, references_of, uses_of, stages_of};
-ghost use Rattle.pg_ports.specs.PgOpens.Places.{name_at};
+ghost use Rattle.pg_node_ports.specs.PgGroup.Value.{count_in};
+ghost use Rattle.pg_node_ports.specs.PgEnds.Processes.{node_of};
+ghost use Rattle.pg_node_ports.specs.PgMessageTypes.declared.packet.TheConstants.{MAX_STAMP};
+ghost use Rattle.pg_node_ports.specs.PgStep.Nodes.{Node};
+ghost use Rattle.pg_node_ports.specs.PgNodeOpens.Opens.{names_of as open_names, lost_of, references_of, uses_of, stages_of};
+ghost use Rattle.pg_node_ports.specs.PgNodeOpens.Places.{name_at};
 ghost use Rattle.pg_node_state.specs.Ports.{merged_in, CameIn, AreGiven};
-ghost use Rattle.pg_ports.specs.Ports.{port_commands};
+ghost use Rattle.pg_node_ports.specs.Ports.{port_commands};
 
 mod answers;
 mod attempts;
@@ -35,7 +35,7 @@ mod undertake;
 
 pub use fault::NodeFault;
 pub use made::{NodeConfig, started};
-use pg_ports::{Ended, Formation, GroupTable, LockTable, Opens, Port, Processes};
+use pg_node_ports::{Ended, Formation, GroupTable, LockTable, Opens, Port, Processes};
 use std::alloc::Global;
 
 /// A node of a set over packets.

@@ -7,9 +7,9 @@ use Rattle.clap.specs.Words.{Kinds, IsAmong, Row, Text}
 use Rattle.clap.specs.declared.error.ErrorKind.{ErrorKind}
 use Rattle.clap.specs.declared.error.ErrorKind.TheVariants as kind
 use Rattle.pg_term.specs.declared.fault.TermFault.TheVariants.{OutOfMemory}
-use Rattle.pg_cluster.specs.PgMessage.declared.fault.MessageFault.TheVariants.{Term}
-use Rattle.pg_cluster.proofs.PgReplica.Streams.{appends_none}
-use Rattle.pg_cluster.specs.PgReplica.declared.fault.ServeFault.TheVariants.{Message}
+use Rattle.pg_cluster.specs.PgMessageTypes.declared.fault.MessageFault.TheVariants.{Term}
+use Rattle.pg_cluster.proofs.PgNode.Replicas.Streams.{appends_none}
+use Rattle.pg_cluster.specs.PgNode.declared.replica.fault.ServeFault.TheVariants.{Message}
 use Rattle.pg_program.specs.declared.bytes.BytesFault.{BytesFault}
 use Rattle.pg_program.specs.declared.bytes.BytesFault.TheVariants.{Serve}
 use Rattle.pg_program.specs.Bytes.{BytesCause, ServesAs}

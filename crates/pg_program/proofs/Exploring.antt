@@ -4,7 +4,7 @@ use Rattle.std.proofs.Common.{None, Result, Ok, Err, refl, sym, ap, ◌∙◌, s
 use Rattle.std.specs.Prelude.{IsTrue, if◌then◌else◌}
 use Rattle.std.specs.Str.{is_utf8}
 use Rattle.std.proofs.lemmas.Bool.Decides.{nat_tests}
-use Rattle.pg_cluster.specs.PgConfig.declared.fault.WorldFault.{WorldFault}
+use Rattle.pg_cluster.specs.PgWorldConfig.declared.fault.WorldFault.{WorldFault}
 use Rattle.pg_explore.specs.declared.fault.ExploreFault.{ExploreFault}
 use Rattle.pg_explore.specs.declared.fault.ExploreFault.TheVariants as explore
 use Rattle.pg_explore.specs.Explorations.{AreUnlike, AreFollowed, AreReached}
@@ -14,11 +14,11 @@ use Rattle.pg_script.specs.Scripts.{Contents}
 use Rattle.pg_script.specs.declared.fault.LineFault.{LineFault}
 use Rattle.pg_script.specs.declared.fault.LineFault.TheVariants as lines
 use Rattle.pg_script.specs.declared.fault.ScriptFault.{ScriptFault}
-use Rattle.pg_cluster.specs.PgFrameWorld.Openings.{CantBegin}
-use Rattle.pg_survey.specs.declared.findings.Findings.{Findings}
-use Rattle.pg_survey.specs.declared.scenario.Scenario.{Scenario}
-use Rattle.pg_survey.specs.Findings.{met_in}
-use Rattle.pg_survey.specs.Scenarios.{IsScenario, IsScenarioOf, scenario_of}
+use Rattle.pg_cluster.specs.PgWorldPackets.Openings.{CantBegin}
+use Rattle.pg_explore_survey.specs.declared.findings.Findings.{Findings}
+use Rattle.pg_explore_survey.specs.declared.scenario.Scenario.{Scenario}
+use Rattle.pg_explore_survey.specs.Findings.{met_in}
+use Rattle.pg_explore_survey.specs.Scenarios.{IsScenario, IsScenarioOf, scenario_of}
 use Rattle.pg_program.specs.declared.fault.Fault.{Fault}
 use Rattle.pg_program.specs.declared.fault.Fault.TheVariants.{Run, Given, Line}
 use Rattle.pg_program.specs.declared.input.TheConstants.{MAX_SCRIPT_LEN}

@@ -3,8 +3,8 @@ use Rattle.std.proofs.Common.{◌≡◌, ℕ, List, [], ◌∷◌, ◌++◌, Opt
 use Rattle.std.proofs.Common.{Result, Ok, Err, ap, sym, ◌∙◌, append_assoc}
 use Rattle.std.specs.Prelude.{OnOk, OnErr, IfErr}
 use Rattle.std.specs.Io.KnownBytes.{Appends}
-use Rattle.pg_cluster.specs.PgReplica.Causes.{FailedAt}
-use Rattle.pg_cluster.proofs.PgReplica.Streams.{appends_then}
+use Rattle.pg_cluster.specs.PgNode.Replicas.Causes.{FailedAt}
+use Rattle.pg_cluster.proofs.PgNode.Replicas.Streams.{appends_then}
 use Rattle.pg_script.specs.declared.fault.RunFault.{RunFault}
 use Rattle.pg_script.specs.declared.fault.RunFault.TheVariants.{WriteFault}
 use Rattle.pg_program.specs.Told.{WritesOut, WritesSome}

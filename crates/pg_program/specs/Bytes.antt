@@ -2,10 +2,10 @@
 use Rattle.std.specs.Prelude.{◌≡◌, ◌⊎◌, ⊤, ℕ, List, Option, Result, Ok, Err}
 use Rattle.pg_term.specs.Fault.{checked_atom}
 use Rattle.pg_term.specs.declared.fault.TermFault.TheVariants.{BadAtom, OutOfMemory}
-use Rattle.pg_cluster.specs.PgMessage.declared.fault.MessageFault.TheVariants.{Term}
-use Rattle.pg_cluster.specs.PgReplica.Causes.{Cause}
-use Rattle.pg_cluster.specs.PgReplica.Replica.{Pair, Serves}
-use Rattle.pg_cluster.specs.PgReplica.declared.fault.ServeFault.TheVariants.{Message}
+use Rattle.pg_cluster.specs.PgMessageTypes.declared.fault.MessageFault.TheVariants.{Term}
+use Rattle.pg_cluster.specs.PgNode.Replicas.Causes.{Cause}
+use Rattle.pg_cluster.specs.PgNode.Replicas.Replica.{Pair, Serves}
+use Rattle.pg_cluster.specs.PgNode.declared.replica.fault.ServeFault.TheVariants.{Message}
 use Rattle.pg_program.specs.declared.bytes.BytesFault.{BytesFault}
 use Rattle.pg_program.specs.declared.bytes.BytesFault.TheVariants.{Names, Serve}
 

@@ -3,16 +3,16 @@ use Rattle.std.specs.Prelude.{◌≡◌, ◌≢◌, ◌⊎◌, ◌↔◌, ◌<�
 use Rattle.std.specs.Prelude.{true, false, IsTrue, Option, Some, None, Result, Ok, Err, string_bytes, if◌then◌else◌}
 use Rattle.std.specs.Io.KnownBytes.{Appends}
 use Rattle.std.specs.Str.{is_utf8}
-use Rattle.pg_cluster.specs.PgConfig.Faults.{world_number_of}
-use Rattle.pg_cluster.specs.PgConfig.declared.fault.WorldFault.TheVariants.{OutOfMemory}
+use Rattle.pg_cluster.specs.PgWorldConfig.Faults.{world_number_of}
+use Rattle.pg_cluster.specs.PgWorldConfig.declared.fault.WorldFault.TheVariants.{OutOfMemory}
 use Rattle.pg_explore.specs.declared.fault.ExploreFault.{ExploreFault}
 use Rattle.pg_explore.specs.declared.fault.ExploreFault.TheVariants as explore
 use Rattle.pg_explore.specs.declared.plan.Plan.{Plan}
 use Rattle.pg_explore.specs.Explorations.{AreUnlike, AreFollowed, AreReached}
 use Rattle.pg_script.specs.Scripts.{Contents}
-use Rattle.pg_survey.specs.declared.findings.Findings.{Findings}
-use Rattle.pg_survey.specs.Findings.{IsPage, IsWhereMarked, end_numbered, end_places, differing_marks, met_in}
-use Rattle.pg_survey.specs.Scenarios.{ArePlans, scenario_of}
+use Rattle.pg_explore_survey.specs.declared.findings.Findings.{Findings}
+use Rattle.pg_explore_survey.specs.Findings.{IsPage, IsWhereMarked, end_numbered, end_places, differing_marks, met_in}
+use Rattle.pg_explore_survey.specs.Scenarios.{ArePlans, scenario_of}
 use Rattle.pg_program.specs.declared.fault.Fault.{Fault}
 use Rattle.pg_program.specs.declared.fault.Fault.TheVariants.{Run, Given, Line}
 use Rattle.pg_program.specs.declared.input.TheConstants.{MAX_SCRIPT_LEN}

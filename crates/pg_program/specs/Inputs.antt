@@ -2,7 +2,7 @@
 use Rattle.std.specs.Prelude.{◌≡◌, ◌⊎◌, ◌<◌, ◌≤◌, ℕ, List, [], length, nat_lt, Option, Result, Ok, Err, if◌then◌else◌}
 use Rattle.std.specs.Io.KnownBytes.{Consumes, IsAtEnd}
 use Rattle.std.specs.Str.{is_utf8}
-use Rattle.pg_cluster.specs.PgReplica.Causes.{GaveChunks, joined}
+use Rattle.pg_cluster.specs.PgNode.Replicas.Causes.{GaveChunks, joined}
 use Rattle.pg_script.specs.Faults.{line_number_of}
 use Rattle.pg_script.specs.Scripts.{Contents, contents_of, script_of}
 use Rattle.pg_script.specs.declared.fault.ScriptFault.{ScriptFault}

@@ -1,6 +1,6 @@
-pub mod Explorations
 pub mod Bytes
 pub mod CommandLine
+pub mod Explorations
 pub mod Faults
 pub mod Inputs
 pub mod Scripts

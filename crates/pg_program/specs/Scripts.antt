@@ -8,10 +8,10 @@ use Rattle.pg_script.specs.declared.fault.LineFault.TheVariants as lines
 use Rattle.pg_script.specs.declared.fault.RunFault.{RunFault}
 use Rattle.pg_script.specs.declared.fault.RunFault.TheVariants as run
 use Rattle.pg_script.specs.declared.fault.ScriptFault.{ScriptFault}
-use Rattle.pg_cluster.specs.PgConfig.Faults.{world_number_of}
-use Rattle.pg_cluster.specs.PgFrameWorld.Openings.{CantBegin}
-use Rattle.pg_cluster.specs.PgConfig.declared.fault.WorldFault.{WorldFault}
-use Rattle.pg_cluster.specs.PgConfig.declared.fault.WorldFault.TheVariants.{OutOfMemory}
+use Rattle.pg_cluster.specs.PgWorldConfig.Faults.{world_number_of}
+use Rattle.pg_cluster.specs.PgWorldPackets.Openings.{CantBegin}
+use Rattle.pg_cluster.specs.PgWorldConfig.declared.fault.WorldFault.{WorldFault}
+use Rattle.pg_cluster.specs.PgWorldConfig.declared.fault.WorldFault.TheVariants.{OutOfMemory}
 use Rattle.pg_program.specs.declared.fault.Fault.{Fault}
 use Rattle.pg_program.specs.declared.fault.Fault.TheVariants.{Run, Given, Line}
 use Rattle.pg_program.specs.Inputs.{NotRead, IsReadAs}

@@ -3,7 +3,7 @@ use Rattle.std.specs.Prelude.{◌≡◌, ◌⊎◌, ◌&&◌, ℕ, List, ◌++�
 use Rattle.std.specs.Prelude.{Some, None, Result, Ok, Err, codes, if◌then◌else◌}
 use Rattle.pg_script.specs.declared.fault.RunFault.{RunFault}
 use Rattle.pg_cluster.specs.declared.fault.StartFault.TheVariants as starts
-use Rattle.pg_cluster.specs.PgConfig.declared.fault.WorldFault.TheVariants.{OutOfMemory}
+use Rattle.pg_cluster.specs.PgWorldConfig.declared.fault.WorldFault.TheVariants.{OutOfMemory}
 use Rattle.pg_talk.specs.Outcomes.{yes_or_no}
 use Rattle.pg_talk.specs.Services.{service_number_of}
 use Rattle.pg_talk.specs.declared.service.fault.ServiceFault.{ServiceFault}

@@ -1,7 +1,7 @@
 -- How the program ends.
 use Rattle.std.specs.Prelude.{◌≡◌, ◌⊎◌, ℕ, List, Option, Result, Ok, Err, IfErr}
 use Rattle.std.specs.Str.{chars}
-use Rattle.pg_cluster.specs.PgReplica.Fault.{number_of}
+use Rattle.pg_cluster.specs.PgNode.Replicas.Fault.{number_of}
 use Rattle.pg_script.specs.declared.fault.RunFault.{RunFault}
 use Rattle.pg_program.specs.declared.bytes.BytesFault.{BytesFault}
 use Rattle.pg_program.specs.declared.bytes.BytesFault.TheVariants.{Names, Serve}

@@ -1,7 +1,7 @@
 -- What is written where a write may fail.
 use Rattle.std.specs.Prelude.{◌≡◌, ℕ, List, ◌++◌, Option, Result, Ok, Err, codes, decimal}
 use Rattle.std.specs.Io.KnownBytes.{Appends}
-use Rattle.pg_cluster.specs.PgReplica.Causes.{FailedAt}
+use Rattle.pg_cluster.specs.PgNode.Replicas.Causes.{FailedAt}
 use Rattle.pg_script.specs.declared.fault.RunFault.{RunFault}
 
 -- a prefix of the text was written

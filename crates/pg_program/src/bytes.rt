@@ -2,11 +2,12 @@
 
 ghost use Rattle.std.specs.Prelude.{◌≡◌, IfSome, IfOk, IfErr};
 ghost use Rattle.std.specs.Str.{chars};
-ghost use Rattle.pg_cluster.specs.PgReplica.Causes.{AllAnswered, FailedAt, Unread};
+ghost use Rattle.pg_cluster.specs.PgNode.Replicas.Causes.{AllAnswered, FailedAt, Unread};
 ghost use Rattle.pg_program.specs.Bytes.{BytesCause, NameFault, NamesFault, ServesAs, pair_of_texts};
 
-use pg_cluster::{MessageFault, ServeFault, Sink, Source, serve};
-use pg_term::pg_faults::BAD_CONFIG;
+use pg_cluster::{MessageFault, ServeFault, serve};
+use pg_streams::{Sink, Source};
+use pg_term::faults::BAD_CONFIG;
 use pg_term::{Atom, TermFault};
 use std::alloc::Global;
 

@@ -3,10 +3,10 @@
 ghost use Rattle.std.specs.Prelude.{◌≡◌, ◌⊎◌, ◌<◌, ◌≤◌, IfErr, IfOk, Ok, length, option_map, string_bytes};
 ghost use Rattle.pg_explore.specs.Explorations.{AreUnlike, AreFollowed, AreReached};
 ghost use Rattle.pg_explore.specs.Faults.{CantExplore};
-ghost use Rattle.pg_cluster.specs.PgReplica.Causes.{FailedAt};
+ghost use Rattle.pg_cluster.specs.PgNode.Replicas.Causes.{FailedAt};
 ghost use Rattle.pg_script.specs.Scripts.{Contents};
-ghost use Rattle.pg_survey.specs.Findings.{met_in};
-ghost use Rattle.pg_survey.specs.Scenarios.{IsScenarioOf};
+ghost use Rattle.pg_explore_survey.specs.Findings.{met_in};
+ghost use Rattle.pg_explore_survey.specs.Scenarios.{IsScenarioOf};
 ghost use Rattle.pg_program.specs.Explorations.{ExploreEnd, IsAnswer, NotPictured};
 ghost use Rattle.pg_program.specs.Explorations.{PlannedEnd, Shown, WhyNot, bytes_planned};
 ghost use Rattle.pg_program.specs.Inputs.{IsInput, IsUnread};
@@ -17,11 +17,12 @@ use crate::script::script_fault;
 use crate::system::System;
 use crate::threads::print;
 use crate::words::Quest;
-use pg_cluster::{Sink, Source, WorldFault};
+use pg_cluster::WorldFault;
 use pg_explore::{ExploreFault, Limits};
+use pg_explore_survey::{Findings, Observer, Scenario, read_scenario, survey};
 use pg_script::{RunFault, graph_svg};
-use pg_survey::{Findings, Observer, Scenario, read_scenario, survey};
-use pg_term::pg_faults::{NO_SUCH_PLACE, OUT_OF_MEMORY, TOO_LONG};
+use pg_streams::{Sink, Source};
+use pg_term::faults::{NO_SUCH_PLACE, OUT_OF_MEMORY, TOO_LONG};
 use std::alloc::{AllocError, Global};
 
 /// Explores the script that the input is, and writes what was found; whether all worlds were met.

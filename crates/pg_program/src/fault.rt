@@ -4,8 +4,8 @@ ghost use Rattle.std.specs.Prelude.{decimal};
 ghost use Rattle.pg_program.specs.Told.{WritesOut, behind_refused, line_refused, number_end, number_refused, refused_line};
 
 use itoa::Buffer;
-use pg_cluster::Sink;
 use pg_script::{RunFault, put_whole};
+use pg_streams::Sink;
 
 /// Why a run is not done.
 #[derive(Clone, Copy, Debug, PartialEq, Eq)]

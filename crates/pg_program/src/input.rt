@@ -7,8 +7,8 @@ ghost use Rattle.pg_program.specs.declared.fault.Fault.TheVariants.{Given};
 ghost use Rattle.pg_program.specs.declared.input.TheConstants.{MAX_SCRIPT_LEN};
 
 use crate::fault::Fault;
-use pg_cluster::Source;
-use pg_term::pg_faults::{BAD_LINE, OUT_OF_MEMORY, READ_FAULT, TOO_LONG};
+use pg_streams::Source;
+use pg_term::faults::{BAD_LINE, OUT_OF_MEMORY, READ_FAULT, TOO_LONG};
 use std::alloc::Global;
 
 /// How many bytes a script has at most.

@@ -5,7 +5,7 @@ ghost use Rattle.std.specs.Str.{chars};
 ghost use Rattle.std.specs.IoError.{error_kind};
 ghost use Rattle.std.specs.declared.io.ErrorKind.TheVariants.{InvalidData};
 ghost use Rattle.clap.specs.Words.{fault_of, kind_of, subcommand_of};
-ghost use Rattle.pg_cluster.specs.PgReplica.Causes.{AllAnswered, FailedAt, Unread};
+ghost use Rattle.pg_cluster.specs.PgNode.Replicas.Causes.{AllAnswered, FailedAt, Unread};
 ghost use Rattle.pg_program.specs.Bytes.{BytesCause, pair_of_texts};
 ghost use Rattle.pg_program.specs.CommandLine.{command_line, AsksBytes, IsExplore, IsExploreWord};
 ghost use Rattle.pg_program.specs.CommandLine.{IsScriptWord, IsServeWord, IsThreads};
@@ -28,10 +28,10 @@ use crate::threads::converse;
 use crate::words::{Aids, Offer, Quest, Talk, Task, read_words};
 use clap::Error;
 use clap::error::ErrorKind;
-use pg_cluster::{Sink, Source};
 use pg_script::put_whole;
+use pg_streams::{Sink, Source};
 use pg_talk::Served;
-use pg_term::pg_faults::OUT_OF_MEMORY;
+use pg_term::faults::OUT_OF_MEMORY;
 use std::alloc::Global;
 use std::io;
 
@@ -52,7 +52,7 @@ const REFUSED_WORDS: u8 = 2;
 /// `pg_talk::run_threads` does, and prints how it went; status 1 where not all was well. `serve` takes requests for
 /// such a cluster from the system's input, and writes the replies to `writer`, as `pg_talk::serve_cluster` does; then
 /// two lines on `faults` tell what the cluster is found to be, and status 1 where not all is well. `explore` reads a
-/// script of commands, goes through all their runs as `pg_survey::survey` does, and prints what was counted, or by
+/// script of commands, goes through all their runs as `pg_explore_survey::survey` does, and prints what was counted, or by
 /// `--show` and `--differing` one run as a script; by `--graph` it makes a file; status 1 where the limit was
 /// reached. A fault stands in a line of `faults`: `refused N`, or `line L refused N` for a faulty line of a script.
 /// Status 0: done; 1: the run was refused; 2: what was given was refused. Refused words print the text of `clap` on

@@ -1,7 +1,7 @@
 //! `pg2sim script`.
 
 ghost use Rattle.std.specs.Prelude.{◌≡◌, ◌≢◌, ◌⊎◌, ◌≤◌, length, Ok, Err, IfOk, IfErr, OnErr};
-ghost use Rattle.pg_cluster.specs.PgReplica.Causes.{FailedAt};
+ghost use Rattle.pg_cluster.specs.PgNode.Replicas.Causes.{FailedAt};
 ghost use Rattle.pg_script.specs.Runs.{CausedBy};
 ghost use Rattle.pg_script.specs.Scripts.{contents_of};
 ghost use Rattle.pg_program.specs.Inputs.{IsInput, IsUnread, ScriptRead, bytes_said};
@@ -13,12 +13,13 @@ use crate::fault::Fault;
 use crate::input::{read_input, text_of};
 use crate::system::System;
 use crate::words::Aids;
-use pg_cluster::{Sink, Source, WorldFault};
+use pg_cluster::WorldFault;
 use pg_script::{
     LineFault, RunFault, Script, ScriptFault, Watch, diagram_of, read_script, run_script,
     watch_script, write_svg,
 };
-use pg_term::pg_faults::OUT_OF_MEMORY;
+use pg_streams::{Sink, Source};
+use pg_term::faults::OUT_OF_MEMORY;
 use std::alloc::{AllocError, Global};
 
 /// Runs the script that the input is, and writes what it prints; with these aids.

@@ -8,10 +8,11 @@ use crate::fault::Fault;
 use crate::input::text_of;
 use crate::system::System;
 use crate::words::Offer;
-use pg_cluster::{Config, Sink, StartFault, WorldFault};
+use pg_cluster::{Config, StartFault, WorldFault};
 use pg_script::{RunFault, put_whole};
+use pg_streams::Sink;
 use pg_talk::{Served, Service, ServiceFault, Verdict, config_of, node_names};
-use pg_term::pg_faults::{BAD_CONFIG, OUT_OF_MEMORY, READ_FAULT};
+use pg_term::faults::{BAD_CONFIG, OUT_OF_MEMORY, READ_FAULT};
 use pg_term::{Atom, TermFault};
 use std::alloc::Global;
 

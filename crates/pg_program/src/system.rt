@@ -8,7 +8,8 @@ ghost use Rattle.pg_talk.specs.declared.service.fault.ServiceFault.{ServiceFault
 ghost use Rattle.pg_talk.specs.declared.service.run.Served.{Served};
 ghost use Rattle.pg_cluster.specs.declared.fault.StartFault.{StartFault};
 
-use pg_cluster::{Sink, StartFault};
+use pg_cluster::StartFault;
+use pg_streams::Sink;
 use pg_talk::{Conversation, Outcome, Served, Service, ServiceFault};
 use std::io;
 

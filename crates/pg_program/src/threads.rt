@@ -2,16 +2,16 @@
 
 ghost use Rattle.std.specs.Prelude.{◌≡◌, ◌++◌, OnOk};
 ghost use Rattle.pg_talk.specs.Outcomes.{is_good};
-ghost use Rattle.pg_cluster.specs.PgReplica.Causes.{FailedAt};
+ghost use Rattle.pg_cluster.specs.PgNode.Replicas.Causes.{FailedAt};
 ghost use Rattle.pg_program.specs.Talks.{Printed, TalkEnd, json_line, outcome_text};
 
 use crate::fault::Fault;
 use crate::system::System;
 use crate::words::Talk;
-use pg_cluster::Sink;
 use pg_script::{RunFault, put_whole};
+use pg_streams::Sink;
 use pg_talk::Outcome;
-use pg_term::pg_faults::OUT_OF_MEMORY;
+use pg_term::faults::OUT_OF_MEMORY;
 use std::alloc::Global;
 use std::io;
 use std::io::Write;

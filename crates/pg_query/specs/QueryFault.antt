@@ -1,6 +1,6 @@
 -- The numbers of the faults of a question.
 use Rattle.std.specs.Prelude.{ℕ}
-use Rattle.pg_term.specs.PgFaults.declared.TheConstants.{NO_MEMBER, NO_SUCH_GROUP, OUT_OF_MEMORY}
+use Rattle.pg_term.specs.declared.faults.TheConstants.{NO_MEMBER, NO_SUCH_GROUP, OUT_OF_MEMORY}
 use Rattle.pg_query.specs.declared.fault.QueryFault.{QueryFault}
 use Rattle.pg_query.specs.declared.fault.QueryFault.TheVariants.{NoSuchGroup, NoMember, OutOfMemory}
 

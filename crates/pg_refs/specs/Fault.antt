@@ -1,6 +1,6 @@
 -- The faults' place in the one list of faults.
 use Rattle.std.specs.Prelude.{ℕ}
-use Rattle.pg_term.specs.PgFaults.declared.TheConstants.{CLOCK_FULL, OUT_OF_MEMORY}
+use Rattle.pg_term.specs.declared.faults.TheConstants.{CLOCK_FULL, OUT_OF_MEMORY}
 use Rattle.pg_refs.specs.declared.fault.RefFault.{RefFault}
 use Rattle.pg_refs.specs.declared.fault.RefFault.TheVariants.{ClockFull, OutOfMemory}
 

@@ -1,4 +1,4 @@
-use pg_term::pg_faults::{CLOCK_FULL, OUT_OF_MEMORY};
+use pg_term::faults::{CLOCK_FULL, OUT_OF_MEMORY};
 use std::alloc::AllocError;
 use thiserror::Error;
 

@@ -1,6 +1,6 @@
 -- The faults' place in the one list of faults.
 use Rattle.std.specs.Prelude.{ℕ}
-use Rattle.pg_faults.specs.declared.TheConstants.{BAD_CAPACITY, OUT_OF_MEMORY}
+use Rattle.pg_term.specs.declared.faults.TheConstants.{BAD_CAPACITY, OUT_OF_MEMORY}
 use Rattle.pg_ring.specs.declared.fault.RingFault.{RingFault}
 use Rattle.pg_ring.specs.declared.fault.RingFault.TheVariants.{BadCapacity, OutOfMemory}
 

@@ -1,6 +1,6 @@
 ghost use Rattle.std.specs.Prelude.{◌≡◌};
 
-use pg_faults::{BAD_CAPACITY, OUT_OF_MEMORY};
+use pg_term::faults::{BAD_CAPACITY, OUT_OF_MEMORY};
 use std::alloc::AllocError;
 use thiserror::Error;
 

@@ -1,5 +1,5 @@
-mod Rounding
 pub mod Lists
 pub mod Placing
+mod Rounding
 pub mod Walking
-pub use Rattle.pg_trace.proofs.PgFrameWorld
+pub use Rattle.pg_script_trace.proofs.PgWorldPackets

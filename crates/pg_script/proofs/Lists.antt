@@ -1,8 +1,8 @@
 -- Lists whose first element is apart.
 use Rattle.std.proofs.Common.{◌≡◌, ◌≤◌, List, [], ◌∷◌, ◌++◌, ◌-◌, take, drop, length, get_or, arith, ap, ap₂}
 use Rattle.std.proofs.lemmas.Grind.{common_steps}
-use Rattle.pg_trace.specs.PgText.Writing.{update_text}
-use Rattle.pg_trace.specs.PgAccount.declared.entry.Entry.{Entry}
+use Rattle.pg_script_trace.specs.PgText.Writing.{update_text}
+use Rattle.pg_script_trace.specs.PgWorldAccount.declared.entry.Entry.{Entry}
 use Rattle.pg_script.specs.Histories.{more_entries, listed_entries}
 
 rest_of : {X : Type 0} (y : X) (ys : List X) → take (length (y ∷ ys) - 1) (drop 1 (y ∷ ys)) ≡ ys

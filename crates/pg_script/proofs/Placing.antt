@@ -8,7 +8,7 @@ use Rattle.std.specs.Option.{option_or}
 use Rattle.std.specs.Ordering.{is_eq}
 use Rattle.std.proofs.lemmas.Slice.Eq.{bytes_eq-Decides}
 use Rattle.pg_term.specs.Same.{same_atom, atom_cmp}
-use Rattle.pg_trace.specs.PgStep.declared.start.Start.{Start}
+use Rattle.pg_script_trace.specs.PgStep.declared.start.Start.{Start}
 use Rattle.pg_script.specs.Scripts.{place_of, change_at, HavePlaces}
 
 -- ---- one node more

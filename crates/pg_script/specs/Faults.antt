@@ -1,10 +1,10 @@
 -- The numbers of the faults, and where they come from.
 use Rattle.std.specs.Prelude.{ℕ}
-use Rattle.pg_term.specs.PgFaults.declared.TheConstants.{BAD_CONFIG, BAD_LINE, LATE_DECLARATION}
-use Rattle.pg_term.specs.PgFaults.declared.TheConstants.{OUT_OF_MEMORY, UNKNOWN_NODE, WRITE_FAULT}
-use Rattle.pg_trace.specs.PgText.declared.fault.TextFault.{TextFault}
-use Rattle.pg_trace.specs.PgText.declared.fault.TextFault.TheVariants as text
-use Rattle.pg_trace.specs.PgConfig.Faults.{world_number_of}
+use Rattle.pg_term.specs.declared.faults.TheConstants.{BAD_CONFIG, BAD_LINE, LATE_DECLARATION}
+use Rattle.pg_term.specs.declared.faults.TheConstants.{OUT_OF_MEMORY, UNKNOWN_NODE, WRITE_FAULT}
+use Rattle.pg_script_trace.specs.PgText.declared.fault.TextFault.{TextFault}
+use Rattle.pg_script_trace.specs.PgText.declared.fault.TextFault.TheVariants as text
+use Rattle.pg_script_trace.specs.PgWorldConfig.Faults.{world_number_of}
 use Rattle.pg_script.specs.declared.fault.LineFault.{LineFault}
 use Rattle.pg_script.specs.declared.fault.LineFault.TheVariants as line
 use Rattle.pg_script.specs.declared.fault.RunFault.{RunFault}

@@ -1,8 +1,8 @@
 -- The line that a history prints.
 use Rattle.std.specs.Prelude.{ℕ, List, [], ◌∷◌, ◌++◌, Bool, true, false, Option, Some, None, codes, length, ◌==◌}
 use Rattle.std.specs.List.{flat_map}
-use Rattle.pg_trace.specs.PgText.Writing.{update_text}
-use Rattle.pg_trace.specs.PgAccount.declared.entry.Entry.{Entry}
+use Rattle.pg_script_trace.specs.PgText.Writing.{update_text}
+use Rattle.pg_script_trace.specs.PgWorldAccount.declared.entry.Entry.{Entry}
 
 -- each behind a comma
 abbrev pub more_entries : List Entry → List ℕ

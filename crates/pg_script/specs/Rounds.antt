@@ -1,23 +1,23 @@
 -- Rounds of steps until nothing moves.
 use Rattle.std.specs.Prelude.{◌≡◌, ℕ, zero, suc, ◌<◌, ◌⊎◌, Bool, true, false, not}
 use Rattle.std.specs.Prelude.{◌||◌, nat_eq, List, Option, Some, None, Result, Ok, Err}
-use Rattle.pg_trace.specs.PgGroup.declared.table.GroupTable.{Ghosts}
-use Rattle.pg_trace.specs.PgStep.Config.{Config}
-use Rattle.pg_trace.specs.PgStep.declared.refusal.Refusal.TheVariants.{NodeLost}
-use Rattle.pg_trace.specs.PgNodeState.declared.state.fault.NodeFault.{NodeFault}
-use Rattle.pg_trace.specs.PgNodeState.declared.state.fault.NodeFault.TheVariants.{Refused}
-use Rattle.pg_trace.specs.PgAccount.Histories.{Account}
-use Rattle.pg_trace.specs.PgFrameWorld.declared.step.FrameStep.TheVariants as frames
-use Rattle.pg_trace.specs.PgFrameWorld.declared.step.Stepped.{Stepped}
-use Rattle.pg_trace.specs.PgFrameWorld.declared.step.Stepped.TheVariants.{Nothing, Moved}
-use Rattle.pg_trace.specs.PgWorld.declared.byte_world.World.{World}
-use Rattle.pg_trace.specs.PgWorld.declared.step.Step.{Step}
-use Rattle.pg_trace.specs.PgWorld.declared.step.Step.TheVariants as steps
-use Rattle.pg_trace.specs.PgWorld.Bars.{bytes_lost_after}
-use Rattle.pg_trace.specs.PgWorld.ByteWorlds.{account_of, crossing_of, given_of, lost_of, room_of}
-use Rattle.pg_trace.specs.PgWorld.BytesPast.{BytesGoOn}
-use Rattle.pg_trace.specs.PgWorld.Changes.{StepChanges}
-use Rattle.pg_trace.specs.PgWorld.Crossings.{Crossing}
+use Rattle.pg_script_trace.specs.PgGroup.declared.table.GroupTable.{Ghosts}
+use Rattle.pg_script_trace.specs.PgStep.Config.{Config}
+use Rattle.pg_script_trace.specs.PgStep.declared.refusal.Refusal.TheVariants.{NodeLost}
+use Rattle.pg_script_trace.specs.PgNodeState.declared.state.fault.NodeFault.{NodeFault}
+use Rattle.pg_script_trace.specs.PgNodeState.declared.state.fault.NodeFault.TheVariants.{Refused}
+use Rattle.pg_script_trace.specs.PgWorldAccount.Histories.{Account}
+use Rattle.pg_script_trace.specs.PgWorldPackets.declared.step.FrameStep.TheVariants as frames
+use Rattle.pg_script_trace.specs.PgWorldPackets.declared.step.Stepped.{Stepped}
+use Rattle.pg_script_trace.specs.PgWorldPackets.declared.step.Stepped.TheVariants.{Nothing, Moved}
+use Rattle.pg_script_trace.specs.PgWorld.declared.byte_world.World.{World}
+use Rattle.pg_script_trace.specs.PgWorld.declared.step.Step.{Step}
+use Rattle.pg_script_trace.specs.PgWorld.declared.step.Step.TheVariants as steps
+use Rattle.pg_script_trace.specs.PgWorld.Bars.{bytes_lost_after}
+use Rattle.pg_script_trace.specs.PgWorld.ByteWorlds.{account_of, crossing_of, given_of, lost_of, room_of}
+use Rattle.pg_script_trace.specs.PgWorld.BytesPast.{BytesGoOn}
+use Rattle.pg_script_trace.specs.PgWorld.Changes.{StepChanges}
+use Rattle.pg_script_trace.specs.PgWorld.Crossings.{Crossing}
 
 -- ---- a step
 

@@ -1,12 +1,12 @@
 -- Why a run ends early.
 use Rattle.std.specs.Prelude.{◌≤◌, ⊤, ℕ, List}
 use Rattle.std.specs.List.{flat_map}
-use Rattle.pg_trace.specs.PgStep.Config as starts
-use Rattle.pg_trace.specs.PgStep.Config.{IsConfig}
-use Rattle.pg_trace.specs.PgStep.declared.answer.Answer.{Answer}
-use Rattle.pg_trace.specs.PgLines.Printing.{answer_line}
-use Rattle.pg_trace.specs.PgConfig.declared.config.Config.{Config}
-use Rattle.pg_trace.specs.PgFrameWorld.Openings.{AllFit, CantBegin}
+use Rattle.pg_script_trace.specs.PgStep.Config as starts
+use Rattle.pg_script_trace.specs.PgStep.Config.{IsConfig}
+use Rattle.pg_script_trace.specs.PgStep.declared.answer.Answer.{Answer}
+use Rattle.pg_script_trace.specs.PgScriptLines.Printing.{answer_line}
+use Rattle.pg_script_trace.specs.PgWorldConfig.declared.config.Config.{Config}
+use Rattle.pg_script_trace.specs.PgWorldPackets.Openings.{AllFit, CantBegin}
 use Rattle.pg_script.specs.declared.fault.RunFault.{RunFault}
 use Rattle.pg_script.specs.declared.fault.RunFault.TheVariants.{World, OutOfMemory, WriteFault}
 

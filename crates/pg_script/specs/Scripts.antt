@@ -6,16 +6,16 @@ use Rattle.std.specs.List.{slice_split}
 use Rattle.pg_term.specs.declared.pid.Pid.{Pid}
 use Rattle.pg_term.specs.declared.term.Term.{Term}
 use Rattle.pg_term.specs.Same.{same_atom, atom_cmp}
-use Rattle.pg_trace.specs.PgStep.declared.start.Start.{Start}
-use Rattle.pg_trace.specs.PgFrameWorld.declared.step.FrameStep.TheVariants as events
-use Rattle.pg_trace.specs.PgWorld.declared.step.Step.TheVariants as steps
-use Rattle.pg_trace.specs.PgLines.declared.line.Line.{Line}
-use Rattle.pg_trace.specs.PgLines.declared.line.Line.TheVariants.{Ring, Node, Has, Pair, At, Settle, History}
-use Rattle.pg_trace.specs.PgLines.declared.line.PairForm.{PairForm}
-use Rattle.pg_trace.specs.PgLines.declared.line.PairForm.TheVariants as pair
-use Rattle.pg_trace.specs.PgLines.declared.line.NodeForm.{NodeForm}
-use Rattle.pg_trace.specs.PgLines.declared.line.NodeForm.TheVariants as node
-use Rattle.pg_trace.specs.PgLines.Forms.{line_of}
+use Rattle.pg_script_trace.specs.PgStep.declared.start.Start.{Start}
+use Rattle.pg_script_trace.specs.PgWorldPackets.declared.step.FrameStep.TheVariants as events
+use Rattle.pg_script_trace.specs.PgWorld.declared.step.Step.TheVariants as steps
+use Rattle.pg_script_trace.specs.PgScriptLines.declared.line.Line.{Line}
+use Rattle.pg_script_trace.specs.PgScriptLines.declared.line.Line.TheVariants.{Ring, Node, Has, Pair, At, Settle, History}
+use Rattle.pg_script_trace.specs.PgScriptLines.declared.line.PairForm.{PairForm}
+use Rattle.pg_script_trace.specs.PgScriptLines.declared.line.PairForm.TheVariants as pair
+use Rattle.pg_script_trace.specs.PgScriptLines.declared.line.NodeForm.{NodeForm}
+use Rattle.pg_script_trace.specs.PgScriptLines.declared.line.NodeForm.TheVariants as node
+use Rattle.pg_script_trace.specs.PgScriptLines.Forms.{line_of}
 use Rattle.pg_script.specs.declared.act.Act.{Act}
 use Rattle.pg_script.specs.declared.act.Act.TheVariants as act
 use Rattle.pg_script.specs.declared.fault.LineFault.{LineFault}

@@ -3,8 +3,8 @@
 ghost use Rattle.std.specs.Prelude.{◌≡◌};
 ghost use Rattle.pg_script.specs.Scripts.{node_act, pair_act};
 
+use pg_script_trace::{FrameStep, NodeForm, OpId, PairForm, Step};
 use pg_term::Term;
-use pg_trace::{FrameStep, NodeForm, OpId, PairForm, Step};
 
 /// What a line does that is no declaration. Nodes are named by their places.
 #[derive(Debug, Drop)]

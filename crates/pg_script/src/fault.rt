@@ -1,9 +1,9 @@
 //! Why a script is not read, and why a run of one ends early.
 
-use pg_term::pg_faults::{
+use pg_script_trace::{TextFault, WorldFault};
+use pg_term::faults::{
     BAD_CONFIG, BAD_LINE, LATE_DECLARATION, OUT_OF_MEMORY, UNKNOWN_NODE, WRITE_FAULT,
 };
-use pg_trace::{TextFault, WorldFault};
 use std::alloc::{AllocError, AllocFailed};
 use thiserror::Error;
 

@@ -2,10 +2,10 @@
 
 ghost use Rattle.std.specs.Prelude.{◌≡◌, OnOk, map, string_bytes};
 ghost use Rattle.std.specs.Option.{option_copied};
-ghost use Rattle.pg_trace.specs.PgText.Writing.{GrowsBy};
+ghost use Rattle.pg_script_trace.specs.PgText.Writing.{GrowsBy};
 ghost use Rattle.pg_script.specs.Histories.{history_line, listed_entries, more_entries, last_entry};
 
-use pg_trace::{Entry, add_char, add_text, write_update};
+use pg_script_trace::{Entry, add_char, add_text, write_update};
 use std::alloc::AllocError;
 
 /// `history [UPDATE,..]`, and a line feed. The last update may come after the others. On an error some of it may have

@@ -2,7 +2,7 @@
 
 ghost use Rattle.std.specs.Prelude.{◌≡◌, ◌≢◌, ◌<◌, ◌∷◌, ◌++◌, [], List, ℕ, length, is_some, option_map};
 ghost use Rattle.std.specs.Prelude.{unwrap_or, true, false, Some, None, Ok, Err, IfOk, IfErr, OnOk, OnErr};
-ghost use Rattle.pg_trace.specs.PgLines.declared.line.Line.TheVariants.{Pair, At};
+ghost use Rattle.pg_script_trace.specs.PgScriptLines.declared.line.Line.TheVariants.{Pair, At};
 ghost use Rattle.pg_script.specs.declared.fault.LineFault.TheVariants.{BadLine, UnknownNode};
 ghost use Rattle.pg_script.specs.declared.fault.LineFault.TheVariants.{LateDeclaration, OutOfMemory};
 ghost use Rattle.pg_script.specs.declared.reading.TheConstants.{DEFAULT_RING};
@@ -13,8 +13,8 @@ ghost use Rattle.pg_script.specs.Scripts.{ring_said, script_of, text_said, with_
 use crate::act::{Act, node_act, pair_act};
 use crate::fault::{LineFault, ScriptFault};
 use crate::script::{Script, ScriptLine};
+use pg_script_trace::{Config, Line, NodeForm, PairForm, Start, read_line};
 use pg_term::{Atom, Items, Pid, Term};
-use pg_trace::{Config, Line, NodeForm, PairForm, Start, read_line};
 use std::alloc::Global;
 use std::collections::BTreeMap;
 use std::mem;

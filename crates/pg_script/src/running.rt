@@ -2,8 +2,8 @@
 
 ghost use Rattle.std.specs.Prelude.{◌≡◌, ◌<◌, List, ℕ, length, string_bytes, OnOk, IfErr, IfOk, ⊤};
 ghost use Rattle.std.specs.Io.KnownBytes.{Appends};
-ghost use Rattle.pg_trace.specs.PgReplica.Causes.{FailedAt};
-ghost use Rattle.pg_trace.specs.PgText.Writing.{GrowsBy};
+ghost use Rattle.pg_script_trace.specs.PgNode.Replicas.Causes.{FailedAt};
+ghost use Rattle.pg_script_trace.specs.PgText.Writing.{GrowsBy};
 ghost use Rattle.pg_script.specs.Runs.{CanRun, CantRun, CausedBy, Refused, answer_lines};
 
 use crate::act::Act;
@@ -13,11 +13,12 @@ use crate::script::{Script, ScriptLine};
 use crate::settling::{Halt, settle};
 use crate::stage::Stage;
 use crate::writing::put_whole;
-use pg_term::{Atom, Term};
-use pg_trace::{
-    Answer, Columns, IndexTable, NodeFault, Sight, Sink, Start, Watch, World, print_answer,
-    print_lock, print_outbox, print_refused,
+use pg_script_trace::{
+    Answer, Columns, IndexTable, NodeFault, Sight, Start, Watch, World, print_answer, print_lock,
+    print_outbox, print_refused,
 };
+use pg_streams::Sink;
+use pg_term::{Atom, Term};
 use std::alloc::{AllocError, Global};
 
 /// A run: its world, the nodes as they started, how many answers of each were printed, and what is to be written.

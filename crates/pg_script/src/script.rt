@@ -1,7 +1,7 @@
 //! A script that was read.
 
 use crate::act::Act;
-use pg_trace::Config;
+use pg_script_trace::Config;
 
 /// A script: the configuration that its declarations name, and what its other lines do.
 #[derive(Debug, Drop)]

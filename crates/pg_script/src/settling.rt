@@ -4,7 +4,7 @@ ghost use Rattle.std.specs.Prelude.{◌≡◌, ◌||◌, nat_eq, Some, IfOk, OnO
 ghost use Rattle.pg_script.specs.Rounds.{MovesBy, RoundPasses, PassesIf, Round, RowFrom, Settles, moved_by, view_of};
 
 use crate::stage::Stage;
-use pg_trace::{FrameStep, NodeFault, Refusal, Step, Stepped};
+use pg_script_trace::{FrameStep, NodeFault, Refusal, Step, Stepped};
 use std::alloc::AllocError;
 
 /// How many bytes a round moves at most of each pair.

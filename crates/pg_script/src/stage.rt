@@ -1,12 +1,12 @@
 //! A world that is watched, or not.
 
 ghost use Rattle.std.specs.Prelude.{◌≡◌, IfOk};
-ghost use Rattle.pg_trace.specs.PgWorld.Bars.{bytes_lost_after};
-ghost use Rattle.pg_trace.specs.PgWorld.ByteWorlds.{account_of, crossing_of, given_of, lost_of, room_of};
-ghost use Rattle.pg_trace.specs.PgWorld.BytesPast.{BytesGoOn};
-ghost use Rattle.pg_trace.specs.PgWorld.Changes.{StepChanges};
+ghost use Rattle.pg_script_trace.specs.PgWorld.Bars.{bytes_lost_after};
+ghost use Rattle.pg_script_trace.specs.PgWorld.ByteWorlds.{account_of, crossing_of, given_of, lost_of, room_of};
+ghost use Rattle.pg_script_trace.specs.PgWorld.BytesPast.{BytesGoOn};
+ghost use Rattle.pg_script_trace.specs.PgWorld.Changes.{StepChanges};
 
-use pg_trace::{IndexTable, NodeFault, Step, Stepped, Watch, World};
+use pg_script_trace::{IndexTable, NodeFault, Step, Stepped, Watch, World};
 use std::alloc::AllocError;
 
 /// A world, and what is seen of it where it is watched.

@@ -2,11 +2,11 @@
 
 ghost use Rattle.std.specs.Prelude.{◌≡◌, ◌++◌, List, ℕ, OnOk, OnErr, IfErr};
 ghost use Rattle.std.specs.Io.KnownBytes.{Appends};
-ghost use Rattle.pg_trace.specs.PgReplica.Causes.{FailedAt};
+ghost use Rattle.pg_script_trace.specs.PgNode.Replicas.Causes.{FailedAt};
 ghost use Rattle.pg_script.specs.declared.fault.RunFault.TheVariants.{WriteFault};
 
 use crate::fault::RunFault;
-use pg_trace::Sink;
+use pg_streams::Sink;
 
 /// Writes all the bytes.
 ///

@@ -6,15 +6,15 @@ use Rattle.pg_term.specs.declared.pid.Pid.{Pid}
 use Rattle.pg_term.specs.declared.term.Term.{Term}
 use Rattle.pg_term.specs.RefParts.{RefParts}
 use Rattle.pg_term.specs.Same.{same_atom}
-use Rattle.pg_message.specs.PgGroup.Functions.{upd}
-use Rattle.pg_message.specs.PgGroup.Value.{Value, count_in, less}
+use Rattle.pg_message_types.specs.PgGroup.Functions.{upd}
+use Rattle.pg_message_types.specs.PgGroup.Value.{Value, count_in, less}
 use Rattle.pg_lock.specs.Locks.{freed_of}
-use Rattle.pg_message.specs.declared.message.Message.{Message}
-use Rattle.pg_machine.specs.Places.{is_place, is_pair, set_at}
-use Rattle.pg_machine.specs.Machine.{Turn, Input, Taken, Take, first_from, without_input, perform, happens}
-use Rattle.pg_machine.specs.Clocked.{Timed, Stamped, timed, timed_turn}
-use Rattle.pg_machine.specs.Losing.{Noticed, Sent, Last, LosingWorld, LosingEvent, Step, Lose}
-use Rattle.pg_machine.specs.Losing.{losing_happens, can_keep, stopped, mapped_turn, noticed_step}
+use Rattle.pg_message_types.specs.declared.message.Message.{Message}
+use Rattle.pg_step.specs.Machines.Places.{is_place, is_pair, set_at}
+use Rattle.pg_step.specs.Machines.Machine.{Turn, Input, Taken, Take, first_from, without_input, perform, happens}
+use Rattle.pg_step.specs.Machines.Clocked.{Timed, Stamped, timed, timed_turn}
+use Rattle.pg_step.specs.Machines.Losing.{Noticed, Sent, Last, LosingWorld, LosingEvent, Step, Lose}
+use Rattle.pg_step.specs.Machines.Losing.{losing_happens, can_keep, stopped, mapped_turn, noticed_step}
 use Rattle.pg_step.specs.Config.{Config, name_at}
 use Rattle.pg_step.specs.FrameMachine.{machine_of, see_step, losing_frame_machine, last_notice, place_turn}
 use Rattle.pg_step.specs.Losses.{forgets, see_loss}
@@ -29,7 +29,7 @@ use Rattle.pg_step.specs.State.{State, Use}
 use Rattle.pg_step.specs.State.Status.{Unasked}
 use Rattle.pg_step.specs.State.Use.{Fresh, Locking, Owning, Updating, Spent}
 use Rattle.pg_step.specs.Attempts.{lock_entry, gathered}
-use Rattle.pg_message.specs.declared.message.Said.TheVariants.{Applied}
+use Rattle.pg_message_types.specs.declared.message.Said.TheVariants.{Applied}
 use Rattle.pg_step.specs.Step.{CLOCK_LIMIT, Action}
 use Rattle.pg_step.specs.Turns.{Report}
 use Rattle.pg_step.proofs.Once.{is_same}

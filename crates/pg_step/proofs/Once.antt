@@ -8,15 +8,15 @@ use Rattle.std.specs.Cmp.Lexicographic.{bytes_decides}
 use Rattle.std.proofs.lemmas.Bool.{eq-eqb}
 use Rattle.std.proofs.lemmas.List.{append-nil}
 use Rattle.pg_term.specs.Same.{same_atom}
-use Rattle.pg_message.specs.PgGroup.declared.update.Update.{Update}
-use Rattle.pg_message.specs.PgGroup.Functions.{upd}
-use Rattle.pg_message.specs.PgGroup.Value.{name_of}
-use Rattle.pg_message.proofs.PgGroup.Changes.{upd_at}
-use Rattle.pg_message.specs.declared.message.Message.{Message}
-use Rattle.pg_message.specs.declared.message.Message.TheVariants.{Call, Reply, DelLock, Exchange, Down}
-use Rattle.pg_message.specs.declared.message.Request.TheVariants.{SetLock, Change}
-use Rattle.pg_message.specs.declared.message.Said.{Said}
-use Rattle.pg_message.specs.declared.message.Said.TheVariants.{Applied}
+use Rattle.pg_message_types.specs.PgGroup.declared.update.Update.{Update}
+use Rattle.pg_message_types.specs.PgGroup.Functions.{upd}
+use Rattle.pg_message_types.specs.PgGroup.Value.{name_of}
+use Rattle.pg_message_types.proofs.PgGroup.Changes.{upd_at}
+use Rattle.pg_message_types.specs.declared.message.Message.{Message}
+use Rattle.pg_message_types.specs.declared.message.Message.TheVariants.{Call, Reply, DelLock, Exchange, Down}
+use Rattle.pg_message_types.specs.declared.message.Request.TheVariants.{SetLock, Change}
+use Rattle.pg_message_types.specs.declared.message.Said.{Said}
+use Rattle.pg_message_types.specs.declared.message.Said.TheVariants.{Applied}
 use Rattle.pg_step.specs.declared.command.OpId.{OpId}
 use Rattle.pg_multicall.specs.Gathered.{what_of}
 use Rattle.pg_multicall.specs.declared.gather.Taken.{Taken as Heard}
@@ -30,7 +30,7 @@ use Rattle.pg_step.specs.Turns.{NodeTurn, becomes, and_then}
 use Rattle.pg_step.specs.Peers.{would_grant, verdict, is_bad_exchange, exchange}
 use Rattle.std.specs.Prelude.{nat_le, nat_lt}
 use Rattle.pg_refs.specs.Numbered.{number_in}
-use Rattle.pg_message.specs.PgGroup.declared.update.Update.TheVariants as update
+use Rattle.pg_message_types.specs.PgGroup.declared.update.Update.TheVariants as update
 use Rattle.pg_step.specs.declared.command.Command.{Command}
 use Rattle.pg_step.specs.declared.command.Command.TheVariants as command
 use Rattle.pg_step.specs.declared.answer.Reply.{Reply as Answer}

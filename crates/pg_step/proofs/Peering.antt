@@ -6,18 +6,18 @@ use Rattle.pg_term.specs.declared.term.Term.{Term}
 use Rattle.pg_term.specs.RefParts.{RefParts}
 use Rattle.pg_term.specs.Same.{same_atom, same_pid, same_term}
 use Rattle.pg_term.specs.contracts.term.TermEq.TheImpl.Laws.{laws-law}
-use Rattle.pg_message.specs.PgGroup.declared.update.Update.{Update}
-use Rattle.pg_message.specs.PgGroup.declared.update.Update.TheVariants.{Join}
-use Rattle.pg_message.specs.PgGroup.Functions.{upd}
-use Rattle.pg_message.specs.PgGroup.Table.{Table, applied, changed}
-use Rattle.pg_message.specs.PgGroup.Value.{Value, apply, count_in, less}
+use Rattle.pg_message_types.specs.PgGroup.declared.update.Update.{Update}
+use Rattle.pg_message_types.specs.PgGroup.declared.update.Update.TheVariants.{Join}
+use Rattle.pg_message_types.specs.PgGroup.Functions.{upd}
+use Rattle.pg_message_types.specs.PgGroup.Table.{Table, applied, changed}
+use Rattle.pg_message_types.specs.PgGroup.Value.{Value, apply, count_in, less}
 use Rattle.pg_multicall.specs.declared.gather.Taken.TheVariants as what
 use Rattle.pg_term.specs.contracts.pid.PidEq.TheImpl.Laws.{laws-law as pid_laws}
 use Rattle.pg_lock.specs.Locks.{Locks, held, after_ask, given_up, is_free, is_holder}
-use Rattle.pg_message.specs.declared.message.Message.{Message}
-use Rattle.pg_message.specs.declared.message.Message.TheVariants.{Reply}
-use Rattle.pg_message.specs.declared.message.Said.{Said}
-use Rattle.pg_message.specs.declared.message.Said.TheVariants.{Applied}
+use Rattle.pg_message_types.specs.declared.message.Message.{Message}
+use Rattle.pg_message_types.specs.declared.message.Message.TheVariants.{Reply}
+use Rattle.pg_message_types.specs.declared.message.Said.{Said}
+use Rattle.pg_message_types.specs.declared.message.Said.TheVariants.{Applied}
 use Rattle.pg_exchange.specs.GroupList.{GroupList}
 use Rattle.pg_step.specs.Attempts.{is_kind, reply_by}
 use Rattle.pg_step.specs.Nodes.{Node, Nodes, to_one}

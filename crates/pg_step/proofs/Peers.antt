@@ -9,10 +9,10 @@ use Rattle.std.proofs.lemmas.List.{length-map}
 use Rattle.std.proofs.lemmas.Map.Keys.{IsDistinct-head, IsDistinct-tail}
 use Rattle.std.specs.Cmp.{first_so, second_so}
 use Rattle.pg_term.specs.Same.{same_atom}
-use Rattle.pg_message.specs.declared.message.Message.{Message}
-use Rattle.pg_machine.specs.Places.{is_place, is_pair}
-use Rattle.pg_machine.specs.Machine.{Input, Turn, Event, Taken, Own, Take, Do, node_of, first_from}
-use Rattle.pg_machine.specs.Happened.{Happened}
+use Rattle.pg_message_types.specs.declared.message.Message.{Message}
+use Rattle.pg_step.specs.Machines.Places.{is_place, is_pair}
+use Rattle.pg_step.specs.Machines.Machine.{Input, Turn, Event, Taken, Own, Take, Do, node_of, first_from}
+use Rattle.pg_step.specs.Machines.Happened.{Happened}
 use Rattle.pg_step.specs.Nodes.{Node, Nodes, is_peer}
 use Rattle.pg_step.specs.State.{State, live_nodes}
 use Rattle.pg_step.specs.Turns.{NodeTurn, Report}
@@ -22,7 +22,7 @@ use Rattle.pg_step.specs.FrameMachine.{placed, node_step, machine_of, FrameWorld
 use Rattle.pg_step.specs.declared.refusal.Refusal.{Refusal}
 use Rattle.pg_step.specs.declared.refusal.Refusal.TheVariants.{NodeLost}
 use Rattle.pg_step.specs.StepLaws.{comes_from_there, SendsOne}
-use Rattle.pg_machine.proofs.Options.{some_is}
+use Rattle.pg_step.proofs.Machines.Options.{some_is}
 use Rattle.pg_step.proofs.Once.{same_is, is_same, clash, OnceIfOk, acts_once, takes_once}
 
 -- ---- lists of names

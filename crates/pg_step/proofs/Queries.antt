@@ -5,17 +5,17 @@ use Rattle.std.proofs.lemmas.Bool.{cases_eq}
 use Rattle.std.proofs.lemmas.List.{append-nil}
 use Rattle.pg_term.specs.declared.pid.Pid.{Pid}
 use Rattle.pg_term.specs.declared.term.Term.{Term}
-use Rattle.pg_message.specs.PgGroup.declared.update.Update.TheVariants as update
-use Rattle.pg_message.specs.PgGroup.Value.{Counts}
-use Rattle.pg_message.specs.declared.message.Message.{Message}
+use Rattle.pg_message_types.specs.PgGroup.declared.update.Update.TheVariants as update
+use Rattle.pg_message_types.specs.PgGroup.Value.{Counts}
+use Rattle.pg_message_types.specs.declared.message.Message.{Message}
 use Rattle.pg_step.specs.declared.command.Command.{Command}
 use Rattle.pg_step.specs.declared.command.Command.TheVariants.{Create, Delete, Join, Leave, Make, Finish}
 use Rattle.pg_step.specs.declared.command.Command.TheVariants.{Members, LocalMembers, WhichGroups, Closest}
 use Rattle.pg_step.specs.declared.answer.Reply.TheVariants.{Refused}
 use Rattle.pg_step.specs.declared.answer.Reply.TheVariants as reply
-use Rattle.pg_machine.specs.Machine.{Turn, Do, happens}
-use Rattle.pg_machine.specs.Happened.{Happened}
-use Rattle.pg_machine.specs.Places.{is_place}
+use Rattle.pg_step.specs.Machines.Machine.{Turn, Do, happens}
+use Rattle.pg_step.specs.Machines.Happened.{Happened}
+use Rattle.pg_step.specs.Machines.Places.{is_place}
 use Rattle.pg_step.specs.Nodes.{Nodes}
 use Rattle.pg_step.specs.State.{State, Response, live_nodes}
 use Rattle.pg_step.specs.State.Response.{Given, Read}
@@ -28,8 +28,8 @@ use Rattle.pg_step.specs.declared.refusal.Refusal.TheVariants.{NoSuchPlace}
 use Rattle.pg_step.specs.Config.{Config, nodes_at, ports_at}
 use Rattle.pg_step.specs.FrameMachine.{place_turn, placed, node_step, machine_of, FrameWorld}
 use Rattle.pg_step.specs.StepLaws.{is_query, OnlyAnswers}
-use Rattle.pg_machine.proofs.Options.{some_is}
-use Rattle.pg_machine.proofs.Steps.{happened, changes}
+use Rattle.pg_step.proofs.Machines.Options.{some_is}
+use Rattle.pg_step.proofs.Machines.Steps.{happened, changes}
 use Rattle.pg_step.specs.declared.command_fault.CommandFault.TheVariants.{NameTooLarge, ForeignPid, NotFormed}
 use Rattle.pg_step.specs.declared.command_fault.CommandFault.TheVariants.{NotMade, AlreadyEnded, ProcessLimit}
 use Rattle.pg_step.specs.declared.command_fault.CommandFault.{CommandFault}

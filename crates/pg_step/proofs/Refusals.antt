@@ -3,12 +3,12 @@ use Rattle.std.proofs.Common.{◌≡◌, ℕ, Bool, true, false, not, ◌&&◌, 
 use Rattle.std.proofs.Common.{length, List, [], ◌∷◌, Some, None, Result, Ok, Err, refl, ap}
 use Rattle.std.proofs.Math.Path.{fun_ext}
 use Rattle.std.specs.Prelude.{◌+◌}
-use Rattle.pg_message.specs.declared.message.Message.{Message}
-use Rattle.pg_message.specs.declared.message.Message.TheVariants.{Call, Reply, DelLock, Exchange, Down}
-use Rattle.pg_message.specs.declared.message.Request.TheVariants.{SetLock, Change}
-use Rattle.pg_message.specs.declared.message.Said.{Said}
-use Rattle.pg_machine.specs.Places.{is_place}
-use Rattle.pg_machine.specs.Clocked.{Timed, Stamped, stamped, timed_turn, timed as machine_timed}
+use Rattle.pg_message_types.specs.declared.message.Message.{Message}
+use Rattle.pg_message_types.specs.declared.message.Message.TheVariants.{Call, Reply, DelLock, Exchange, Down}
+use Rattle.pg_message_types.specs.declared.message.Request.TheVariants.{SetLock, Change}
+use Rattle.pg_message_types.specs.declared.message.Said.{Said}
+use Rattle.pg_step.specs.Machines.Places.{is_place}
+use Rattle.pg_step.specs.Machines.Clocked.{Timed, Stamped, stamped, timed_turn, timed as machine_timed}
 use Rattle.pg_multicall.specs.Gathered.{what_of}
 use Rattle.pg_multicall.specs.declared.gather.Taken.{Taken as Heard}
 use Rattle.pg_multicall.specs.declared.gather.Taken.TheVariants as what

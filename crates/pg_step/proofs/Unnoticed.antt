@@ -4,21 +4,21 @@ use Rattle.std.proofs.Common.{[], ◌∷◌, ◌++◌, Option, Some, None, refl,
 use Rattle.std.specs.Prelude.{option_map, option_and_then}
 use Rattle.std.proofs.Math.Path.{fun_ext}
 use Rattle.std.proofs.lemmas.List.{map-append}
-use Rattle.pg_message.specs.declared.message.Message.{Message}
-use Rattle.pg_machine.specs.Machine.{Turn, Machine, Event, World, Taken, Own, Take, Do, node_of, is_there}
-use Rattle.pg_machine.specs.Machine.{start_of, first_from, input_of, without_input, perform, happens}
-use Rattle.pg_machine.specs.Places.{set_at, set_way}
-use Rattle.pg_machine.specs.Runs.{Leads}
-use Rattle.pg_machine.specs.Clocked.{Timed, Stamped, TimedWorld, next_clock, stamped, timed_turn, timed}
+use Rattle.pg_message_types.specs.declared.message.Message.{Message}
+use Rattle.pg_step.specs.Machines.Machine.{Turn, Machine, Event, World, Taken, Own, Take, Do, node_of, is_there}
+use Rattle.pg_step.specs.Machines.Machine.{start_of, first_from, input_of, without_input, perform, happens}
+use Rattle.pg_step.specs.Machines.Places.{set_at, set_way}
+use Rattle.pg_step.specs.Machines.Runs.{Leads}
+use Rattle.pg_step.specs.Machines.Clocked.{Timed, Stamped, TimedWorld, next_clock, stamped, timed_turn, timed}
 use Rattle.pg_step.specs.State.{State}
 use Rattle.pg_step.specs.Turns.{Report}
 use Rattle.pg_step.specs.Step.{CLOCK_LIMIT, Action}
 use Rattle.pg_step.specs.Config.{Config}
 use Rattle.pg_step.specs.FrameMachine.{machine_of, frame_machine, losing_frame_machine, last_notice, sent_packet}
-use Rattle.pg_machine.specs.Losing.{Noticed, Sent, LosingWorld, Step, mapped, mapped_turn}
-use Rattle.pg_machine.specs.Losing.{losing_happens, LosingLeads, nobody_gone, all_steps}
-use Rattle.pg_machine.proofs.Options.{map_is_some}
-use Rattle.pg_machine.proofs.Places.{set_at_map, set_way_map}
+use Rattle.pg_step.specs.Machines.Losing.{Noticed, Sent, LosingWorld, Step, mapped, mapped_turn}
+use Rattle.pg_step.specs.Machines.Losing.{losing_happens, LosingLeads, nobody_gone, all_steps}
+use Rattle.pg_step.proofs.Machines.Options.{map_is_some}
+use Rattle.pg_step.proofs.Machines.Places.{set_at_map, set_way_map}
 
 -- ---- a machine with more packets
 

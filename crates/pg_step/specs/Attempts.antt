@@ -7,18 +7,18 @@ use Rattle.std.specs.Prelude.{nat_eq, Option, Some, None, Result, Ok, Err}
 use Rattle.pg_term.specs.RefParts.{RefParts, ref_eq}
 use Rattle.pg_term.specs.Same.{same_atom}
 use Rattle.pg_refs.specs.Numbered.{numbered, number_in}
-use Rattle.pg_message.specs.PgGroup.declared.update.Update.{Update}
-use Rattle.pg_message.specs.PgGroup.Functions.{upd}
-use Rattle.pg_message.specs.PgGroup.Value.{name_of}
-use Rattle.pg_message.specs.PgGroup.Table.{changed}
+use Rattle.pg_message_types.specs.PgGroup.declared.update.Update.{Update}
+use Rattle.pg_message_types.specs.PgGroup.Functions.{upd}
+use Rattle.pg_message_types.specs.PgGroup.Value.{name_of}
+use Rattle.pg_message_types.specs.PgGroup.Table.{changed}
 use Rattle.pg_lock.specs.Attempts.{after_round, does_wait}
 use Rattle.pg_lock.specs.declared.attempt.Attempt.{Attempt}
 use Rattle.pg_lock.specs.declared.attempt.Attempt.TheVariants.{AskingFirst, AskingRest}
 use Rattle.pg_lock.specs.Locks.{after_ask, given_up, is_holder}
-use Rattle.pg_message.specs.declared.message.Message.TheVariants.{Call, DelLock}
-use Rattle.pg_message.specs.declared.message.Request.TheVariants.{SetLock, Change}
-use Rattle.pg_message.specs.declared.message.Said.{Said}
-use Rattle.pg_message.specs.declared.message.Said.TheVariants.{Granted, Denied, Applied}
+use Rattle.pg_message_types.specs.declared.message.Message.TheVariants.{Call, DelLock}
+use Rattle.pg_message_types.specs.declared.message.Request.TheVariants.{SetLock, Change}
+use Rattle.pg_message_types.specs.declared.message.Said.{Said}
+use Rattle.pg_message_types.specs.declared.message.Said.TheVariants.{Granted, Denied, Applied}
 use Rattle.pg_multicall.specs.Gathered.{Gathered, what_of}
 use Rattle.pg_multicall.specs.declared.gather.Taken.{Taken}
 use Rattle.pg_multicall.specs.declared.gather.Taken.TheVariants as what

@@ -6,18 +6,18 @@ use Rattle.std.specs.List.Sorted.{IsSorted}
 use Rattle.pg_term.specs.declared.pid.Pid.{Pid}
 use Rattle.pg_term.specs.declared.term.Term.{Term}
 use Rattle.pg_term.specs.Same.{same_atom, term_cmp}
-use Rattle.pg_message.specs.PgGroup.declared.update.Update.{Update}
-use Rattle.pg_message.specs.PgGroup.declared.update.Update.TheVariants as update
-use Rattle.pg_message.specs.PgGroup.Functions.{upd}
-use Rattle.pg_message.specs.PgGroup.Value.{Value, name_of}
-use Rattle.pg_message.specs.PgGroup.Scope.{anywhere, at_node}
-use Rattle.pg_message.specs.PgGroup.Members.{IsMemberList}
-use Rattle.pg_message.specs.PgGroup.Table.{Table, AreNames}
+use Rattle.pg_message_types.specs.PgGroup.declared.update.Update.{Update}
+use Rattle.pg_message_types.specs.PgGroup.declared.update.Update.TheVariants as update
+use Rattle.pg_message_types.specs.PgGroup.Functions.{upd}
+use Rattle.pg_message_types.specs.PgGroup.Value.{Value, name_of}
+use Rattle.pg_message_types.specs.PgGroup.Scope.{anywhere, at_node}
+use Rattle.pg_message_types.specs.PgGroup.Members.{IsMemberList}
+use Rattle.pg_message_types.specs.PgGroup.Table.{Table, AreNames}
 use Rattle.pg_query.specs.Closest.{IsClosest}
 use Rattle.pg_ends.specs.declared.processes.TheConstants.{MAX_PROCESSES}
 use Rattle.pg_ends.specs.Numbers.{pid_of, is_among}
-use Rattle.pg_message.specs.Name.{is_name}
-use Rattle.pg_message.specs.declared.message.Message.TheVariants.{Down}
+use Rattle.pg_message_types.specs.Name.{is_name}
+use Rattle.pg_message_types.specs.declared.message.Message.TheVariants.{Down}
 use Rattle.pg_step.specs.declared.command.Command.{Command}
 use Rattle.pg_step.specs.declared.command.Command.TheVariants.{Create, Delete, Join, Leave, Make, Finish}
 use Rattle.pg_step.specs.declared.command.Command.TheVariants.{Members, LocalMembers, WhichGroups, Closest}

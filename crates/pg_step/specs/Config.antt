@@ -3,10 +3,10 @@ use Rattle.std.specs.Prelude.{◌≡◌, ℕ, ◌≤◌, Bool, true, false, ◌&
 use Rattle.std.specs.List.{AllByRecursion, IsDistinct, remove, list_any}
 use Rattle.pg_term.specs.declared.pid.Pid.{Pid}
 use Rattle.pg_term.specs.Same.{same_atom, same_term}
-use Rattle.pg_message.specs.PgGroup.Table.{Table}
+use Rattle.pg_message_types.specs.PgGroup.Table.{Table}
 use Rattle.pg_ends.specs.Numbers.{is_among}
 use Rattle.pg_exchange.specs.GroupList.{GroupList, all_merged, announced_names}
-use Rattle.pg_message.specs.Name.{is_name}
+use Rattle.pg_message_types.specs.Name.{is_name}
 use Rattle.pg_step.specs.declared.start.Start.{Start}
 use Rattle.pg_step.specs.Nodes.{Node, Nodes}
 use Rattle.pg_ends.specs.declared.processes.TheConstants.{MAX_PROCESSES}

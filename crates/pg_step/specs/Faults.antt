@@ -1,8 +1,8 @@
 -- The numbers of faults and refusals in the one list of faults, and which of several is told.
 use Rattle.std.specs.Prelude.{ℕ, Bool, cond, List, [], ◌∷◌, Option, Some, None}
-use Rattle.pg_term.specs.PgFaults.declared.TheConstants.{ALREADY_ENDED, BUSY, CLOCK_FULL, FOREIGN_PID, NAME_TOO_LARGE}
-use Rattle.pg_term.specs.PgFaults.declared.TheConstants.{NODE_LOST, NOT_A_MESSAGE, NOT_DRAINED, NOT_FORMED, NOT_LOST}
-use Rattle.pg_term.specs.PgFaults.declared.TheConstants.{NOT_MADE, NOT_WAITING, NO_SUCH_PLACE, PROCESS_LIMIT}
+use Rattle.pg_term.specs.declared.faults.TheConstants.{ALREADY_ENDED, BUSY, CLOCK_FULL, FOREIGN_PID, NAME_TOO_LARGE}
+use Rattle.pg_term.specs.declared.faults.TheConstants.{NODE_LOST, NOT_A_MESSAGE, NOT_DRAINED, NOT_FORMED, NOT_LOST}
+use Rattle.pg_term.specs.declared.faults.TheConstants.{NOT_MADE, NOT_WAITING, NO_SUCH_PLACE, PROCESS_LIMIT}
 use Rattle.pg_step.specs.declared.command_fault.CommandFault.{CommandFault}
 use Rattle.pg_step.specs.declared.command_fault.CommandFault.TheVariants as fault
 use Rattle.pg_step.specs.declared.refusal.Refusal.{Refusal}

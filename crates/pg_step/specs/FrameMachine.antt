@@ -1,17 +1,17 @@
 -- The frame world: the nodes of a configuration, each by its step, and for each two of them the packets on the way.
 use Rattle.std.specs.Prelude.{ℕ, cond, length, [], ◌∷◌, Option, Some, None, Result, Ok, Err}
-use Rattle.pg_message.specs.declared.message.Message.{Message}
-use Rattle.pg_message.specs.declared.message.Message.TheVariants.{Exchange}
-use Rattle.pg_machine.specs.Places.{is_place, is_pair}
-use Rattle.pg_machine.specs.Machine.{Machine, Turn, Input, Taken, Own}
-use Rattle.pg_machine.specs.Clocked.{Timed, Stamped, clocked}
+use Rattle.pg_message_types.specs.declared.message.Message.{Message}
+use Rattle.pg_message_types.specs.declared.message.Message.TheVariants.{Exchange}
+use Rattle.pg_step.specs.Machines.Places.{is_place, is_pair}
+use Rattle.pg_step.specs.Machines.Machine.{Machine, Turn, Input, Taken, Own}
+use Rattle.pg_step.specs.Machines.Clocked.{Timed, Stamped, clocked}
 use Rattle.pg_step.specs.State.{State, new_state}
 use Rattle.pg_step.specs.Turns.{NodeTurn, Report}
 use Rattle.pg_step.specs.Step.{CLOCK_LIMIT, Action, node_takes, node_acts}
 use Rattle.pg_step.specs.Losses.{see_loss}
-use Rattle.pg_machine.specs.Losing.{Noticed, Sent, Last, with_notices}
+use Rattle.pg_step.specs.Machines.Losing.{Noticed, Sent, Last, with_notices}
 use Rattle.pg_step.specs.declared.refusal.Refusal.{Refusal}
-use Rattle.pg_machine.specs.Machine.{World}
+use Rattle.pg_step.specs.Machines.Machine.{World}
 use Rattle.pg_step.specs.Config.{Config, name_at, nodes_at, groups_at, made_at, ports_at, first_table}
 
 -- the nodes of a configuration, and the packets on the way between them

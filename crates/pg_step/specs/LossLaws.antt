@@ -5,11 +5,11 @@ use Rattle.pg_term.specs.declared.pid.Pid.{Pid}
 use Rattle.pg_term.specs.declared.term.Term.{Term}
 use Rattle.pg_term.specs.RefParts.{RefParts}
 use Rattle.pg_term.specs.Same.{same_atom}
-use Rattle.pg_message.specs.PgGroup.Value.{count_in}
-use Rattle.pg_message.specs.declared.message.Message.{Message}
-use Rattle.pg_machine.specs.Places.{is_place, is_pair}
-use Rattle.pg_machine.specs.Clocked.{Timed, Stamped}
-use Rattle.pg_machine.specs.Losing.{Noticed, Sent, Last, LosingWorld, can_keep}
+use Rattle.pg_message_types.specs.PgGroup.Value.{count_in}
+use Rattle.pg_message_types.specs.declared.message.Message.{Message}
+use Rattle.pg_step.specs.Machines.Places.{is_place, is_pair}
+use Rattle.pg_step.specs.Machines.Clocked.{Timed, Stamped}
+use Rattle.pg_step.specs.Machines.Losing.{Noticed, Sent, Last, LosingWorld, can_keep}
 use Rattle.pg_step.specs.declared.command.OpId.{OpId}
 use Rattle.pg_step.specs.declared.refusal.Refusal.{Refusal}
 use Rattle.pg_step.specs.declared.refusal.Refusal.TheVariants.{NoSuchPlace, NodeLost, NotLost, NotDrained, ClockFull}

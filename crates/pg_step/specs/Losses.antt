@@ -1,9 +1,9 @@
 -- What a node makes of the loss of a peer, once it has taken all that came from it.
 use Rattle.std.specs.Prelude.{true, false}
 use Rattle.pg_term.specs.Same.{same_atom}
-use Rattle.pg_message.specs.PgGroup.Ended.{ended_with}
-use Rattle.pg_message.specs.PgGroup.Functions.{upd}
-use Rattle.pg_message.specs.PgGroup.Table.{without_node}
+use Rattle.pg_message_types.specs.PgGroup.Ended.{ended_with}
+use Rattle.pg_message_types.specs.PgGroup.Functions.{upd}
+use Rattle.pg_message_types.specs.PgGroup.Table.{without_node}
 use Rattle.pg_lock.specs.Locks.{without_node as locks_without}
 use Rattle.pg_step.specs.Nodes.{Node}
 use Rattle.pg_step.specs.State.{State, Use}

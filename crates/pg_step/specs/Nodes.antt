@@ -3,7 +3,7 @@ use Rattle.std.specs.Prelude.{ℕ, Bool, ◌&&◌, cond, List, [], ◌∷◌}
 use Rattle.std.specs.List.{list_all, list_any}
 use Rattle.std.specs.Ordering.{is_gt}
 use Rattle.pg_term.specs.Same.{same_atom, atom_cmp}
-use Rattle.pg_message.specs.declared.message.Message.{Message}
+use Rattle.pg_message_types.specs.declared.message.Message.{Message}
 
 -- a node, by its name: the characters of an atom
 abbrev pub Node : Type 0

@@ -6,13 +6,13 @@ use Rattle.pg_term.specs.declared.pid.Pid.{Pid}
 use Rattle.pg_term.specs.declared.term.Term.{Term}
 use Rattle.pg_term.specs.RefParts.{RefParts}
 use Rattle.pg_term.specs.Same.{same_atom, same_pid}
-use Rattle.pg_message.specs.PgGroup.declared.update.Update.{Update}
-use Rattle.pg_message.specs.PgGroup.Functions.{upd}
-use Rattle.pg_message.specs.PgGroup.Table.{changed, without}
+use Rattle.pg_message_types.specs.PgGroup.declared.update.Update.{Update}
+use Rattle.pg_message_types.specs.PgGroup.Functions.{upd}
+use Rattle.pg_message_types.specs.PgGroup.Table.{changed, without}
 use Rattle.pg_lock.specs.Locks.{grants, after_ask, given_up, is_holder}
-use Rattle.pg_message.specs.declared.message.Message.TheVariants.{Reply}
-use Rattle.pg_message.specs.declared.message.Said.{Said}
-use Rattle.pg_message.specs.declared.message.Said.TheVariants.{Granted, Denied, Applied}
+use Rattle.pg_message_types.specs.declared.message.Message.TheVariants.{Reply}
+use Rattle.pg_message_types.specs.declared.message.Said.{Said}
+use Rattle.pg_message_types.specs.declared.message.Said.TheVariants.{Granted, Denied, Applied}
 use Rattle.pg_exchange.specs.GroupList.{GroupList, all_merged}
 use Rattle.pg_step.specs.Nodes.{Node, Nodes, to_one}
 use Rattle.pg_step.specs.State.{State, formed}

@@ -3,14 +3,14 @@ use Rattle.std.specs.Prelude.{◌≡◌, ℕ, true, false, [], ◌∷◌, Some, 
 use Rattle.pg_term.specs.declared.pid.Pid.{Pid}
 use Rattle.pg_term.specs.declared.term.Term.{Term}
 use Rattle.pg_term.specs.RefParts.{RefParts}
-use Rattle.pg_message.specs.PgGroup.declared.update.Update.{Update}
-use Rattle.pg_message.specs.PgGroup.declared.update.Update.TheVariants.{Join}
-use Rattle.pg_message.specs.PgGroup.Table.{changed}
-use Rattle.pg_message.specs.PgGroup.Value.{count_in, name_of}
+use Rattle.pg_message_types.specs.PgGroup.declared.update.Update.{Update}
+use Rattle.pg_message_types.specs.PgGroup.declared.update.Update.TheVariants.{Join}
+use Rattle.pg_message_types.specs.PgGroup.Table.{changed}
+use Rattle.pg_message_types.specs.PgGroup.Value.{count_in, name_of}
 use Rattle.pg_lock.specs.Locks.{is_holder}
-use Rattle.pg_message.specs.declared.message.Message.TheVariants.{Reply}
-use Rattle.pg_message.specs.declared.message.Said.{Said}
-use Rattle.pg_message.specs.declared.message.Said.TheVariants.{Granted, Denied, Applied}
+use Rattle.pg_message_types.specs.declared.message.Message.TheVariants.{Reply}
+use Rattle.pg_message_types.specs.declared.message.Said.{Said}
+use Rattle.pg_message_types.specs.declared.message.Said.TheVariants.{Granted, Denied, Applied}
 use Rattle.pg_multicall.specs.Gathered.{what_of}
 use Rattle.pg_multicall.specs.declared.gather.Taken.TheVariants as what
 use Rattle.pg_exchange.specs.GroupList.{GroupList, all_merged}

@@ -3,8 +3,8 @@ use Rattle.std.specs.Prelude.{ℕ, Bool, false, not, None}
 use Rattle.std.specs.List.{list_all, filter}
 use Rattle.pg_term.specs.declared.pid.Pid.{Pid}
 use Rattle.pg_term.specs.declared.term.Term.{Term}
-use Rattle.pg_message.specs.PgGroup.declared.update.Update.{Update}
-use Rattle.pg_message.specs.PgGroup.Table.{Table}
+use Rattle.pg_message_types.specs.PgGroup.declared.update.Update.{Update}
+use Rattle.pg_message_types.specs.PgGroup.Table.{Table}
 use Rattle.pg_lock.specs.Locks.{Locks}
 use Rattle.pg_step.specs.declared.command.Command.{Command}
 use Rattle.pg_step.specs.declared.command.OpId.{OpId}

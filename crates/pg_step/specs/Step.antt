@@ -1,12 +1,12 @@
 -- The step of one node: what it makes of a packet, a command or a retry. It looks at that node and that one event.
 use Rattle.std.specs.Prelude.{ℕ, ◌+◌, cond, max, nat_le, nat_lt, List, Result, Ok, Err}
-use Rattle.pg_message.specs.declared.message.Message.{Message}
-use Rattle.pg_message.specs.declared.packet.TheConstants.{MAX_STAMP}
-use Rattle.pg_message.specs.declared.message.Message.TheVariants.{Call, Reply, DelLock, Exchange, Down}
-use Rattle.pg_message.specs.declared.message.Request.TheVariants.{SetLock, Change}
+use Rattle.pg_message_types.specs.declared.message.Message.{Message}
+use Rattle.pg_message_types.specs.declared.packet.TheConstants.{MAX_STAMP}
+use Rattle.pg_message_types.specs.declared.message.Message.TheVariants.{Call, Reply, DelLock, Exchange, Down}
+use Rattle.pg_message_types.specs.declared.message.Request.TheVariants.{SetLock, Change}
 use Rattle.pg_step.specs.declared.command.Command.{Command}
 use Rattle.pg_step.specs.declared.command.OpId.{OpId}
-use Rattle.pg_machine.specs.Clocked.{Timed, Stamped, stamped}
+use Rattle.pg_step.specs.Machines.Clocked.{Timed, Stamped, stamped}
 use Rattle.pg_step.specs.Nodes.{Node, Nodes}
 use Rattle.pg_step.specs.State.{State, live_nodes}
 use Rattle.pg_step.specs.Turns.{NodeTurn, Report}

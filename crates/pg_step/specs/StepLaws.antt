@@ -1,16 +1,16 @@
 -- Words for the laws of a node's step.
 use Rattle.std.specs.Prelude.{◌≡◌, ◌≢◌, ℕ, ◌+◌, ◌≤◌, Bool, true, false, not, ◌&&◌, cond, nat_eq}
 use Rattle.std.specs.Prelude.{nat_le, length, List, [], ◌∷◌, ◌++◌, Option, Some, None, Result, Ok, Err}
-use Rattle.pg_message.specs.PgGroup.Functions.{upd}
-use Rattle.pg_message.specs.declared.message.Message.{Message}
-use Rattle.pg_message.specs.declared.message.Message.TheVariants.{Reply, Exchange}
-use Rattle.pg_message.specs.declared.message.Said.{Said}
+use Rattle.pg_message_types.specs.PgGroup.Functions.{upd}
+use Rattle.pg_message_types.specs.declared.message.Message.{Message}
+use Rattle.pg_message_types.specs.declared.message.Message.TheVariants.{Reply, Exchange}
+use Rattle.pg_message_types.specs.declared.message.Said.{Said}
 use Rattle.pg_multicall.specs.Gathered.{what_of}
 use Rattle.pg_multicall.specs.declared.gather.Taken.{Taken as Heard}
 use Rattle.pg_multicall.specs.declared.gather.Taken.TheVariants as what
-use Rattle.pg_machine.specs.Places.{is_place, is_pair}
-use Rattle.pg_machine.specs.Machine.{Input, Turn, Taken, Own}
-use Rattle.pg_machine.specs.Clocked.{Timed, Stamped}
+use Rattle.pg_step.specs.Machines.Places.{is_place, is_pair}
+use Rattle.pg_step.specs.Machines.Machine.{Input, Turn, Taken, Own}
+use Rattle.pg_step.specs.Machines.Clocked.{Timed, Stamped}
 use Rattle.pg_step.specs.Nodes.{Node, Nodes}
 use Rattle.pg_step.specs.declared.command.Command.{Command}
 use Rattle.pg_step.specs.declared.command.Command.TheVariants.{Members, LocalMembers, WhichGroups, Closest}

@@ -1,7 +1,7 @@
 -- What a node does at once, and how two such turns make one.
 use Rattle.std.specs.Prelude.{List, ◌++◌, Option, Some, None}
-use Rattle.pg_message.specs.PgGroup.declared.update.Update.{Update}
-use Rattle.pg_message.specs.declared.message.Message.{Message}
+use Rattle.pg_message_types.specs.PgGroup.declared.update.Update.{Update}
+use Rattle.pg_message_types.specs.declared.message.Message.{Message}
 use Rattle.pg_step.specs.declared.command.OpId.{OpId}
 use Rattle.pg_step.specs.declared.answer.Odd.{Odd}
 use Rattle.pg_step.specs.Nodes.{Node, to_nobody}

@@ -1,6 +1,6 @@
 ghost use Rattle.std.specs.Prelude.{◌≡◌};
 
-use pg_term::pg_faults::{
+use pg_term::faults::{
     ALREADY_ENDED, BUSY, FOREIGN_PID, NAME_TOO_LARGE, NOT_FORMED, NOT_MADE, PROCESS_LIMIT,
 };
 

@@ -1,5 +1,5 @@
 //! The step of a node, as definitions: what it keeps, and what it makes of a packet, a command, a retry and a loss; the
-//! machine of a configuration of such nodes; and laws of one step.
+//! machine of a configuration of such nodes; and laws of one step. `src/machine.rt` has what holds of any machine of nodes.
 //!
 //! `Command::Create(name)` is a command, and what a node makes of it is said in `specs/`. Begin with `specs/Step.antt` beside docs/STEP.md,
 //! then `specs/State.antt`.
@@ -9,6 +9,7 @@ mod answer;
 mod command;
 mod command_fault;
 mod losses;
+mod machine;
 mod refusal;
 mod served;
 mod start;
@@ -20,10 +21,13 @@ pub use command_fault::CommandFault;
 pub use losses::{
     losing_nodes_keep_time, losses_are_seen, losses_refused_in_order, without_losses,
 };
+pub use machine::{
+    any_events, clocks, locality, runs, what_happens, what_is_reported, without_clocks,
+};
 pub use pg_ends::{EndFault, MAX_PROCESSES, Processes, numbered_from_one, take_end};
 pub use pg_exchange::{ExchangeFault, Formation, snapshot};
 pub use pg_lock::{Attempt, LockTable};
-pub use pg_message::{
+pub use pg_message_types::{
     Ended, GroupTable, MAX_STAMP, Message, MessageFault, Packet, Request, Said, Scope, Update,
     are_told_once, check_name, decode, encode, encode_into,
 };

@@ -1,6 +1,6 @@
 ghost use Rattle.std.specs.Prelude.{◌≡◌};
 
-use pg_term::pg_faults::{
+use pg_term::faults::{
     CLOCK_FULL, NO_SUCH_PLACE, NODE_LOST, NOT_A_MESSAGE, NOT_DRAINED, NOT_LOST, NOT_WAITING,
 };
 

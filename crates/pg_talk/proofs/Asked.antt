@@ -8,7 +8,7 @@ use Rattle.std.proofs.lemmas.Bool.{cases_eq}
 use Rattle.std.proofs.lemmas.Bool.Decides.{eqb_tells}
 use Rattle.std.proofs.lemmas.List.{length-set, length-map, length-append, map-append}
 use Rattle.std.proofs.lemmas.List.{append_assoc, get_or-set_same, get_or-set_other}
-use Rattle.pg_cluster.proofs.PgMachine.Options.{some_is}
+use Rattle.pg_cluster.proofs.PgStep.Machines.Options.{some_is}
 use Rattle.std.proofs.Math.ListN.{get_or-append}
 use Rattle.std.proofs.Math.Seq.{get_or-append_seam, take-append_seam}
 use Rattle.pg_term.specs.declared.pid.Pid.{Pid}
@@ -16,9 +16,9 @@ use Rattle.pg_cluster.specs.PgStep.declared.answer.Answer.{Answer}
 use Rattle.pg_cluster.specs.PgStep.declared.answer.Reply.{Reply}
 use Rattle.pg_cluster.specs.PgStep.declared.command.Command.{Command}
 use Rattle.pg_cluster.specs.PgStep.declared.command.Command.TheVariants.{Create, Join, Leave, Make}
-use Rattle.pg_cluster.specs.PgRun.declared.port.Asked.{Asked}
-use Rattle.pg_cluster.specs.PgRun.declared.port.Client.{Client}
-use Rattle.pg_cluster.specs.PgRun.Ports.{IsSilent, submitted, polled, polled_count}
+use Rattle.pg_cluster.specs.PgNodeRun.declared.port.Asked.{Asked}
+use Rattle.pg_cluster.specs.PgNodeRun.declared.port.Client.{Client}
+use Rattle.pg_cluster.specs.PgNodeRun.Ports.{IsSilent, submitted, polled, polled_count}
 use Rattle.pg_cluster.specs.Clients.{AllPairs}
 use Rattle.pg_talk.specs.declared.speaker.Speaker.{Speaker}
 use Rattle.pg_talk.specs.declared.speaker.Stage.{Stage}

@@ -6,7 +6,7 @@ use Rattle.std.specs.Prelude.{◌||◌, ⊤}
 use Rattle.std.specs.Io.KnownBytes.{Consumes, IsAtEnd}
 use Rattle.std.proofs.KnownBytes.{Consumes-nil, Consumes-trans}
 use lib.Seq.{take-append-add}
-use Rattle.pg_term.specs.PgFaults.declared.TheConstants.{OUT_OF_MEMORY, READ_FAULT, TOO_LONG, TRUNCATED}
+use Rattle.pg_term.specs.declared.faults.TheConstants.{OUT_OF_MEMORY, READ_FAULT, TOO_LONG, TRUNCATED}
 use Rattle.pg_cluster.proofs.PgFrame.Readings.{front_is_first, front_is_frame, pieces_continue}
 use Rattle.pg_cluster.proofs.PgFrame.Readings.{taking_leaves_others, written_is_read}
 use Rattle.pg_cluster.specs.PgFrame.declared.fault.TooLong.{TooLong}
@@ -15,10 +15,10 @@ use Rattle.pg_term.specs.Fault.{number_of}
 use Rattle.pg_term.specs.declared.fault.TermFault.{TermFault}
 use Rattle.pg_term.specs.declared.term.Term.{Term}
 use Rattle.pg_cluster.specs.PgTermIo.Reading.{term_of}
-use Rattle.pg_requests.specs.declared.input.Input.{Input}
-use Rattle.pg_requests.specs.declared.input.Input.TheVariants as forms
-use Rattle.pg_requests.specs.declared.layout.NodePorts.{NodePorts}
-use Rattle.pg_requests.specs.Requests.{input_of}
+use Rattle.pg_node_requests.specs.declared.input.Input.{Input}
+use Rattle.pg_node_requests.specs.declared.input.Input.TheVariants as forms
+use Rattle.pg_node_requests.specs.declared.layout.NodePorts.{NodePorts}
+use Rattle.pg_node_requests.specs.Requests.{input_of}
 use Rattle.pg_talk.specs.ReadingThread.{asked_by, breaks, ReadsOn, TakesFront}
 use Rattle.pg_talk.specs.Readings.{AreAll, AreReadOn, requests_in, cut_by, stream_ending}
 use Rattle.pg_talk.specs.Readings.{FailsAfter, input_then, inputs_in, inputs_of}

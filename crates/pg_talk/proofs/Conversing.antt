@@ -8,8 +8,8 @@ use Rattle.std.proofs.lemmas.Bool.{cases_eq}
 use Rattle.std.proofs.lemmas.Bool.Decides.{eqb_tells}
 use Rattle.std.proofs.lemmas.List.{length-map, length-set, length_push, get_or_push, get_or-set_same, get_or-set_other}
 use Rattle.std.proofs.lemmas.List.Sums.{sum_by-cons}
-use Rattle.pg_cluster.specs.PgRun.declared.port.Client.{Client}
-use Rattle.pg_cluster.specs.PgRun.Ports.{polled, polled_count}
+use Rattle.pg_cluster.specs.PgNodeRun.declared.port.Client.{Client}
+use Rattle.pg_cluster.specs.PgNodeRun.Ports.{polled, polled_count}
 use Rattle.pg_cluster.specs.PgStep.declared.start.Start.{Start}
 use Rattle.pg_term.specs.declared.fault.TermFault.TheVariants.{BadAtom}
 use Rattle.pg_term.specs.Fault.{checked_atom}

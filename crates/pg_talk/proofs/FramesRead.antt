@@ -8,9 +8,9 @@ use Rattle.pg_cluster.proofs.PgFrame.Readings.{front_is_first, front_is_frame, w
 use Rattle.pg_cluster.specs.PgFrame.Frames.{IsBody, bodies_of, frame, front_of, rest_of}
 use Rattle.pg_term.specs.declared.term.Term.{Term}
 use Rattle.pg_cluster.specs.PgTermIo.Writing.{written}
-use Rattle.pg_requests.specs.declared.input.Input.{Input}
-use Rattle.pg_requests.specs.declared.layout.NodePorts.{NodePorts}
-use Rattle.pg_requests.specs.Requests.{input_of}
+use Rattle.pg_node_requests.specs.declared.input.Input.{Input}
+use Rattle.pg_node_requests.specs.declared.layout.NodePorts.{NodePorts}
+use Rattle.pg_node_requests.specs.Requests.{input_of}
 use Rattle.pg_talk.proofs.BodiesRead.{cut_ending, first_input, last_input}
 use Rattle.pg_talk.specs.Frames.{framed}
 use Rattle.pg_talk.specs.ReadingLaws.{FramesAreRead, IsFramed, inputs_said, requests_said}

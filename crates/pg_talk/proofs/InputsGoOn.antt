@@ -3,9 +3,9 @@ use Rattle.std.proofs.Common.{◌≡◌, ℕ, Bool, true, false, List, [], ◌�
 use Rattle.std.specs.Prelude.{cond}
 use Rattle.pg_cluster.specs.PgStep.declared.command.Command.{Command}
 use Rattle.pg_term.specs.declared.term.Term.{Term}
-use Rattle.pg_requests.specs.declared.input.Input.{Input}
-use Rattle.pg_requests.specs.declared.layout.NodePorts.{NodePorts}
-use Rattle.pg_requests.specs.Requests.{input_asked, input_in, input_of, lost}
+use Rattle.pg_node_requests.specs.declared.input.Input.{Input}
+use Rattle.pg_node_requests.specs.declared.layout.NodePorts.{NodePorts}
+use Rattle.pg_node_requests.specs.Requests.{input_asked, input_in, input_of, lost}
 use Rattle.pg_talk.proofs.BodiesRead.{ends}
 
 asked_on : (client : Option ℕ) (command : Option Command) → ends (input_asked client command) ≡ false

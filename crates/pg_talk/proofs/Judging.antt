@@ -1,7 +1,7 @@
 -- What a cluster that was closed is found to be.
 use Rattle.std.proofs.Common.{◌≡◌, ℕ, zero, suc, Bool, true, false, List, [], ◌∷◌, refl, arith}
 use Rattle.std.specs.List.{list_any}
-use Rattle.pg_cluster.specs.Notices.{NobodyLost}
+use Rattle.pg_cluster.specs.PgClusterJudges.Schedule.{NobodyLost}
 use mathlib.Core.Logic.{∥∥₁_elim}
 use Rattle.std.proofs.Props.{props}
 

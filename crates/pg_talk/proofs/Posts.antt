@@ -7,13 +7,13 @@ use Rattle.std.proofs.lemmas.List.{append-nil, get_or_push, length-map, length-r
 use Rattle.std.proofs.lemmas.List.{map-append, nil_from_length, replicate_more}
 use Rattle.std.specs.Prelude.{codes, pos, replicate}
 use Rattle.std.specs.Io.KnownBytes.{Appends}
-use Rattle.pg_cluster.specs.PgRun.declared.port.Asked.{Asked}
+use Rattle.pg_cluster.specs.PgNodeRun.declared.port.Asked.{Asked}
 use Rattle.pg_cluster.specs.PgStep.declared.answer.Answer.{Answer}
 use Rattle.pg_cluster.specs.PgStep.declared.command.Command.{Command}
 use Rattle.pg_term.specs.declared.term.Term.{Term, Tuple}
 use Rattle.pg_term.specs.declared.term.Term.TheVariants.{Int, Atom}
-use Rattle.pg_requests.specs.Replies.{bad_request_term, count_reply, error_term, node_lost_term}
-use Rattle.pg_requests.specs.Replies.{numbered_term, refused_term, reply_term}
+use Rattle.pg_node_requests.specs.Replies.{bad_request_term, count_reply, error_term, node_lost_term}
+use Rattle.pg_node_requests.specs.Replies.{numbered_term, refused_term, reply_term}
 use Rattle.std.specs.Str.{chars}
 use Rattle.pg_talk.specs.Conversations.{saturated}
 use Rattle.pg_talk.specs.Frames.{framed, IsUntellable, WritesReply}

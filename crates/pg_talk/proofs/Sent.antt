@@ -8,9 +8,9 @@ use Rattle.rtrb.proofs.end.End.TheSendSync.{the_send as end_send}
 use Rattle.pg_cluster.specs.PgFrame.contracts.deframer.Deframer as Deframer
 use Rattle.pg_cluster.proofs.TermsSent.{atom_send}
 use Rattle.pg_cluster.proofs.PartsSent.{command_send}
-use Rattle.pg_requests.specs.contracts.input.Input as Input
-use Rattle.pg_requests.specs.contracts.layout.Layout as Layout
-use Rattle.pg_requests.specs.contracts.layout.NodePorts as NodePorts
+use Rattle.pg_node_requests.specs.contracts.input.Input as Input
+use Rattle.pg_node_requests.specs.contracts.layout.Layout as Layout
+use Rattle.pg_node_requests.specs.contracts.layout.NodePorts as NodePorts
 use Rattle.pg_talk.specs.contracts.service.reading.Reading as Reading
 
 node_send : IsSend NodePorts.the_row

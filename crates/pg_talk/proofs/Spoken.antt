@@ -12,20 +12,20 @@ use Rattle.std.proofs.lemmas.List.{append-nil, get_or-map, get_or-set_same, get_
 use Rattle.std.proofs.lemmas.List.{length-map, length-set, map-set, set-set}
 use Rattle.std.proofs.lemmas.List.Concat.{flat_map-append}
 use Rattle.std.proofs.lemmas.List.Elements.{All-append, All-cons, All-nil}
-use Rattle.pg_cluster.proofs.PgReplica.Streams.{appends_then}
-use Rattle.pg_cluster.specs.PgRun.Ports.{polled, polled_count, submitted}
-use Rattle.pg_cluster.specs.PgRun.declared.port.Asked.{Asked}
-use Rattle.pg_cluster.specs.PgRun.declared.port.Client.{Client}
+use Rattle.pg_cluster.proofs.PgNode.Replicas.Streams.{appends_then}
+use Rattle.pg_cluster.specs.PgNodeRun.Ports.{polled, polled_count, submitted}
+use Rattle.pg_cluster.specs.PgNodeRun.declared.port.Asked.{Asked}
+use Rattle.pg_cluster.specs.PgNodeRun.declared.port.Client.{Client}
 use Rattle.pg_cluster.specs.PgStep.Config.{Config}
 use Rattle.pg_cluster.specs.PgStep.declared.answer.Answer.{Answer}
 use Rattle.pg_cluster.specs.PgStep.declared.command.Command.{Command}
 use Rattle.pg_term.specs.declared.term.Term.{Term}
 use Rattle.pg_cluster.specs.declared.running.Running.{Running}
-use Rattle.pg_cluster.specs.Closed.{lost_of}
+use Rattle.pg_cluster.specs.Clusters.{lost_of}
 use Rattle.pg_cluster.specs.Running.{OnlyClient, clients_in, config_in, losses_in, polled_at, submitted_at}
-use Rattle.pg_requests.specs.declared.input.Input.{Input}
-use Rattle.pg_requests.specs.declared.input.Input.TheVariants as forms
-use Rattle.pg_requests.specs.Replies.{bad_request_term, lost_term, node_lost_term, reply_term}
+use Rattle.pg_node_requests.specs.declared.input.Input.{Input}
+use Rattle.pg_node_requests.specs.declared.input.Input.TheVariants as forms
+use Rattle.pg_node_requests.specs.Replies.{bad_request_term, lost_term, node_lost_term, reply_term}
 use Rattle.pg_talk.specs.declared.service.desk.Desk.{Desk}
 use Rattle.pg_talk.specs.declared.service.serving.ServedNode.{ServedNode}
 use Rattle.pg_talk.specs.Conversations.{saturated}

@@ -6,8 +6,8 @@ use Rattle.pg_cluster.specs.ClientsLaws.{slot_out_on}
 use Rattle.pg_cluster.specs.PgFrame.Frames.{front_of}
 use Rattle.pg_cluster.specs.PgRing.declared.slot_out.SlotOut.{SlotOut}
 use Rattle.pg_cluster.specs.PgRing.Slots.{SameSlotOut, given}
-use Rattle.pg_requests.specs.declared.input.Input.{Input}
-use Rattle.pg_requests.specs.declared.layout.NodePorts.{NodePorts}
+use Rattle.pg_node_requests.specs.declared.input.Input.{Input}
+use Rattle.pg_node_requests.specs.declared.layout.NodePorts.{NodePorts}
 use Rattle.pg_talk.proofs.BodiesRead.{front_ends, front_goes, is_to_be_read, read_then}
 use Rattle.pg_talk.proofs.BodiesRead.{reads_itself, reads_piece, reads_then, to_be_read}
 use Rattle.pg_talk.proofs.InputsGoOn.{goes_on}

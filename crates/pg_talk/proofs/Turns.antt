@@ -6,7 +6,7 @@ use Rattle.std.specs.Io.KnownBytes.{Keeps}
 use Rattle.std.proofs.lemmas.List.{append-nil, get_or_default, get_or-map, get_or-set_same}
 use Rattle.std.proofs.lemmas.Option.{get_or_from_slice_get}
 use Rattle.std.proofs.Math.ListN.{get_or-eq_default}
-use Rattle.pg_cluster.proofs.PgReplica.Streams.{appends_kept}
+use Rattle.pg_cluster.proofs.PgNode.Replicas.Streams.{appends_kept}
 use Rattle.pg_cluster.specs.PgNodeState.declared.state.fault.NodeFault.{NodeFault}
 use Rattle.pg_cluster.specs.PgNodeState.declared.state.fault.NodeFault.TheVariants.{Refused}
 use Rattle.pg_cluster.specs.PgStep.declared.refusal.Refusal.TheVariants.{NoSuchPlace, NodeLost}
@@ -15,8 +15,8 @@ use Rattle.pg_cluster.specs.PgRing.declared.slot_in.SlotIn.{SlotIn}
 use Rattle.pg_cluster.specs.ClientsLaws.{slot_in_on}
 use Rattle.pg_cluster.specs.PgStep.Config.{Config}
 use Rattle.pg_term.specs.declared.term.Term.{Term}
-use Rattle.pg_requests.specs.declared.input.Input.{Input}
-use Rattle.pg_requests.specs.Replies.{node_lost_term}
+use Rattle.pg_node_requests.specs.declared.input.Input.{Input}
+use Rattle.pg_node_requests.specs.Replies.{node_lost_term}
 use Rattle.pg_talk.specs.declared.service.desk.Desk.{Desk}
 use Rattle.pg_talk.specs.declared.service.serving.Serving.{Serving}
 use Rattle.pg_talk.specs.Conversations.{saturated}

@@ -8,9 +8,9 @@ use Rattle.std.proofs.lemmas.List.{append-nil, get_or-map, length-map}
 use Rattle.std.proofs.lemmas.List.Elements.{All-nil, All-tail}
 use Rattle.std.proofs.lemmas.List.Folds.{list_all_at}
 use mathlib.Core.Logic.{∥∥₁_elim}
-use Rattle.pg_cluster.proofs.PgReplica.Streams.{appends_none}
-use Rattle.pg_cluster.specs.PgRun.Ports.{IsSilent, polled, submitted}
-use Rattle.pg_cluster.specs.PgRun.declared.port.Asked.{Asked}
+use Rattle.pg_cluster.proofs.PgNode.Replicas.Streams.{appends_none}
+use Rattle.pg_cluster.specs.PgNodeRun.Ports.{IsSilent, polled, submitted}
+use Rattle.pg_cluster.specs.PgNodeRun.declared.port.Asked.{Asked}
 use Rattle.pg_cluster.specs.PgStep.Config.{Config}
 use Rattle.pg_cluster.specs.PgStep.declared.answer.Answer.{Answer}
 use Rattle.pg_cluster.specs.PgStep.declared.command.Command.{Command}
@@ -18,12 +18,12 @@ use Rattle.pg_cluster.specs.PgStep.declared.start.Start.{Start}
 use Rattle.pg_term.specs.declared.term.Term.{Term}
 use Rattle.pg_cluster.specs.declared.running.Running.{Running}
 use Rattle.pg_cluster.specs.Members.{is_lost, thread_of}
-use Rattle.pg_cluster.specs.Notices.{NobodyLost}
+use Rattle.pg_cluster.specs.PgClusterJudges.Schedule.{NobodyLost}
 use Rattle.pg_cluster.specs.Running.{clients_in, config_in, losses_in, threads_in}
 use Rattle.pg_cluster.specs.Threads.{AreMade, begun_by}
-use Rattle.pg_requests.specs.declared.input.Input.{Input}
-use Rattle.pg_requests.specs.declared.input.Input.TheVariants as forms
-use Rattle.pg_requests.specs.Layouts.{layout_of}
+use Rattle.pg_node_requests.specs.declared.input.Input.{Input}
+use Rattle.pg_node_requests.specs.declared.input.Input.TheVariants as forms
+use Rattle.pg_node_requests.specs.Layouts.{layout_of}
 use Rattle.pg_talk.specs.declared.service.desk.Desk.{Desk}
 use Rattle.pg_talk.specs.declared.service.run.Served.{Served}
 use Rattle.pg_talk.specs.declared.service.serving.ServedNode.{ServedNode}

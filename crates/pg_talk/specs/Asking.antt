@@ -10,9 +10,9 @@ use Rattle.pg_cluster.specs.PgStep.declared.answer.Reply.{Reply}
 use Rattle.pg_cluster.specs.PgStep.declared.answer.Reply.TheVariants.{Made}
 use Rattle.pg_cluster.specs.PgStep.declared.command.Command.{Command}
 use Rattle.pg_cluster.specs.PgStep.declared.command.Command.TheVariants.{Create, Join, Leave, Make}
-use Rattle.pg_cluster.specs.PgRun.declared.port.Asked.{Asked}
-use Rattle.pg_cluster.specs.PgRun.declared.port.Client.{Client}
-use Rattle.pg_cluster.specs.PgRun.Ports.{submitted, polled, polled_count}
+use Rattle.pg_cluster.specs.PgNodeRun.declared.port.Asked.{Asked}
+use Rattle.pg_cluster.specs.PgNodeRun.declared.port.Client.{Client}
+use Rattle.pg_cluster.specs.PgNodeRun.Ports.{submitted, polled, polled_count}
 use Rattle.pg_talk.specs.declared.speaker.Speaker.{Speaker}
 use Rattle.pg_talk.specs.declared.speaker.Stage.{Stage}
 use Rattle.pg_talk.specs.declared.speaker.Stage.TheVariants.{Waiting, Creating, Making, Joining, Leaving, Silent}

@@ -1,19 +1,19 @@
 -- What a conversation of clients with a cluster came to.
 use Rattle.std.specs.Prelude.{◌≡◌, ℕ, Bool, ◌<◌, ◌+◌, ◌*◌, ◌-◌, ◌^◌, min, List, [], ◌∷◌, ◌++◌, get_or, length, map}
 use Rattle.std.specs.List.{All, sum_by}
-use Rattle.pg_cluster.specs.PgRun.Ports.{polled}
-use Rattle.pg_cluster.specs.PgRun.Runs.{generator_of}
-use Rattle.pg_cluster.specs.PgRun.declared.port.Client.{Client}
+use Rattle.pg_cluster.specs.PgNodeRun.Ports.{polled}
+use Rattle.pg_cluster.specs.PgNodeRun.Runs.{generator_of}
+use Rattle.pg_cluster.specs.PgNodeRun.declared.port.Client.{Client}
 use Rattle.pg_cluster.specs.PgStep.Config.{Config}
 use Rattle.pg_cluster.specs.PgStep.declared.start.Start.{Start}
 use Rattle.rand_pcg.specs.Lcg.{Lcg}
-use Rattle.pg_cluster.specs.Notices.{NobodyLost}
+use Rattle.pg_cluster.specs.PgClusterJudges.Schedule.{NobodyLost}
 use Rattle.pg_cluster.specs.Seeds.{AreSeeded}
 use Rattle.pg_cluster.specs.Threads.{HaveRings, Thread, begun_by, limit_of}
 use Rattle.pg_talk.specs.declared.conversation.Conversation.{Conversation}
 use Rattle.pg_talk.specs.declared.conversation.Outcome.{Outcome}
 use Rattle.pg_talk.specs.Asking.{AllSpoke}
-use Rattle.pg_requests.specs.Members.{node_name}
+use Rattle.pg_node_requests.specs.Members.{node_name}
 use Rattle.pg_talk.specs.Verdicts.{IsJudged}
 
 -- the node of this number, with so many ports, no group, and no process

@@ -5,7 +5,7 @@ use Rattle.pg_cluster.specs.PgFrame.Frames.{frame}
 use Rattle.pg_cluster.specs.PgFrame.declared.TheConstants.{MAX_BODY}
 use Rattle.pg_term.specs.declared.term.Term.{Term}
 use Rattle.pg_cluster.specs.PgTermIo.Writing.{written, IsWritable}
-use Rattle.pg_requests.specs.Replies.{numbered_term, refused_term}
+use Rattle.pg_node_requests.specs.Replies.{numbered_term, refused_term}
 
 -- the frame whose body a term is written as
 abbrev pub framed : Term → List ℕ

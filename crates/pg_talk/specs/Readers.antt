@@ -1,7 +1,7 @@
 -- The thread that reads, and what it promised.
 use Rattle.std.specs.Prelude.{◌≡◌, ℕ, List, [], Option}
 use Rattle.pg_cluster.specs.PgRing.Slots.{AreSlots, given}
-use Rattle.pg_requests.specs.declared.layout.NodePorts.{NodePorts}
+use Rattle.pg_node_requests.specs.declared.layout.NodePorts.{NodePorts}
 use Rattle.pg_talk.specs.declared.service.reader.Reader.{Reader}
 use Rattle.pg_talk.specs.declared.service.reading.Reading.{Reading}
 

@@ -1,16 +1,16 @@
 -- What holds of all that is read. The function of src/laws.rt is proved to meet it.
 use Rattle.std.specs.Prelude.{◌≡◌, ◌<◌, ◌≤◌, ℕ, List, [], ◌∷◌, ◌++◌, Ok, length, map}
 use Rattle.std.specs.List.{AllByRecursion, flat_map, sum_by}
-use Rattle.pg_term.specs.PgFaults.declared.TheConstants.{TRUNCATED}
+use Rattle.pg_term.specs.declared.faults.TheConstants.{TRUNCATED}
 use Rattle.pg_cluster.specs.PgFrame.declared.TheConstants.{MAX_BODY}
 use Rattle.pg_cluster.specs.PgFrame.Frames.{IsOpen}
 use Rattle.pg_term.specs.declared.term.Term.{Term}
 use Rattle.pg_cluster.specs.PgTermIo.Reading.{term_of}
 use Rattle.pg_cluster.specs.PgTermIo.Writing.{written}
-use Rattle.pg_requests.specs.declared.input.Input.{Input}
-use Rattle.pg_requests.specs.declared.input.Input.TheVariants as forms
-use Rattle.pg_requests.specs.declared.layout.NodePorts.{NodePorts}
-use Rattle.pg_requests.specs.Requests.{input_of}
+use Rattle.pg_node_requests.specs.declared.input.Input.{Input}
+use Rattle.pg_node_requests.specs.declared.input.Input.TheVariants as forms
+use Rattle.pg_node_requests.specs.declared.layout.NodePorts.{NodePorts}
+use Rattle.pg_node_requests.specs.Requests.{input_of}
 use Rattle.pg_talk.specs.Frames.{framed}
 use Rattle.pg_talk.specs.Readings.{requests_in, inputs_in}
 

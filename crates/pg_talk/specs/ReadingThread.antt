@@ -1,7 +1,7 @@
 -- The thread that reads, and what it gave on so far.
 use Rattle.std.specs.Prelude.{◌≡◌, ◌⊎◌, ℕ, Bool, true, false, List, ◌++◌, Option, Some, None, Result, Ok, Err}
 use Rattle.std.specs.Io.KnownBytes.{Consumes}
-use Rattle.pg_term.specs.PgFaults.declared.TheConstants.{OUT_OF_MEMORY, TOO_LONG}
+use Rattle.pg_term.specs.declared.faults.TheConstants.{OUT_OF_MEMORY, TOO_LONG}
 use Rattle.pg_cluster.specs.PgFrame.declared.fault.TooLong.{TooLong}
 use Rattle.pg_cluster.specs.PgFrame.Frames.{after_front, bodies_of, front_of, rest_of}
 use Rattle.pg_cluster.specs.PgRing.Slots.{SameSlotOut, given}
@@ -9,10 +9,10 @@ use Rattle.pg_term.specs.Fault.{number_of}
 use Rattle.pg_term.specs.declared.fault.TermFault.{TermFault}
 use Rattle.pg_term.specs.declared.term.Term.{Term}
 use Rattle.pg_cluster.specs.PgTermIo.Reading.{term_of}
-use Rattle.pg_requests.specs.declared.input.Input.{Input}
-use Rattle.pg_requests.specs.declared.input.Input.TheVariants as forms
-use Rattle.pg_requests.specs.declared.layout.NodePorts.{NodePorts}
-use Rattle.pg_requests.specs.Requests.{input_of}
+use Rattle.pg_node_requests.specs.declared.input.Input.{Input}
+use Rattle.pg_node_requests.specs.declared.input.Input.TheVariants as forms
+use Rattle.pg_node_requests.specs.declared.layout.NodePorts.{NodePorts}
+use Rattle.pg_node_requests.specs.Requests.{input_of}
 use Rattle.pg_talk.specs.declared.service.reading.Reading.{Reading}
 use Rattle.pg_talk.specs.Readings.{AreReadOn, inputs_of}
 

@@ -1,17 +1,17 @@
 -- What is read of a source: which inputs its bytes are.
 use Rattle.std.specs.Prelude.{◌≡◌, ◌⊎◌, ◌-◌, ℕ, zero, suc, List, [], ◌∷◌, ◌++◌, Option, Result, Ok, Err, IfSome, take}
 use Rattle.std.specs.Io.KnownBytes.{Consumes}
-use Rattle.pg_term.specs.PgFaults.declared.TheConstants.{OUT_OF_MEMORY, READ_FAULT, TOO_LONG, TRUNCATED}
+use Rattle.pg_term.specs.declared.faults.TheConstants.{OUT_OF_MEMORY, READ_FAULT, TOO_LONG, TRUNCATED}
 use Rattle.pg_cluster.specs.PgFrame.declared.fault.TooLong.{TooLong}
 use Rattle.pg_cluster.specs.PgFrame.Frames.{bodies_of, front_of, rest_of}
 use Rattle.pg_term.specs.Fault.{number_of}
 use Rattle.pg_term.specs.declared.fault.TermFault.{TermFault}
 use Rattle.pg_term.specs.declared.term.Term.{Term}
 use Rattle.pg_cluster.specs.PgTermIo.Reading.{term_of}
-use Rattle.pg_requests.specs.declared.input.Input.{Input}
-use Rattle.pg_requests.specs.declared.input.Input.TheVariants as forms
-use Rattle.pg_requests.specs.declared.layout.NodePorts.{NodePorts}
-use Rattle.pg_requests.specs.Requests.{input_of}
+use Rattle.pg_node_requests.specs.declared.input.Input.{Input}
+use Rattle.pg_node_requests.specs.declared.input.Input.TheVariants as forms
+use Rattle.pg_node_requests.specs.declared.layout.NodePorts.{NodePorts}
+use Rattle.pg_node_requests.specs.Requests.{input_of}
 
 -- ---- bytes
 

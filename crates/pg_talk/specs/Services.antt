@@ -1,8 +1,8 @@
 -- What a service came to, and why it did not come to its end.
 use Rattle.std.specs.Prelude.{◌≡◌, ℕ, List, Option, Some}
-use Rattle.pg_cluster.specs.PgRun.declared.port.Client.{Client}
-use Rattle.pg_requests.specs.declared.input.Input.{Input}
-use Rattle.pg_requests.specs.Layouts.{layout_of}
+use Rattle.pg_cluster.specs.PgNodeRun.declared.port.Client.{Client}
+use Rattle.pg_node_requests.specs.declared.input.Input.{Input}
+use Rattle.pg_node_requests.specs.Layouts.{layout_of}
 use Rattle.pg_cluster.specs.PgStep.Config.{Config}
 use Rattle.rand_pcg.specs.Lcg.{Lcg}
 use Rattle.pg_cluster.specs.Threads.{Thread}

@@ -1,16 +1,17 @@
 -- What a cluster that was closed is found to be.
 use Rattle.std.specs.Prelude.{◌≡◌, ℕ, Bool, true, List, map}
-use Rattle.pg_cluster.specs.PgRun.declared.log.NodeEvent.{NodeEvent}
-use Rattle.pg_cluster.specs.PgRun.declared.port.Client.{Client}
+use Rattle.pg_cluster.specs.PgNodeRun.declared.log.NodeEvent.{NodeEvent}
+use Rattle.pg_cluster.specs.PgNodeRun.declared.port.Client.{Client}
 use Rattle.pg_cluster.specs.PgStep.Config.{Config}
-use Rattle.pg_cluster.specs.PgFrameWorld.Runs.{LosesNone}
-use Rattle.pg_cluster.specs.PgFrameWorld.declared.step.FrameStep.{FrameStep}
+use Rattle.pg_cluster.specs.PgWorldPackets.Runs.{LosesNone}
+use Rattle.pg_cluster.specs.PgWorldPackets.declared.step.FrameStep.{FrameStep}
 use Rattle.rand_pcg.specs.Lcg.{Lcg}
 use Rattle.pg_cluster.specs.Clients.{AllHeard}
-use Rattle.pg_cluster.specs.Judges.{Replays, ReplaysPastLosses}
-use Rattle.pg_cluster.specs.Notices.{NobodyLost}
-use Rattle.pg_cluster.specs.Threads.{NodeOf, Thread, AreMade, begun_by}
-use Rattle.pg_cluster.specs.Together.{AreOneLosingRun, AreOneRun}
+use Rattle.pg_cluster.specs.PgClusterJudges.Judges.{Replays, ReplaysPastLosses}
+use Rattle.pg_cluster.specs.PgClusterJudges.Schedule.{NobodyLost}
+use Rattle.pg_cluster.specs.Threads.{Thread, AreMade, begun_by}
+use Rattle.pg_cluster.specs.PgClusterJudges.NodeOf.{NodeOf}
+use Rattle.pg_cluster.specs.PgClusterJudges.Together.{AreOneLosingRun, AreOneRun}
 use Rattle.pg_talk.specs.declared.verdict.Verdict.{Verdict}
 
 -- The threads of a configuration ended in these nodes, with these logs, and what the clients said and heard is in these. Whoever was lost

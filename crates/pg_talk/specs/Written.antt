@@ -3,17 +3,17 @@ use Rattle.std.specs.Prelude.{◌≡◌, ◌⊎◌, ◌<◌, ◌≤◌, ◌+◌,
 use Rattle.std.specs.Prelude.{◌∷◌, ◌++◌, ⊤, Option, Some, None, if◌then◌else◌, get_or, length, map, replicate, set}
 use Rattle.std.specs.Io.KnownBytes.{Appends}
 use Rattle.std.specs.List.{All, flat_map}
-use Rattle.pg_cluster.specs.PgRun.declared.port.Asked.{Asked}
-use Rattle.pg_cluster.specs.PgRun.declared.port.Client.{Client}
-use Rattle.pg_cluster.specs.PgRun.Ports.{polled, submitted}
+use Rattle.pg_cluster.specs.PgNodeRun.declared.port.Asked.{Asked}
+use Rattle.pg_cluster.specs.PgNodeRun.declared.port.Client.{Client}
+use Rattle.pg_cluster.specs.PgNodeRun.Ports.{polled, submitted}
 use Rattle.pg_cluster.specs.PgStep.Config.{Config}
 use Rattle.pg_cluster.specs.PgStep.declared.answer.Answer.{Answer}
 use Rattle.pg_cluster.specs.PgStep.declared.command.Command.{Command}
 use Rattle.pg_term.specs.declared.term.Term.{Term}
-use Rattle.pg_requests.specs.declared.input.Input.{Input}
-use Rattle.pg_requests.specs.declared.input.Input.TheVariants as forms
-use Rattle.pg_requests.specs.Replies.{bad_request_term, lost_term, node_lost_term}
-use Rattle.pg_requests.specs.Replies.{numbered_term, refused_term, reply_term}
+use Rattle.pg_node_requests.specs.declared.input.Input.{Input}
+use Rattle.pg_node_requests.specs.declared.input.Input.TheVariants as forms
+use Rattle.pg_node_requests.specs.Replies.{bad_request_term, lost_term, node_lost_term}
+use Rattle.pg_node_requests.specs.Replies.{numbered_term, refused_term, reply_term}
 use Rattle.pg_talk.specs.Conversations.{saturated}
 use Rattle.pg_talk.specs.Frames.{framed, IsUntellable}
 

@@ -1,8 +1,8 @@
 //! What a client of a conversation says next.
 
 ghost use Rattle.std.specs.Prelude.{◌≡◌, ◌<◌, ◌+◌, ℕ, Bool, true, false, IfOk, get_or, length};
-ghost use Rattle.pg_cluster.specs.PgRun.Ports.{IsSilent};
-ghost use Rattle.pg_cluster.specs.PgRun.declared.port.Client.{Client};
+ghost use Rattle.pg_cluster.specs.PgNodeRun.Ports.{IsSilent};
+ghost use Rattle.pg_cluster.specs.PgNodeRun.declared.port.Client.{Client};
 ghost use Rattle.pg_cluster.specs.Running.{clients_in, OnlyClient};
 ghost use Rattle.pg_talk.specs.Asking.{HasRest, group_name, process_made, next_said, pid_after, rounds_after, stage_after};
 ghost use Rattle.pg_talk.specs.Conversations.{saturated};

@@ -2,10 +2,10 @@
 
 ghost use Rattle.std.specs.Prelude.{◌≡◌, ◌↔◌, true, IfOk, IsTrue};
 ghost use Rattle.std.specs.List.{list_any};
-ghost use Rattle.pg_cluster.specs.Judges.{Agree};
-ghost use Rattle.pg_cluster.specs.Notices.{NobodyLost};
+ghost use Rattle.pg_cluster.specs.PgClusterJudges.Judges.{Agree};
+ghost use Rattle.pg_cluster.specs.PgClusterJudges.Schedule.{NobodyLost};
 ghost use Rattle.pg_cluster.specs.Running.{clients_in, config_in, losses_in, threads_in};
-ghost use Rattle.pg_cluster.specs.Survivors.{SurvivorsAgree};
+ghost use Rattle.pg_cluster.specs.PgClusterJudges.Survivors.{SurvivorsAgree};
 ghost use Rattle.pg_talk.specs.Verdicts.{IsJudged};
 
 use pg_cluster::{Closed, Running};

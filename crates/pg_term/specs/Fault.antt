@@ -1,8 +1,8 @@
 -- What a call that can refuse answers, but for running out of memory.
 use Rattle.std.specs.Prelude.{◌≡◌, ℕ, List, length, nat_lt, Result, Ok, Err, if◌then◌else◌}
-use Rattle.pg_faults.specs.declared.TheConstants.{BAD_ATOM, BAD_REFERENCE, BAD_VERSION, IMPROPER_LIST}
-use Rattle.pg_faults.specs.declared.TheConstants.{INTEGER_TOO_LARGE, OUT_OF_MEMORY, TOO_DEEP}
-use Rattle.pg_faults.specs.declared.TheConstants.{TOO_LONG, TRAILING_BYTES, TRUNCATED, UNKNOWN_TAG}
+use Rattle.pg_term.specs.declared.faults.TheConstants.{BAD_ATOM, BAD_REFERENCE, BAD_VERSION, IMPROPER_LIST}
+use Rattle.pg_term.specs.declared.faults.TheConstants.{INTEGER_TOO_LARGE, OUT_OF_MEMORY, TOO_DEEP}
+use Rattle.pg_term.specs.declared.faults.TheConstants.{TOO_LONG, TRAILING_BYTES, TRUNCATED, UNKNOWN_TAG}
 use Rattle.pg_term.specs.declared.fault.TermFault.{TermFault}
 use Rattle.pg_term.specs.declared.fault.TermFault.TheVariants.{Truncated, BadVersion, UnknownTag, TooDeep}
 use Rattle.pg_term.specs.declared.fault.TermFault.TheVariants.{IntegerTooLarge, BadAtom, ImproperList}

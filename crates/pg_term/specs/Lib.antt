@@ -6,4 +6,3 @@ pub mod RefParts
 pub mod Same
 pub mod Text
 pub mod formers
-pub use Rattle.pg_faults.specs as PgFaults

@@ -1,6 +1,6 @@
 ghost use Rattle.std.specs.Prelude.{◌≡◌};
 
-use pg_faults::{
+use crate::faults::{
     BAD_ATOM, BAD_REFERENCE, BAD_VERSION, IMPROPER_LIST, INTEGER_TOO_LARGE, OUT_OF_MEMORY,
     TOO_DEEP, TOO_LONG, TRAILING_BYTES, TRUNCATED, UNKNOWN_TAG,
 };

@@ -1,4 +1,5 @@
-//! Terms of Erlang as plain data: integers, atoms, references, pids, tuples, lists and binaries, with their order, equality and hash.
+//! Terms of Erlang as plain data: integers, atoms, references, pids, tuples, lists and binaries, with their order, equality and hash; and
+//! the numbers of all faults (`faults`).
 //!
 //! `Term::Atom(Atom::new(alloc, "a")?)` is a term. Begin with `src/term.rt`, which has its forms; `specs/Same.antt` says when two terms are
 //! one, and `specs/Order.antt` which comes first.
@@ -7,6 +8,7 @@
 mod atom;
 mod boxed;
 mod fault;
+pub mod faults;
 mod fields;
 mod items;
 mod laws;
@@ -22,7 +24,6 @@ pub use fault::TermFault;
 pub use fields::Fields;
 pub use items::Items;
 pub use laws::{equality, order, order_by_kind};
-pub use pg_faults;
 pub use pid::Pid;
 pub use reference::Reference;
 pub use term::Term;

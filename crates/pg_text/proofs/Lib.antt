@@ -2,8 +2,8 @@ pub mod Adding
 pub mod AtomsBack
 pub mod Fronts
 pub mod JustThose
-pub mod Numerals
 pub mod NumbersBack
+pub mod Numerals
 pub mod PartsBack
 pub mod QuotedJust
 pub mod Quoting

@@ -1,6 +1,6 @@
 -- The numbers of the faults.
 use Rattle.std.specs.Prelude.{ℕ}
-use Rattle.pg_term.specs.PgFaults.declared.TheConstants.{BAD_LINE, OUT_OF_MEMORY}
+use Rattle.pg_term.specs.declared.faults.TheConstants.{BAD_LINE, OUT_OF_MEMORY}
 use Rattle.pg_text.specs.declared.fault.TextFault.{TextFault}
 use Rattle.pg_text.specs.declared.fault.TextFault.TheVariants.{BadText, OutOfMemory}
 

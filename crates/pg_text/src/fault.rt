@@ -1,6 +1,6 @@
 ghost use Rattle.std.specs.Prelude.{◌≡◌};
 
-use pg_term::pg_faults::{BAD_LINE, OUT_OF_MEMORY};
+use pg_term::faults::{BAD_LINE, OUT_OF_MEMORY};
 use std::alloc::{AllocError, AllocFailed};
 use thiserror::Error;
 

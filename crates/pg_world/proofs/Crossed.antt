@@ -4,29 +4,29 @@ use Rattle.std.proofs.Common.{[], ◌∷◌, ◌++◌, refl, sym, ap, ◌∙◌,
 use Rattle.std.specs.Int.{w32, to_be_bytes}
 use Rattle.std.specs.List.{AllByRecursion}
 use Rattle.std.proofs.lemmas.Bool.{cases_eq}
-use Rattle.pg_frame_world.specs.PgFrame.Frames.{frame, after_front}
-use Rattle.pg_frame_world.specs.PgMessage.declared.message.Message.{Message}
-use Rattle.pg_frame_world.specs.PgMessage.declared.packet.Packet.{Packet}
-use Rattle.pg_frame_world.specs.PgMachine.Places.{is_pair}
-use Rattle.pg_frame_world.specs.PgMachine.Machine.{Event, node_of}
-use Rattle.pg_frame_world.specs.PgMachine.Happened.{Takes}
-use Rattle.pg_frame_world.specs.PgMachine.Clocked.{Stamped}
-use Rattle.pg_frame_world.specs.PgFrame.Pieces.{Bytes, AreShort, frames_of, put_out, piece_taken as bytes_taken}
-use Rattle.pg_frame_world.specs.PgStep.Config.{Config}
-use Rattle.pg_frame_world.specs.PgStep.Step.{Action}
-use Rattle.pg_frame_world.specs.PgWriter.Frames.{frame_of}
-use Rattle.pg_frame_world.specs.PgSends.Frames.{IsSmallFrame, AreSmallFrames, frames_to}
+use Rattle.pg_world_packets.specs.PgFrame.Frames.{frame, after_front}
+use Rattle.pg_world_packets.specs.PgMessageTypes.declared.message.Message.{Message}
+use Rattle.pg_world_packets.specs.PgMessageTypes.declared.packet.Packet.{Packet}
+use Rattle.pg_world_packets.specs.PgStep.Machines.Places.{is_pair}
+use Rattle.pg_world_packets.specs.PgStep.Machines.Machine.{Event, node_of}
+use Rattle.pg_world_packets.specs.PgStep.Machines.Happened.{Takes}
+use Rattle.pg_world_packets.specs.PgStep.Machines.Clocked.{Stamped}
+use Rattle.pg_world_packets.specs.PgFrame.Pieces.{Bytes, AreShort, frames_of, put_out, piece_taken as bytes_taken}
+use Rattle.pg_world_packets.specs.PgStep.Config.{Config}
+use Rattle.pg_world_packets.specs.PgStep.Step.{Action}
+use Rattle.pg_world_packets.specs.PgMessageWriter.Frames.{frame_of}
+use Rattle.pg_world_packets.specs.PgNodeSends.Frames.{IsSmallFrame, AreSmallFrames, frames_to}
 use Rattle.pg_node.specs.Links.{Link}
-use Rattle.pg_frame_world.specs.PgSends.Sent.{stamped_of}
-use Rattle.pg_frame_world.specs.PgStarts.Seen.{Seen}
-use Rattle.pg_frame_world.specs.Views.{peer_place, packets_to}
-use Rattle.pg_frame_world.specs.Worlds.{TimedFrameWorld, ShowsNodes}
+use Rattle.pg_world_packets.specs.PgNodeSends.Sent.{stamped_of}
+use Rattle.pg_world_packets.specs.PgWorldConfig.Seen.{Seen}
+use Rattle.pg_world_packets.specs.Views.{peer_place, packets_to}
+use Rattle.pg_world_packets.specs.Worlds.{TimedFrameWorld, ShowsNodes}
 use Rattle.pg_world.specs.Crossings.{Crossing, link_at, bytes_at, packet_as, packets_between}
 use Rattle.pg_world.specs.Crossings.{written_of, CanCross, IsOnWay, ShowsPast}
 use Rattle.pg_world.specs.Changes.{Moves, links_at}
-use Rattle.pg_frame_world.specs.PgAccount.Losses.{is_lost}
+use Rattle.pg_world_packets.specs.PgWorldAccount.Losses.{is_lost}
 use Rattle.pg_world.proofs.Past.{Adds, way_sent}
-use Rattle.pg_frame_world.proofs.Turning.{Passes, pair_is}
+use Rattle.pg_world_packets.proofs.Turning.{Passes, pair_is}
 
 -- ---- bytes move
 

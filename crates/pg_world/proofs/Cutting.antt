@@ -1,25 +1,25 @@
 -- What steps over bytes come to, by their numbers.
 use Rattle.std.proofs.Common.{◌≡◌, ℕ, Bool, false, List, [], length, Some, Ok, Err, Result, refl, ap, inl, inr, subst}
-use Rattle.pg_frame_world.specs.PgMachine.Places.{is_pair}
-use Rattle.pg_frame_world.specs.PgMachine.Machine.{Event, Take, Do}
-use Rattle.pg_frame_world.specs.PgStep.Config.{Config}
-use Rattle.pg_frame_world.specs.PgStep.Step.{Action, Issue, Retry}
-use Rattle.pg_frame_world.specs.PgStep.Faults.{refusal_number_of}
-use Rattle.pg_frame_world.specs.PgNodeState.NodeFault.{node_number_of}
-use Rattle.pg_frame_world.specs.PgNodeState.declared.state.fault.NodeFault.{NodeFault}
-use Rattle.pg_frame_world.specs.PgNodeState.declared.state.fault.NodeFault.TheVariants.{Refused, OutOfMemory}
-use Rattle.pg_frame_world.specs.PgNodeState.declared.state.fault.NodeFault.TheVariants.{Message as BadMessage, TooLong, Damaged}
-use Rattle.pg_frame_world.specs.declared.step.FrameStep.TheVariants as frames
+use Rattle.pg_world_packets.specs.PgStep.Machines.Places.{is_pair}
+use Rattle.pg_world_packets.specs.PgStep.Machines.Machine.{Event, Take, Do}
+use Rattle.pg_world_packets.specs.PgStep.Config.{Config}
+use Rattle.pg_world_packets.specs.PgStep.Step.{Action, Issue, Retry}
+use Rattle.pg_world_packets.specs.PgStep.Faults.{refusal_number_of}
+use Rattle.pg_world_packets.specs.PgNodeState.NodeFault.{node_number_of}
+use Rattle.pg_world_packets.specs.PgNodeState.declared.state.fault.NodeFault.{NodeFault}
+use Rattle.pg_world_packets.specs.PgNodeState.declared.state.fault.NodeFault.TheVariants.{Refused, OutOfMemory}
+use Rattle.pg_world_packets.specs.PgNodeState.declared.state.fault.NodeFault.TheVariants.{Message as BadMessage, TooLong, Damaged}
+use Rattle.pg_world_packets.specs.declared.step.FrameStep.TheVariants as frames
 use Rattle.pg_world.specs.declared.step.Step.{Step}
 use Rattle.pg_world.specs.declared.step.Step.TheVariants as steps
-use Rattle.pg_frame_world.specs.declared.step.Stepped.{Stepped}
-use Rattle.pg_frame_world.specs.declared.step.Stepped.TheVariants.{Happened, Moved, Nothing, Gone}
+use Rattle.pg_world_packets.specs.declared.step.Stepped.{Stepped}
+use Rattle.pg_world_packets.specs.declared.step.Stepped.TheVariants.{Happened, Moved, Nothing, Gone}
 use Rattle.pg_world.specs.Bars.{bytes_lost_after}
-use Rattle.pg_frame_world.proofs.Running.{none_more, none_before, one_at_least}
+use Rattle.pg_world_packets.proofs.Running.{none_more, none_before, one_at_least}
 use Rattle.pg_world.specs.Crossings.{MoveComesTo, EventComesTo, LossLeaves, StepComesTo, is_loss_in}
-use Rattle.pg_frame_world.specs.Runs.{SeesNone, StepsTo}
+use Rattle.pg_world_packets.specs.Runs.{SeesNone, StepsTo}
 use Rattle.pg_world.specs.BytesRuns.{over_bytes, event_in, IsLeft, IsNotLost, IsStill, IsMove}
-use Rattle.pg_frame_world.specs.Worlds.{TimedFrameWorld, IsUnseen}
+use Rattle.pg_world_packets.specs.Worlds.{TimedFrameWorld, IsUnseen}
 
 module _ (config : Config) (w : TimedFrameWorld) (Shown : TimedFrameWorld → Type 0) where
   moved_so : (x y : ℕ) (stepped : Stepped) → MoveComesTo config x y (Ok stepped) (Shown w) → IsMove config x y 0 × Shown w

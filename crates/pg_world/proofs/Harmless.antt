@@ -1,22 +1,22 @@
 -- A packet on the way is never refused as no message.
 use Rattle.std.proofs.Common.{◌≡◌, ◌≢◌, ◌+◌, ℕ, Bool, true, false, cond, max, nat_le}
 use Rattle.std.proofs.Common.{map, List, ◌∷◌, ◌++◌, None, Result, Ok, Err, refl, ap}
-use Rattle.pg_frame_world.specs.PgMessage.declared.message.Message.{Message}
-use Rattle.pg_frame_world.specs.PgMachine.Places.{is_pair}
-use Rattle.pg_frame_world.specs.PgMachine.Clocked.{Stamped, plain, packets_of}
-use Rattle.pg_frame_world.specs.PgStep.declared.refusal.Refusal.{Refusal}
-use Rattle.pg_frame_world.specs.PgStep.declared.refusal.Refusal.TheVariants.{NotAMessage, ClockFull}
-use Rattle.pg_frame_world.specs.PgStep.Config.{Config, name_at, nodes_at}
+use Rattle.pg_world_packets.specs.PgMessageTypes.declared.message.Message.{Message}
+use Rattle.pg_world_packets.specs.PgStep.Machines.Places.{is_pair}
+use Rattle.pg_world_packets.specs.PgStep.Machines.Clocked.{Stamped, plain, packets_of}
+use Rattle.pg_world_packets.specs.PgStep.declared.refusal.Refusal.{Refusal}
+use Rattle.pg_world_packets.specs.PgStep.declared.refusal.Refusal.TheVariants.{NotAMessage, ClockFull}
+use Rattle.pg_world_packets.specs.PgStep.Config.{Config, name_at, nodes_at}
 use Rattle.std.specs.Prelude.{length, option_map}
-use Rattle.pg_frame_world.specs.PgMachine.Losing.{Noticed, Sent, mapped_turn}
-use Rattle.pg_frame_world.specs.PgMachine.Machine.{Taken}
-use Rattle.pg_frame_world.specs.PgStep.FrameMachine.{placed, losing_machine_of, sent_packet}
-use Rattle.pg_frame_world.specs.PgStep.Step.{CLOCK_LIMIT, TimedTurn, at_clock, timed, step_take, node_takes}
-use Rattle.pg_frame_world.specs.PgStep.Turns.{NodeTurn}
-use Rattle.pg_frame_world.specs.PgHistory.Headline.{HarmsNobody}
+use Rattle.pg_world_packets.specs.PgStep.Machines.Losing.{Noticed, Sent, mapped_turn}
+use Rattle.pg_world_packets.specs.PgStep.Machines.Machine.{Taken}
+use Rattle.pg_world_packets.specs.PgStep.FrameMachine.{placed, losing_machine_of, sent_packet}
+use Rattle.pg_world_packets.specs.PgStep.Step.{CLOCK_LIMIT, TimedTurn, at_clock, timed, step_take, node_takes}
+use Rattle.pg_world_packets.specs.PgStep.Turns.{NodeTurn}
+use Rattle.pg_world_packets.specs.PgLaws.Headline.{HarmsNobody}
 use Rattle.pg_world.specs.Crossings.{IsWelcome}
-use Rattle.pg_frame_world.specs.Losing.{losing_of, notices}
-use Rattle.pg_frame_world.specs.Worlds.{TimedFrameWorld}
+use Rattle.pg_world_packets.specs.Losing.{losing_of, notices}
+use Rattle.pg_world_packets.specs.Worlds.{TimedFrameWorld}
 
 -- what is refused so is refused without a clock
 refused_so : (config : Config) (clock : ℕ) (r : Result NodeTurn Refusal) → timed clock r ≡ Err NotAMessage → placed config r ≡ None

@@ -5,14 +5,12 @@ mod Linked
 mod Passing
 mod Past
 mod over_bytes
-pub use Rattle.pg_frame_world.proofs.PgFrame
-pub use Rattle.pg_frame_world.proofs as PgFrameWorld
-pub use Rattle.pg_frame_world.proofs.PgGroup
-pub use Rattle.pg_frame_world.proofs.PgHistory
-pub use Rattle.pg_frame_world.proofs.PgLeft
-pub use Rattle.pg_frame_world.proofs.PgLoss
-pub use Rattle.pg_frame_world.proofs.PgMachine
-pub use Rattle.pg_frame_world.proofs.PgOpens
-pub use Rattle.pg_frame_world.proofs.PgQuery
-pub use Rattle.pg_node.proofs.PgReplica
-pub use Rattle.pg_frame_world.proofs.PgStep
+pub use Rattle.pg_world_packets.proofs.PgFrame
+pub use Rattle.pg_world_packets.proofs as PgWorldPackets
+pub use Rattle.pg_world_packets.proofs.PgGroup
+pub use Rattle.pg_world_packets.proofs.PgLaws
+pub use Rattle.pg_world_packets.proofs.PgLawsLosses
+pub use Rattle.pg_node.proofs as PgNode
+pub use Rattle.pg_world_packets.proofs.PgNodeOpens
+pub use Rattle.pg_world_packets.proofs.PgQuery
+pub use Rattle.pg_world_packets.proofs.PgStep

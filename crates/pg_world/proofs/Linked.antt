@@ -7,36 +7,36 @@ use Rattle.std.proofs.lemmas.Bool.{cases_eq, eq-eqb, ne_eqb}
 use Rattle.std.proofs.lemmas.Option.{slice_get_read, slice_get_within}
 use Rattle.std.proofs.lemmas.List.{get_or-map, get_or-set_same, get_or-set_other}
 use Rattle.std.proofs.lemmas.List.{get_or-replicate, map-set, length-map, length-replicate}
-use Rattle.pg_frame_world.specs.PgFrame.Frames.{after_front}
-use Rattle.pg_frame_world.specs.PgGroup.Functions.{upd}
-use Rattle.pg_frame_world.specs.PgGroup.declared.table.GroupTable.{Ghosts}
-use Rattle.pg_frame_world.specs.PgRing.MemRing.{RingBytes, Grows, Loses, HasRoomFor, HasUnread}
-use Rattle.pg_frame_world.specs.PgMessage.declared.packet.Packet.{Packet}
-use Rattle.pg_frame_world.specs.PgMachine.Places.{is_pair}
-use Rattle.pg_frame_world.specs.PgMachine.Machine.{Take, Do}
-use Rattle.pg_frame_world.specs.PgFrame.Pieces.{ring_put, pull}
-use Rattle.pg_frame_world.specs.PgStep.Step.{Action}
+use Rattle.pg_world_packets.specs.PgFrame.Frames.{after_front}
+use Rattle.pg_world_packets.specs.PgGroup.Functions.{upd}
+use Rattle.pg_world_packets.specs.PgGroup.declared.table.GroupTable.{Ghosts}
+use Rattle.pg_world_packets.specs.PgRing.MemRing.{RingBytes, Grows, Loses, HasRoomFor, HasUnread}
+use Rattle.pg_world_packets.specs.PgMessageTypes.declared.packet.Packet.{Packet}
+use Rattle.pg_world_packets.specs.PgStep.Machines.Places.{is_pair}
+use Rattle.pg_world_packets.specs.PgStep.Machines.Machine.{Take, Do}
+use Rattle.pg_world_packets.specs.PgFrame.Pieces.{ring_put, pull}
+use Rattle.pg_world_packets.specs.PgStep.Step.{Action}
 use Rattle.pg_node.specs.declared.node.Node.{Node}
-use Rattle.pg_frame_world.specs.PgNodeState.declared.state.fault.NodeFault.{NodeFault}
-use Rattle.pg_frame_world.specs.PgNodeState.declared.state.fault.NodeFault.TheVariants.{OutOfMemory}
+use Rattle.pg_world_packets.specs.PgNodeState.declared.state.fault.NodeFault.{NodeFault}
+use Rattle.pg_world_packets.specs.PgNodeState.declared.state.fault.NodeFault.TheVariants.{OutOfMemory}
 use Rattle.pg_node.specs.Bytes.{passed}
 use Rattle.pg_node.specs.Links.{Link, idle_link, at_link, with_fed, without_front}
 use Rattle.pg_node.specs.Nodes.{held_by, links_of, sent_out}
-use Rattle.pg_frame_world.specs.PgNodeState.Issued.{ports_of}
-use Rattle.pg_frame_world.specs.PgNodeState.States.{names_of, state_of, answers_of}
+use Rattle.pg_world_packets.specs.PgNodeState.Issued.{ports_of}
+use Rattle.pg_world_packets.specs.PgNodeState.States.{names_of, state_of, answers_of}
 use Rattle.pg_world.specs.declared.rings.Rings.{Rings}
 use Rattle.pg_world.specs.Rooms.{HaveRoomFor}
 use Rattle.pg_world.specs.BytesLosing.{MoveLeaves}
 use Rattle.pg_world.specs.Crossings.{Crossing, bytes_of, bytes_at, node_of, crossing_in}
-use Rattle.pg_frame_world.specs.PgStarts.Seen.{Seen, seen_of}
-use Rattle.pg_frame_world.specs.Views.{peer_place}
-use Rattle.pg_frame_world.specs.Worlds.{has_port}
+use Rattle.pg_world_packets.specs.PgWorldConfig.Seen.{Seen, seen_of}
+use Rattle.pg_world_packets.specs.Views.{peer_place}
+use Rattle.pg_world_packets.specs.Worlds.{has_port}
 use Rattle.pg_world.specs.Changes.{Moves, put_count, pull_count, ChangesAlone, links_at}
 use Rattle.pg_world.proofs.Crossed.{Acts}
-use Rattle.pg_frame_world.proofs.Ported.{test_of}
-use Rattle.pg_frame_world.proofs.Peering.{place_within, peers_differ}
-use Rattle.pg_frame_world.proofs.Turning.{pair_is, pair_turned, set_other}
-use Rattle.pg_frame_world.proofs.Viewing.{read_here, map_same}
+use Rattle.pg_world_packets.proofs.Ported.{test_of}
+use Rattle.pg_world_packets.proofs.Peering.{place_within, peers_differ}
+use Rattle.pg_world_packets.proofs.Turning.{pair_is, pair_turned, set_other}
+use Rattle.pg_world_packets.proofs.Viewing.{read_here, map_same}
 
 take_front : {A : Type 0} (xs ys : List A) → take (length xs) (xs ++ ys) ≡ xs
 take_front [] ys = refl

@@ -5,54 +5,54 @@ use Rattle.std.specs.Prelude.{slice_get, slice_set}
 use Rattle.std.specs.List.{AllByRecursion}
 use Rattle.std.proofs.Math.Path.{fun_ext}
 use Rattle.std.proofs.lemmas.Bool.{cases_eq, eqb-true}
-use Rattle.pg_frame_world.specs.PgFrame.declared.fault.TooLong.{TooLong}
-use Rattle.pg_frame_world.specs.PgFrame.Frames.{front_of}
-use Rattle.pg_frame_world.specs.PgGroup.Functions.{upd}
-use Rattle.pg_frame_world.specs.PgMessage.declared.fault.MessageFault.{MessageFault}
-use Rattle.pg_frame_world.specs.PgMessage.declared.message.Message.{Message}
-use Rattle.pg_frame_world.specs.PgMessage.declared.packet.Packet.{Packet}
-use Rattle.pg_frame_world.specs.PgMessage.Reading.{packet_spelled}
-use Rattle.pg_frame_world.specs.PgMachine.Places.{is_pair}
-use Rattle.pg_frame_world.specs.PgMachine.Machine.{Event, Take, Do}
-use Rattle.pg_frame_world.specs.PgMachine.Clocked.{Timed, Stamped}
-use Rattle.pg_frame_world.specs.PgFrame.Pieces.{piece_taken as bytes_taken}
-use Rattle.pg_frame_world.specs.PgOpens.Places.{whole_in, name_at as place_name}
-use Rattle.pg_frame_world.specs.PgStep.declared.answer.Answer.{Answer}
-use Rattle.pg_frame_world.specs.PgStep.declared.refusal.Refusal.{Refusal}
-use Rattle.pg_frame_world.specs.PgStep.declared.refusal.Refusal.TheVariants.{NotAMessage, NoSuchPlace, NotWaiting}
-use Rattle.pg_frame_world.specs.PgStep.declared.refusal.Refusal.TheVariants.{NodeLost, NotDrained, ClockFull, NotLost}
-use Rattle.pg_frame_world.specs.PgStep.Config.{Config}
-use Rattle.pg_frame_world.specs.PgStep.State.{State}
-use Rattle.pg_frame_world.specs.PgStep.Step.{Action, TimedTurn, step_take, step_act}
-use Rattle.pg_frame_world.specs.PgSends.contracts.framing.FramedOutgoing.TheImpl as frames
-use Rattle.pg_frame_world.specs.PgSends.Dones.{FramedDone}
-use Rattle.pg_frame_world.specs.PgSends.Framed.{listed_of}
-use Rattle.pg_frame_world.specs.PgNodeState.declared.state.fault.NodeFault.{NodeFault}
-use Rattle.pg_frame_world.specs.PgNodeState.declared.state.fault.NodeFault.TheVariants.{Refused, OutOfMemory, Message as BadMessage}
-use Rattle.pg_frame_world.specs.PgNodeState.declared.state.fault.NodeFault.TheVariants.{TooLong as FrameTooLong, Damaged}
+use Rattle.pg_world_packets.specs.PgFrame.declared.fault.TooLong.{TooLong}
+use Rattle.pg_world_packets.specs.PgFrame.Frames.{front_of}
+use Rattle.pg_world_packets.specs.PgGroup.Functions.{upd}
+use Rattle.pg_world_packets.specs.PgMessageTypes.declared.fault.MessageFault.{MessageFault}
+use Rattle.pg_world_packets.specs.PgMessageTypes.declared.message.Message.{Message}
+use Rattle.pg_world_packets.specs.PgMessageTypes.declared.packet.Packet.{Packet}
+use Rattle.pg_world_packets.specs.PgMessageTypes.Reading.{packet_spelled}
+use Rattle.pg_world_packets.specs.PgStep.Machines.Places.{is_pair}
+use Rattle.pg_world_packets.specs.PgStep.Machines.Machine.{Event, Take, Do}
+use Rattle.pg_world_packets.specs.PgStep.Machines.Clocked.{Timed, Stamped}
+use Rattle.pg_world_packets.specs.PgFrame.Pieces.{piece_taken as bytes_taken}
+use Rattle.pg_world_packets.specs.PgNodeOpens.Places.{whole_in, name_at as place_name}
+use Rattle.pg_world_packets.specs.PgStep.declared.answer.Answer.{Answer}
+use Rattle.pg_world_packets.specs.PgStep.declared.refusal.Refusal.{Refusal}
+use Rattle.pg_world_packets.specs.PgStep.declared.refusal.Refusal.TheVariants.{NotAMessage, NoSuchPlace, NotWaiting}
+use Rattle.pg_world_packets.specs.PgStep.declared.refusal.Refusal.TheVariants.{NodeLost, NotDrained, ClockFull, NotLost}
+use Rattle.pg_world_packets.specs.PgStep.Config.{Config}
+use Rattle.pg_world_packets.specs.PgStep.State.{State}
+use Rattle.pg_world_packets.specs.PgStep.Step.{Action, TimedTurn, step_take, step_act}
+use Rattle.pg_world_packets.specs.PgNodeSends.contracts.framing.FramedOutgoing.TheImpl as frames
+use Rattle.pg_world_packets.specs.PgNodeSends.Dones.{FramedDone}
+use Rattle.pg_world_packets.specs.PgNodeSends.Framed.{listed_of}
+use Rattle.pg_world_packets.specs.PgNodeState.declared.state.fault.NodeFault.{NodeFault}
+use Rattle.pg_world_packets.specs.PgNodeState.declared.state.fault.NodeFault.TheVariants.{Refused, OutOfMemory, Message as BadMessage}
+use Rattle.pg_world_packets.specs.PgNodeState.declared.state.fault.NodeFault.TheVariants.{TooLong as FrameTooLong, Damaged}
 use Rattle.pg_node.specs.Bytes.{ReadsNext, damages, marked, packet_in, packet_at, next_packet}
-use Rattle.pg_frame_world.specs.PgSends.Frames.{AreSmallFrames}
+use Rattle.pg_world_packets.specs.PgNodeSends.Frames.{AreSmallFrames}
 use Rattle.pg_node.specs.Links.{Link, at_link}
 use Rattle.pg_node.specs.Nodes.{read_next, ComesInRoom}
-use Rattle.pg_frame_world.specs.PgSends.Sendable.{AreSendable}
-use Rattle.pg_frame_world.specs.PgNodeState.States.{Comes}
-use Rattle.pg_frame_world.specs.PgSends.Sent.{stamped_of}
-use Rattle.pg_frame_world.specs.declared.effect.Effect.{Effect}
-use Rattle.pg_frame_world.specs.declared.step.Stepped.TheVariants.{Happened}
-use Rattle.pg_frame_world.specs.Effects.{effect_by}
+use Rattle.pg_world_packets.specs.PgNodeSends.Sendable.{AreSendable}
+use Rattle.pg_world_packets.specs.PgNodeState.States.{Comes}
+use Rattle.pg_world_packets.specs.PgNodeSends.Sent.{stamped_of}
+use Rattle.pg_world_packets.specs.declared.effect.Effect.{Effect}
+use Rattle.pg_world_packets.specs.declared.step.Stepped.TheVariants.{Happened}
+use Rattle.pg_world_packets.specs.Effects.{effect_by}
 use Rattle.pg_world.specs.Crossings.{Crossing, link_at, bytes_at, packet_as, packets_between, CanCross}
 use Rattle.pg_world.specs.Crossings.{IsOnWay, IsWelcome, ShowsPast, ShowsBytesPast, EventComesTo}
-use Rattle.pg_frame_world.specs.PgAccount.Losses.{is_lost}
-use Rattle.pg_frame_world.specs.PgAccount.Histories.{update_asked_by}
-use Rattle.pg_frame_world.specs.PgStarts.Seen.{Seen}
-use Rattle.pg_frame_world.specs.Views.{peer_place}
-use Rattle.pg_frame_world.specs.PgAccount.Histories.{Account}
-use Rattle.pg_frame_world.specs.Worlds.{TimedFrameWorld, ComesTo}
+use Rattle.pg_world_packets.specs.PgWorldAccount.Losses.{is_lost}
+use Rattle.pg_world_packets.specs.PgWorldAccount.Histories.{update_asked_by}
+use Rattle.pg_world_packets.specs.PgWorldConfig.Seen.{Seen}
+use Rattle.pg_world_packets.specs.Views.{peer_place}
+use Rattle.pg_world_packets.specs.PgWorldAccount.Histories.{Account}
+use Rattle.pg_world_packets.specs.Worlds.{TimedFrameWorld, ComesTo}
 use Rattle.pg_world.proofs.Crossed.{Acts, all_short, event_shown}
 use Rattle.pg_world.proofs.Past.{Adds, ReadsFirst, ReadsLawful}
-use Rattle.pg_frame_world.proofs.Recording.{Grew, updates_after}
-use Rattle.pg_frame_world.proofs.Turning.{Left, pair_turned, pair_there, own_left}
-use Rattle.pg_frame_world.proofs.Turning.{own_refused, taken_refused, taken_told, take_left}
+use Rattle.pg_world_packets.proofs.Recording.{Grew, updates_after}
+use Rattle.pg_world_packets.proofs.Turning.{Left, pair_turned, pair_there, own_left}
+use Rattle.pg_world_packets.proofs.Turning.{own_refused, taken_refused, taken_told, take_left}
 
 -- ---- links
 

@@ -1,9 +1,9 @@
 -- What is on the way between two nodes of which some are lost, as bytes move, are sent, are taken and are cut off.
 use Rattle.std.proofs.Common.{◌≡◌, ◌≢◌, ℕ, Bool, true, false, List, ◌∷◌, ◌++◌, Some, Ok, Err}
-use Rattle.pg_frame_world.specs.PgFrame.Frames.{front_of, too_long}
-use Rattle.pg_frame_world.specs.PgMessage.declared.packet.Packet.{Packet}
-use Rattle.pg_frame_world.specs.PgFrame.Pieces.{Bytes, ArePackets, AreShort, AreCut, FirstPacket, FirstOfCut}
-use Rattle.pg_frame_world.specs.PgFrame.Pieces.{frames_of, ring_put, pull, put_out, piece_taken as bytes_taken}
+use Rattle.pg_world_packets.specs.PgFrame.Frames.{front_of, too_long}
+use Rattle.pg_world_packets.specs.PgMessageTypes.declared.packet.Packet.{Packet}
+use Rattle.pg_world_packets.specs.PgFrame.Pieces.{Bytes, ArePackets, AreShort, AreCut, FirstPacket, FirstOfCut}
+use Rattle.pg_world_packets.specs.PgFrame.Pieces.{frames_of, ring_put, pull, put_out, piece_taken as bytes_taken}
 use Rattle.pg_world.specs.Crossings.{written_of, IsOnWay}
 
 -- ---- bytes move

@@ -1,13 +1,13 @@
 -- A world of bytes that has a past, as it is seen.
 use Rattle.std.specs.Prelude.{ℕ, List}
-use Rattle.pg_frame_world.specs.PgGroup.declared.table.GroupTable.{Ghosts}
-use Rattle.pg_frame_world.specs.PgStep.Config.{Config}
+use Rattle.pg_world_packets.specs.PgGroup.declared.table.GroupTable.{Ghosts}
+use Rattle.pg_world_packets.specs.PgStep.Config.{Config}
 use Rattle.pg_world.specs.declared.byte_world.World.{World}
 use Rattle.pg_world.specs.Crossings as nodes
 use Rattle.pg_world.specs.Crossings.{Crossing}
-use Rattle.pg_frame_world.specs.PgAccount.Histories as kept
-use Rattle.pg_frame_world.specs.PgAccount.Losses.{lost_in}
-use Rattle.pg_frame_world.specs.PgAccount.Histories.{Account}
+use Rattle.pg_world_packets.specs.PgWorldAccount.Histories as kept
+use Rattle.pg_world_packets.specs.PgWorldAccount.Losses.{lost_in}
+use Rattle.pg_world_packets.specs.PgWorldAccount.Histories.{Account}
 
 -- its nodes, their links, and the bytes on each ring
 abbrev pub crossing_of : {T : Type 0} {g : Ghosts T} → World T g → Crossing

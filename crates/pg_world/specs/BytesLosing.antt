@@ -1,26 +1,26 @@
 -- Worlds over bytes whose nodes may be lost: the world with losses that they show, and what a step makes of it.
 use Rattle.std.specs.Prelude.{◌≡◌, ℕ, ◌||◌, cond, length, List, Option, Some, None, Result, Ok, Err}
-use Rattle.pg_frame_world.specs.PgMachine.Places.{is_place, is_pair}
-use Rattle.pg_frame_world.specs.PgMachine.Losing.{Lose}
-use Rattle.pg_frame_world.specs.PgStep.declared.refusal.Refusal.{Refusal}
-use Rattle.pg_frame_world.specs.PgStep.declared.refusal.Refusal.TheVariants.{NoSuchPlace, NodeLost, NotDrained}
-use Rattle.pg_frame_world.specs.PgStep.Config.{Config}
-use Rattle.pg_frame_world.specs.PgStep.LossLaws.{LosingFrameWorld}
-use Rattle.pg_frame_world.specs.PgStep.Step.{Issue, Retry}
-use Rattle.pg_frame_world.specs.PgHistory.WithLosses.{has_seen}
-use Rattle.pg_frame_world.specs.PgNodeState.declared.state.fault.NodeFault.{NodeFault}
-use Rattle.pg_frame_world.specs.PgNodeState.declared.state.fault.NodeFault.TheVariants.{Refused, OutOfMemory}
-use Rattle.pg_frame_world.specs.declared.step.FrameStep.{FrameStep}
-use Rattle.pg_frame_world.specs.declared.step.FrameStep.TheVariants as frames
+use Rattle.pg_world_packets.specs.PgStep.Machines.Places.{is_place, is_pair}
+use Rattle.pg_world_packets.specs.PgStep.Machines.Losing.{Lose}
+use Rattle.pg_world_packets.specs.PgStep.declared.refusal.Refusal.{Refusal}
+use Rattle.pg_world_packets.specs.PgStep.declared.refusal.Refusal.TheVariants.{NoSuchPlace, NodeLost, NotDrained}
+use Rattle.pg_world_packets.specs.PgStep.Config.{Config}
+use Rattle.pg_world_packets.specs.PgStep.LossLaws.{LosingFrameWorld}
+use Rattle.pg_world_packets.specs.PgStep.Step.{Issue, Retry}
+use Rattle.pg_world_packets.specs.PgLaws.WithLosses.{has_seen}
+use Rattle.pg_world_packets.specs.PgNodeState.declared.state.fault.NodeFault.{NodeFault}
+use Rattle.pg_world_packets.specs.PgNodeState.declared.state.fault.NodeFault.TheVariants.{Refused, OutOfMemory}
+use Rattle.pg_world_packets.specs.declared.step.FrameStep.{FrameStep}
+use Rattle.pg_world_packets.specs.declared.step.FrameStep.TheVariants as frames
 use Rattle.pg_world.specs.declared.step.Step.{Step}
 use Rattle.pg_world.specs.declared.step.Step.TheVariants as steps
-use Rattle.pg_frame_world.specs.declared.step.Stepped.{Stepped}
-use Rattle.pg_frame_world.specs.declared.step.Stepped.TheVariants.{Nothing, Moved, Gone}
+use Rattle.pg_world_packets.specs.declared.step.Stepped.{Stepped}
+use Rattle.pg_world_packets.specs.declared.step.Stepped.TheVariants.{Nothing, Moved, Gone}
 use Rattle.pg_world.specs.Crossings.{Crossing, ShowsBytesPast}
-use Rattle.pg_frame_world.specs.Losing.{SeenAreLost, Telling, losing_of, told_take}
-use Rattle.pg_frame_world.specs.Losing.{told_own, told_sight, LosingLed, LosingComesTo}
-use Rattle.pg_frame_world.specs.PgAccount.Histories.{Account}
-use Rattle.pg_frame_world.specs.Worlds.{TimedFrameWorld}
+use Rattle.pg_world_packets.specs.Losing.{SeenAreLost, Telling, losing_of, told_take}
+use Rattle.pg_world_packets.specs.Losing.{told_own, told_sight, LosingLed, LosingComesTo}
+use Rattle.pg_world_packets.specs.PgWorldAccount.Histories.{Account}
+use Rattle.pg_world_packets.specs.Worlds.{TimedFrameWorld}
 
 -- ---- the world with losses that a world shows
 

@@ -1,20 +1,20 @@
 -- Steps over bytes that are made one after another, where nodes may be lost.
 use Rattle.std.specs.Prelude.{◌≡◌, ◌⊎◌, ℕ, Option}
 use Rattle.std.specs.Option.{option_map_or}
-use Rattle.pg_frame_world.specs.PgMachine.Losing.{LosingEvent, Lose}
-use Rattle.pg_frame_world.specs.PgStep.declared.refusal.Refusal.{Refusal}
-use Rattle.pg_frame_world.specs.PgStep.declared.refusal.Refusal.TheVariants.{NotDrained}
-use Rattle.pg_frame_world.specs.PgStep.Config.{Config}
-use Rattle.pg_frame_world.specs.PgStep.Faults.{refusal_number_of}
-use Rattle.pg_frame_world.specs.PgStep.LossLaws.{LosingFrameWorld}
-use Rattle.pg_frame_world.specs.PgStep.Step.{Action}
-use Rattle.pg_frame_world.specs.declared.step.FrameStep.{FrameStep}
-use Rattle.pg_frame_world.specs.declared.step.FrameStep.TheVariants as frames
+use Rattle.pg_world_packets.specs.PgStep.Machines.Losing.{LosingEvent, Lose}
+use Rattle.pg_world_packets.specs.PgStep.declared.refusal.Refusal.{Refusal}
+use Rattle.pg_world_packets.specs.PgStep.declared.refusal.Refusal.TheVariants.{NotDrained}
+use Rattle.pg_world_packets.specs.PgStep.Config.{Config}
+use Rattle.pg_world_packets.specs.PgStep.Faults.{refusal_number_of}
+use Rattle.pg_world_packets.specs.PgStep.LossLaws.{LosingFrameWorld}
+use Rattle.pg_world_packets.specs.PgStep.Step.{Action}
+use Rattle.pg_world_packets.specs.declared.step.FrameStep.{FrameStep}
+use Rattle.pg_world_packets.specs.declared.step.FrameStep.TheVariants as frames
 use Rattle.pg_world.specs.declared.step.Step.{Step}
 use Rattle.pg_world.specs.declared.step.Step.TheVariants as steps
 use Rattle.pg_world.specs.BytesLosing.{put_refusal, pull_refusal, gone_refusal}
-use Rattle.pg_frame_world.specs.Losing.{told_of, told_take, told_sight}
-use Rattle.pg_frame_world.specs.LosingRuns.{LosingKind, IsLeftOut, IsToldEvent}
+use Rattle.pg_world_packets.specs.Losing.{told_of, told_take, told_sight}
+use Rattle.pg_world_packets.specs.LosingRuns.{LosingKind, IsLeftOut, IsToldEvent}
 
 -- the loss of a node, whatever stays on the ways from it
 abbrev pub IsLossOf : ℕ → LosingEvent Action → Type 0

@@ -1,19 +1,19 @@
 -- What is behind a world of bytes: the events that led to it from the start of its configuration, and what holds of them.
 use Rattle.std.specs.Prelude.{◌≡◌, ◌↔◌, ℕ, Bool, true, List, Result}
 use Rattle.pg_term.specs.declared.term.Term.{Term}
-use Rattle.pg_frame_world.specs.PgStep.Config.{Config}
-use Rattle.pg_frame_world.specs.PgHistory.History.{Entry}
-use Rattle.pg_frame_world.specs.PgHistory.WithLosses.{FormedAtLosses}
-use Rattle.pg_frame_world.specs.PgLeft.Missed.{missed}
-use Rattle.pg_frame_world.specs.PgNodeState.declared.state.fault.NodeFault.{NodeFault}
+use Rattle.pg_world_packets.specs.PgStep.Config.{Config}
+use Rattle.pg_world_packets.specs.PgLaws.History.{Entry}
+use Rattle.pg_world_packets.specs.PgLaws.WithLosses.{FormedAtLosses}
+use Rattle.pg_world_packets.specs.PgLawsLosses.Remains.Missed.{missed}
+use Rattle.pg_world_packets.specs.PgNodeState.declared.state.fault.NodeFault.{NodeFault}
 use Rattle.pg_world.specs.declared.step.Step.{Step}
-use Rattle.pg_frame_world.specs.declared.step.Stepped.{Stepped}
+use Rattle.pg_world_packets.specs.declared.step.Stepped.{Stepped}
 use Rattle.pg_world.specs.BytesLosing.{ShowsLosingBytes, StepLeaves}
 use Rattle.pg_world.specs.BytesLosingRuns.{bytes_past_losses}
 use Rattle.pg_world.specs.CrossingRuns.{AreLeft, CrossesAll}
 use Rattle.pg_world.specs.Crossings.{Crossing}
-use Rattle.pg_frame_world.specs.PgAccount.Histories.{Account}
-use Rattle.pg_frame_world.specs.Past.{HasPast, PastGoesOn, RunsOn}
+use Rattle.pg_world_packets.specs.PgWorldAccount.Histories.{Account}
+use Rattle.pg_world_packets.specs.Past.{HasPast, PastGoesOn, RunsOn}
 
 -- nodes and the bytes on the way between them, of which these are lost, and what is kept of the updates, have a past
 abbrev pub BytesHavePast : Config → Crossing → Account → List ℕ → Type 0

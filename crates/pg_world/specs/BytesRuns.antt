@@ -1,20 +1,20 @@
 -- Steps over bytes that are made one after another: their events, and when one that did nothing has a number.
 use Rattle.std.specs.Prelude.{◌≡◌, ◌⊎◌, ℕ, true, false, not, length, List, Option, Some, None, Err}
 use Rattle.std.specs.List.{AllPass}
-use Rattle.pg_frame_world.specs.PgMachine.Places.{is_place, is_pair}
-use Rattle.pg_frame_world.specs.PgMachine.Machine.{Event, Take, Do}
-use Rattle.pg_frame_world.specs.PgStep.declared.refusal.Refusal.{Refusal}
-use Rattle.pg_frame_world.specs.PgStep.declared.refusal.Refusal.TheVariants.{NoSuchPlace}
-use Rattle.pg_frame_world.specs.PgStep.Config.{Config}
-use Rattle.pg_frame_world.specs.PgStep.Faults.{refusal_number_of}
-use Rattle.pg_frame_world.specs.PgStep.Step.{Action, Issue, Retry}
-use Rattle.pg_frame_world.specs.declared.step.FrameStep.{FrameStep}
-use Rattle.pg_frame_world.specs.declared.step.FrameStep.TheVariants as frames
+use Rattle.pg_world_packets.specs.PgStep.Machines.Places.{is_place, is_pair}
+use Rattle.pg_world_packets.specs.PgStep.Machines.Machine.{Event, Take, Do}
+use Rattle.pg_world_packets.specs.PgStep.declared.refusal.Refusal.{Refusal}
+use Rattle.pg_world_packets.specs.PgStep.declared.refusal.Refusal.TheVariants.{NoSuchPlace}
+use Rattle.pg_world_packets.specs.PgStep.Config.{Config}
+use Rattle.pg_world_packets.specs.PgStep.Faults.{refusal_number_of}
+use Rattle.pg_world_packets.specs.PgStep.Step.{Action, Issue, Retry}
+use Rattle.pg_world_packets.specs.declared.step.FrameStep.{FrameStep}
+use Rattle.pg_world_packets.specs.declared.step.FrameStep.TheVariants as frames
 use Rattle.pg_world.specs.declared.step.Step.{Step}
 use Rattle.pg_world.specs.declared.step.Step.TheVariants as steps
 use Rattle.pg_world.specs.Crossings.{is_take, is_loss_in}
-use Rattle.pg_frame_world.specs.Worlds.{TimedFrameWorld, event_of, told_event}
-use Rattle.pg_frame_world.specs.Runs.{Kind, SeesNone}
+use Rattle.pg_world_packets.specs.Worlds.{TimedFrameWorld, event_of, told_event}
+use Rattle.pg_world_packets.specs.Runs.{Kind, SeesNone}
 
 -- bytes that should move between two nodes: they moved, or memory ran out; or the nodes are not there
 abbrev pub IsMove : Config → ℕ → ℕ → ℕ → Type 0

@@ -1,17 +1,17 @@
 -- How a world of bytes begins: what each node tells stands in the outboxes to its peers.
 use Rattle.std.specs.Prelude.{◌≡◌, ◌<◌, ◌-◌, ℕ, [], length, replicate}
-use Rattle.pg_frame_world.specs.PgMachine.Machine.{start_of}
-use Rattle.pg_frame_world.specs.PgStep.Config.{Config}
-use Rattle.pg_frame_world.specs.PgStep.FrameMachine.{frame_machine}
-use Rattle.pg_frame_world.specs.PgOpens.Places.{name_at}
+use Rattle.pg_world_packets.specs.PgStep.Machines.Machine.{start_of}
+use Rattle.pg_world_packets.specs.PgStep.Config.{Config}
+use Rattle.pg_world_packets.specs.PgStep.FrameMachine.{frame_machine}
+use Rattle.pg_world_packets.specs.PgNodeOpens.Places.{name_at}
 use Rattle.pg_node.specs.Begun.{BeginsLinked}
 use Rattle.pg_node.specs.Links.{Link}
 use Rattle.pg_world.specs.Changes.{links_at}
 use Rattle.pg_world.specs.Crossings.{Crossing, ShowsBytes}
-use Rattle.pg_frame_world.specs.PgStarts.Firsts.{seen_first}
-use Rattle.pg_frame_world.specs.Starts.{Orders}
-use Rattle.pg_frame_world.specs.PgStarts.Seen.{Seen}
-use Rattle.pg_frame_world.specs.PgAccount.Histories.{Account}
+use Rattle.pg_world_packets.specs.PgWorldConfig.Firsts.{seen_first}
+use Rattle.pg_world_packets.specs.Starts.{Orders}
+use Rattle.pg_world_packets.specs.PgWorldConfig.Seen.{Seen}
+use Rattle.pg_world_packets.specs.PgWorldAccount.Histories.{Account}
 
 -- the frame that tells the groups of a node goes out to each of so many peers
 abbrev pub OpensLinks : ℕ → Seen → (ℕ → Link) → Type 0

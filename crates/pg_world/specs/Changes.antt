@@ -1,18 +1,18 @@
 -- What a step over bytes changes, and how many bytes move.
 use Rattle.std.specs.Prelude.{◌≡◌, ◌≢◌, ◌-◌, ℕ, true, min, length, get_or, slice_get, None, Result, Ok, Err}
-use Rattle.pg_frame_world.specs.PgMachine.Places.{is_pair}
-use Rattle.pg_frame_world.specs.PgMachine.Machine.{Event, Take, Do, node_of as place_of}
-use Rattle.pg_frame_world.specs.PgFrame.Pieces.{Bytes, ring_put, pull}
-use Rattle.pg_frame_world.specs.PgStep.Step.{Action, Issue, Retry}
-use Rattle.pg_frame_world.specs.PgNodeState.declared.state.fault.NodeFault.{NodeFault}
+use Rattle.pg_world_packets.specs.PgStep.Machines.Places.{is_pair}
+use Rattle.pg_world_packets.specs.PgStep.Machines.Machine.{Event, Take, Do, node_of as place_of}
+use Rattle.pg_world_packets.specs.PgFrame.Pieces.{Bytes, ring_put, pull}
+use Rattle.pg_world_packets.specs.PgStep.Step.{Action, Issue, Retry}
+use Rattle.pg_world_packets.specs.PgNodeState.declared.state.fault.NodeFault.{NodeFault}
 use Rattle.pg_node.specs.Bytes.{next_packet}
 use Rattle.pg_node.specs.Links.{Link}
-use Rattle.pg_frame_world.specs.declared.step.FrameStep.{FrameStep}
-use Rattle.pg_frame_world.specs.declared.step.FrameStep.TheVariants as frames
+use Rattle.pg_world_packets.specs.declared.step.FrameStep.{FrameStep}
+use Rattle.pg_world_packets.specs.declared.step.FrameStep.TheVariants as frames
 use Rattle.pg_world.specs.declared.step.Step.{Step}
 use Rattle.pg_world.specs.declared.step.Step.TheVariants as steps
-use Rattle.pg_frame_world.specs.declared.step.Stepped.{Stepped}
-use Rattle.pg_frame_world.specs.declared.step.Stepped.TheVariants.{Nothing, Moved}
+use Rattle.pg_world_packets.specs.declared.step.Stepped.{Stepped}
+use Rattle.pg_world_packets.specs.declared.step.Stepped.TheVariants.{Nothing, Moved}
 use Rattle.pg_world.specs.Crossings.{Crossing, no_links, link_at, bytes_at}
 
 -- Bytes have moved from one node to another, and all else is as it was.

@@ -1,21 +1,21 @@
 -- Steps over bytes that are made one after another: what each did, its number, and what it changed.
 use Rattle.std.specs.Prelude.{◌≡◌, ℕ, List, [], ◌∷◌, Result, Ok, Err}
-use Rattle.pg_frame_world.specs.PgMachine.Losing.{nobody_gone}
-use Rattle.pg_frame_world.specs.PgMachine.Machine.{start_of}
-use Rattle.pg_frame_world.specs.PgStep.Config.{Config}
-use Rattle.pg_frame_world.specs.PgStep.FrameMachine.{losing_frame_machine}
-use Rattle.pg_frame_world.specs.PgStep.LossLaws.{LosingFrameWorld}
-use Rattle.pg_frame_world.specs.PgNodeState.NodeFault.{node_number_of}
-use Rattle.pg_frame_world.specs.PgNodeState.declared.state.fault.NodeFault.{NodeFault}
+use Rattle.pg_world_packets.specs.PgStep.Machines.Losing.{nobody_gone}
+use Rattle.pg_world_packets.specs.PgStep.Machines.Machine.{start_of}
+use Rattle.pg_world_packets.specs.PgStep.Config.{Config}
+use Rattle.pg_world_packets.specs.PgStep.FrameMachine.{losing_frame_machine}
+use Rattle.pg_world_packets.specs.PgStep.LossLaws.{LosingFrameWorld}
+use Rattle.pg_world_packets.specs.PgNodeState.NodeFault.{node_number_of}
+use Rattle.pg_world_packets.specs.PgNodeState.declared.state.fault.NodeFault.{NodeFault}
 use Rattle.pg_world.specs.declared.step.Step.{Step}
-use Rattle.pg_frame_world.specs.declared.step.Stepped.{Stepped}
+use Rattle.pg_world_packets.specs.declared.step.Stepped.{Stepped}
 use Rattle.pg_world.specs.BytesLosing.{ShowsLosingBytes, StepLeaves}
-use Rattle.pg_frame_world.specs.Losing.{IsReachedLosing}
+use Rattle.pg_world_packets.specs.Losing.{IsReachedLosing}
 use Rattle.pg_world.specs.BytesStart.{OpensBytes}
 use Rattle.pg_world.specs.Changes.{StepChanges}
 use Rattle.pg_world.specs.Crossings.{Crossing}
-use Rattle.pg_frame_world.specs.Starts.{Orders}
-use Rattle.pg_frame_world.specs.PgAccount.Histories.{Account}
+use Rattle.pg_world_packets.specs.Starts.{Orders}
+use Rattle.pg_world_packets.specs.PgWorldAccount.Histories.{Account}
 
 -- the number of what a step did
 abbrev pub number_of : Result Stepped NodeFault → ℕ

@@ -2,40 +2,40 @@
 use Rattle.std.specs.Prelude.{◌≡◌, ◌≢◌, ◌≤◌, ◌+◌, ◌-◌, ℕ, Bool, true, false, map, length}
 use Rattle.std.specs.Prelude.{get_or, replicate, List, [], ◌∷◌, Some, Result, Ok, Err}
 use Rattle.std.specs.List.{AllByRecursion}
-use Rattle.pg_frame_world.specs.PgTermIo.Writing.{written}
-use Rattle.pg_frame_world.specs.PgFrame.Frames.{IsBody}
-use Rattle.pg_frame_world.specs.PgGroup.declared.table.GroupTable.{Ghosts}
-use Rattle.pg_frame_world.specs.PgMessage.declared.message.Message.{Message}
-use Rattle.pg_frame_world.specs.PgMessage.declared.packet.Packet.{Packet}
-use Rattle.pg_frame_world.specs.PgMessage.Reading.{packet_spelled}
-use Rattle.pg_frame_world.specs.PgMessage.Writing.{is_exchange, term_of_packet}
-use Rattle.pg_frame_world.specs.PgMachine.Places.{is_place, is_pair}
-use Rattle.pg_frame_world.specs.PgMachine.Machine.{Event, Take, Do}
-use Rattle.pg_frame_world.specs.PgMachine.Clocked.{Stamped}
-use Rattle.pg_frame_world.specs.PgFrame.Pieces.{Bytes, ArePackets, AreCut}
-use Rattle.pg_frame_world.specs.PgStep.declared.refusal.Refusal.TheVariants.{NoSuchPlace, NotAMessage}
-use Rattle.pg_frame_world.specs.PgStep.Config.{Config, name_at, nodes_at}
-use Rattle.pg_frame_world.specs.PgStep.FrameMachine.{frame_machine}
-use Rattle.pg_frame_world.specs.PgStep.Step.{Action, Issue, Retry, step_take}
+use Rattle.pg_world_packets.specs.PgTermIo.Writing.{written}
+use Rattle.pg_world_packets.specs.PgFrame.Frames.{IsBody}
+use Rattle.pg_world_packets.specs.PgGroup.declared.table.GroupTable.{Ghosts}
+use Rattle.pg_world_packets.specs.PgMessageTypes.declared.message.Message.{Message}
+use Rattle.pg_world_packets.specs.PgMessageTypes.declared.packet.Packet.{Packet}
+use Rattle.pg_world_packets.specs.PgMessageTypes.Reading.{packet_spelled}
+use Rattle.pg_world_packets.specs.PgMessageTypes.Writing.{is_exchange, term_of_packet}
+use Rattle.pg_world_packets.specs.PgStep.Machines.Places.{is_place, is_pair}
+use Rattle.pg_world_packets.specs.PgStep.Machines.Machine.{Event, Take, Do}
+use Rattle.pg_world_packets.specs.PgStep.Machines.Clocked.{Stamped}
+use Rattle.pg_world_packets.specs.PgFrame.Pieces.{Bytes, ArePackets, AreCut}
+use Rattle.pg_world_packets.specs.PgStep.declared.refusal.Refusal.TheVariants.{NoSuchPlace, NotAMessage}
+use Rattle.pg_world_packets.specs.PgStep.Config.{Config, name_at, nodes_at}
+use Rattle.pg_world_packets.specs.PgStep.FrameMachine.{frame_machine}
+use Rattle.pg_world_packets.specs.PgStep.Step.{Action, Issue, Retry, step_take}
 use Rattle.pg_node.specs.declared.node.Node.{Node}
-use Rattle.pg_frame_world.specs.PgNodeState.declared.state.fault.NodeFault.{NodeFault}
-use Rattle.pg_frame_world.specs.PgNodeState.declared.state.fault.NodeFault.TheVariants.{Refused, OutOfMemory}
+use Rattle.pg_world_packets.specs.PgNodeState.declared.state.fault.NodeFault.{NodeFault}
+use Rattle.pg_world_packets.specs.PgNodeState.declared.state.fault.NodeFault.TheVariants.{Refused, OutOfMemory}
 use Rattle.pg_node.specs.Links.{Link, idle_link}
 use Rattle.pg_node.specs.Nodes.{held_by, links_of}
 use Rattle.pg_world.specs.declared.rings.Rings.{Rings}
-use Rattle.pg_frame_world.specs.declared.step.FrameStep.{FrameStep}
-use Rattle.pg_frame_world.specs.declared.step.FrameStep.TheVariants as frames
+use Rattle.pg_world_packets.specs.declared.step.FrameStep.{FrameStep}
+use Rattle.pg_world_packets.specs.declared.step.FrameStep.TheVariants as frames
 use Rattle.pg_world.specs.declared.step.Step.{Step}
 use Rattle.pg_world.specs.declared.step.Step.TheVariants as steps
-use Rattle.pg_frame_world.specs.declared.step.Stepped.{Stepped}
-use Rattle.pg_frame_world.specs.declared.step.Stepped.TheVariants.{Nothing, Moved, Happened}
+use Rattle.pg_world_packets.specs.declared.step.Stepped.{Stepped}
+use Rattle.pg_world_packets.specs.declared.step.Stepped.TheVariants.{Nothing, Moved, Happened}
 use Rattle.pg_world.specs.declared.bytes.ByteNodes.{ByteNodes}
-use Rattle.pg_frame_world.specs.PgAccount.Losses.{is_lost}
-use Rattle.pg_frame_world.specs.PgStarts.Seen.{Seen, seen_of}
-use Rattle.pg_frame_world.specs.Effects.{effect_in}
-use Rattle.pg_frame_world.specs.Views.{peer_place}
-use Rattle.pg_frame_world.specs.PgAccount.Histories.{Account}
-use Rattle.pg_frame_world.specs.Worlds.{TimedFrameWorld, ShowsNodes, ShowsUpdates, EventLed, IsUnseen, is_loss, told_event}
+use Rattle.pg_world_packets.specs.PgWorldAccount.Losses.{is_lost}
+use Rattle.pg_world_packets.specs.PgWorldConfig.Seen.{Seen, seen_of}
+use Rattle.pg_world_packets.specs.Effects.{effect_in}
+use Rattle.pg_world_packets.specs.Views.{peer_place}
+use Rattle.pg_world_packets.specs.PgWorldAccount.Histories.{Account}
+use Rattle.pg_world_packets.specs.Worlds.{TimedFrameWorld, ShowsNodes, ShowsUpdates, EventLed, IsUnseen, is_loss, told_event}
 
 -- ---- a world as it is seen
 

@@ -9,28 +9,23 @@ pub mod Changes
 pub mod CrossingRuns
 pub mod Crossings
 pub mod Rooms
-pub use Rattle.pg_frame_world.specs.PgAccount
-pub use Rattle.pg_frame_world.specs.PgConfig
-pub use Rattle.pg_frame_world.specs.PgEnds
-pub use Rattle.pg_frame_world.specs.PgExchange
-pub use Rattle.pg_frame_world.specs.PgFrame
-pub use Rattle.pg_frame_world.specs as PgFrameWorld
-pub use Rattle.pg_frame_world.specs.PgGroup
-pub use Rattle.pg_frame_world.specs.PgHistory
-pub use Rattle.pg_frame_world.specs.PgIndex
-pub use Rattle.pg_frame_world.specs.PgLeft
-pub use Rattle.pg_frame_world.specs.PgLock
-pub use Rattle.pg_frame_world.specs.PgLoss
-pub use Rattle.pg_frame_world.specs.PgMachine
-pub use Rattle.pg_frame_world.specs.PgMessage
+pub use Rattle.pg_world_packets.specs.PgWorldAccount
+pub use Rattle.pg_world_packets.specs.PgWorldConfig
+pub use Rattle.pg_world_packets.specs.PgEnds
+pub use Rattle.pg_world_packets.specs.PgExchange
+pub use Rattle.pg_world_packets.specs.PgFrame
+pub use Rattle.pg_world_packets.specs as PgWorldPackets
+pub use Rattle.pg_world_packets.specs.PgGroup
+pub use Rattle.pg_world_packets.specs.PgLaws
+pub use Rattle.pg_world_packets.specs.PgIndex
+pub use Rattle.pg_world_packets.specs.PgLock
+pub use Rattle.pg_world_packets.specs.PgLawsLosses
+pub use Rattle.pg_world_packets.specs.PgMessageTypes
 pub use Rattle.pg_node.specs as PgNode
-pub use Rattle.pg_frame_world.specs.PgNodeState
-pub use Rattle.pg_frame_world.specs.PgOpens
-pub use Rattle.pg_frame_world.specs.PgQuery
-pub use Rattle.pg_node.specs.PgReplica
-pub use Rattle.pg_frame_world.specs.PgRetries
-pub use Rattle.pg_frame_world.specs.PgRing
-pub use Rattle.pg_frame_world.specs.PgSends
-pub use Rattle.pg_frame_world.specs.PgStarts
-pub use Rattle.pg_frame_world.specs.PgStep
-pub use Rattle.pg_frame_world.specs.PgTermIo
+pub use Rattle.pg_world_packets.specs.PgNodeState
+pub use Rattle.pg_world_packets.specs.PgNodeOpens
+pub use Rattle.pg_world_packets.specs.PgQuery
+pub use Rattle.pg_world_packets.specs.PgRing
+pub use Rattle.pg_world_packets.specs.PgNodeSends
+pub use Rattle.pg_world_packets.specs.PgStep
+pub use Rattle.pg_world_packets.specs.PgTermIo

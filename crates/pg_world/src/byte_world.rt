@@ -1,18 +1,18 @@
 //! Worlds of bytes: nodes to which events led from the start of a configuration, however the bytes between them were cut.
 
 ghost use Rattle.pg_world.specs.Crossings.{crossing_of as seen_as};
-ghost use Rattle.pg_frame_world.specs.PgAccount.Histories.{account_of as kept_by};
-ghost use Rattle.pg_frame_world.specs.PgAccount.Losses.{lost_in};
+ghost use Rattle.pg_world_packets.specs.PgWorldAccount.Histories.{account_of as kept_by};
+ghost use Rattle.pg_world_packets.specs.PgWorldAccount.Losses.{lost_in};
 ghost use Rattle.pg_world.specs.BytesPast.{BytesHavePast};
 
 use crate::bytes::ByteNodes;
 use crate::step::Step;
-use pg_frame_world::{
+use pg_node::{Node, NodeFault};
+use pg_term::{Pid, Term};
+use pg_world_packets::{
     Config, Entry, GroupTable, IndexTable, Stepped, WorldFault, each_world_past_losses,
     pending_ends_are_listed,
 };
-use pg_node::{Node, NodeFault};
-use pg_term::{Pid, Term};
 use std::alloc::{AllocError, Global};
 use std::snapshot::Snapshot;
 
@@ -27,11 +27,11 @@ pub struct World<T: GroupTable> {
 
 impl World<IndexTable> {
     ghost use Rattle.std.specs.Prelude.{◌≡◌, [], true, IfOk, IfErr};
-    ghost use Rattle.pg_frame_world.specs.PgRing.Capacity.{IsCapacity};
-    ghost use Rattle.pg_frame_world.specs.PgStep.Config.{IsConfig};
+    ghost use Rattle.pg_world_packets.specs.PgRing.Capacity.{IsCapacity};
+    ghost use Rattle.pg_world_packets.specs.PgStep.Config.{IsConfig};
     ghost use Rattle.pg_world.specs.BytesStart.{BytesBegin, OpensBytes};
     ghost use Rattle.pg_world.specs.ByteWorlds.{account_of, crossing_of, given_of, lost_of, room_of};
-    ghost use Rattle.pg_frame_world.specs.Openings.{AllFit, CantBegin, have_few};
+    ghost use Rattle.pg_world_packets.specs.Openings.{AllFit, CantBegin, have_few};
 
     /// The nodes of a configuration as they start, where what each of them announces of its groups is in its outbox
     /// to each other, and the ring from each to each other is empty.
@@ -64,26 +64,26 @@ impl<T: GroupTable + Drop> World<T> {
     ghost use Rattle.std.specs.Prelude.{IfOk, IfSome, ℕ, length, map, option_map, slice_get};
     ghost use Rattle.std.specs.Option.{option_copied};
     ghost use Rattle.pg_term.specs.declared.term.Term.{Term};
-    ghost use Rattle.pg_frame_world.specs.PgMachine.Clocked.{plain};
-    ghost use Rattle.pg_frame_world.specs.PgHistory.History.{LockFree};
-    ghost use Rattle.pg_frame_world.specs.PgStep.Config.{Config as Configuration};
-    ghost use Rattle.pg_frame_world.specs.PgStep.LossLaws.{LosingFrameWorld};
+    ghost use Rattle.pg_world_packets.specs.PgStep.Machines.Clocked.{plain};
+    ghost use Rattle.pg_world_packets.specs.PgLaws.History.{LockFree};
+    ghost use Rattle.pg_world_packets.specs.PgStep.Config.{Config as Configuration};
+    ghost use Rattle.pg_world_packets.specs.PgStep.LossLaws.{LosingFrameWorld};
     ghost use Rattle.pg_world.specs.Bars.{RefusesBarred, StepTellsUndrained, bar_of, bytes_formed_after, bytes_lost_after};
     ghost use Rattle.pg_world.specs.BytesLosing.{ShowsLosingBytes, StepLeaves};
-    ghost use Rattle.pg_frame_world.specs.Losing.{IsReachedLosing};
+    ghost use Rattle.pg_world_packets.specs.Losing.{IsReachedLosing};
     ghost use Rattle.pg_world.specs.ByteWorlds.{account_of, crossing_of, given_of, lost_of, room_of};
     ghost use Rattle.pg_node.specs.Nodes.{held_by, links_of};
-    ghost use Rattle.pg_frame_world.specs.PgNodeState.States.{names_of};
+    ghost use Rattle.pg_world_packets.specs.PgNodeState.States.{names_of};
     ghost use Rattle.pg_world.specs.Changes.{StepChanges};
     ghost use Rattle.pg_world.specs.Crossings.{node_of, ShowsCrossing, ShowsBytes, StepComesTo};
-    ghost use Rattle.pg_frame_world.specs.Worlds.{IsReached};
-    ghost use Rattle.pg_frame_world.specs.PgAccount.Histories.{as_entry, last_entries};
-    ghost use Rattle.pg_frame_world.specs.PgAccount.Losses.{is_lost};
-    ghost use Rattle.pg_frame_world.specs.Past.{HistoriesGrow};
-    ghost use Rattle.pg_frame_world.specs.Past.{missed_in};
+    ghost use Rattle.pg_world_packets.specs.Worlds.{IsReached};
+    ghost use Rattle.pg_world_packets.specs.PgWorldAccount.Histories.{as_entry, last_entries};
+    ghost use Rattle.pg_world_packets.specs.PgWorldAccount.Losses.{is_lost};
+    ghost use Rattle.pg_world_packets.specs.Past.{HistoriesGrow};
+    ghost use Rattle.pg_world_packets.specs.Past.{missed_in};
     ghost use Rattle.pg_world.specs.BytesPast.{BytesFormedFirst, BytesGoOn, BytesMissed};
-    ghost use Rattle.pg_frame_world.specs.Pending.{AgreeOn, pending_of, sees_free};
-    ghost use Rattle.pg_frame_world.specs.Worlds.{TimedFrameWorld};
+    ghost use Rattle.pg_world_packets.specs.Pending.{AgreeOn, pending_of, sees_free};
+    ghost use Rattle.pg_world_packets.specs.Worlds.{TimedFrameWorld};
 
     /// The node at a place, with its links, of which none is damaged.
     ///

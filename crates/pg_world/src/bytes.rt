@@ -4,7 +4,7 @@ ghost use Rattle.std.specs.Prelude.{◌≡◌, ◌+◌, ◌^◌, ℕ, List, true
 ghost use Rattle.std.specs.Prelude.{Some, None, IfOk, length, option_map, slice_get};
 ghost use Rattle.std.specs.List.{All};
 ghost use Rattle.pg_node.specs.Nodes.{held_by};
-ghost use Rattle.pg_frame_world.specs.PgNodeState.States.{names_of};
+ghost use Rattle.pg_world_packets.specs.PgNodeState.States.{names_of};
 ghost use Rattle.pg_world.specs.declared.rings.Rings.{Rings};
 ghost use Rattle.pg_world.specs.Rooms.{HaveRoomFor};
 
@@ -16,12 +16,12 @@ mod runs;
 use crate::rings::{Rings, rings_between};
 use crate::step::Step;
 pub use begun::starting_nodes;
-use pg_frame_world::{
+use pg_node::{Held, Node, NodeFault};
+use pg_world_packets::{
     Command, Effect, FrameStep, GroupTable, Histories, Losses, OpId, Packet, Refusal, Stepped,
     front_is_first_of_cut, front_is_first_packet, loss_cuts_packets, moving_keeps_packets,
     no_packet_is_refused, nobody_is_harmed, peer_place, sending_adds_packets,
 };
-use pg_node::{Held, Node, NodeFault};
 pub use runs::run;
 use std::alloc::{AllocError, Global};
 
@@ -44,30 +44,30 @@ pub(crate) struct ByteNodes<T: GroupTable> {
 impl<T: GroupTable + Drop> ByteNodes<T> {
     ghost use Rattle.std.specs.Option.{option_copied};
     ghost use Rattle.pg_node.specs.Nodes.{links_of};
-    ghost use Rattle.pg_frame_world.specs.PgRing.Capacity.{IsCapacity};
-    ghost use Rattle.pg_frame_world.specs.PgMachine.Places.{is_pair};
-    ghost use Rattle.pg_frame_world.specs.PgMachine.Machine.{Take, Do};
-    ghost use Rattle.pg_frame_world.specs.PgStep.Config.{Config, name_at};
-    ghost use Rattle.pg_frame_world.specs.PgStep.Step.{Issue, Retry};
-    ghost use Rattle.pg_frame_world.specs.PgMessage.Members.{IsShort};
+    ghost use Rattle.pg_world_packets.specs.PgRing.Capacity.{IsCapacity};
+    ghost use Rattle.pg_world_packets.specs.PgStep.Machines.Places.{is_pair};
+    ghost use Rattle.pg_world_packets.specs.PgStep.Machines.Machine.{Take, Do};
+    ghost use Rattle.pg_world_packets.specs.PgStep.Config.{Config, name_at};
+    ghost use Rattle.pg_world_packets.specs.PgStep.Step.{Issue, Retry};
+    ghost use Rattle.pg_world_packets.specs.PgMessageTypes.Members.{IsShort};
     ghost use Rattle.pg_node.specs.Bytes.{next_packet};
-    ghost use Rattle.pg_frame_world.specs.PgAccount.Histories.{AreInRows, account_of};
-    ghost use Rattle.pg_frame_world.specs.PgStep.LossLaws.{LosingFrameWorld};
+    ghost use Rattle.pg_world_packets.specs.PgWorldAccount.Histories.{AreInRows, account_of};
+    ghost use Rattle.pg_world_packets.specs.PgStep.LossLaws.{LosingFrameWorld};
     ghost use Rattle.pg_world.specs.BytesLosing.{ShowsLosingBytes, MoveLeaves, EventLeaves, StepLeaves};
-    ghost use Rattle.pg_frame_world.specs.Losing.{IsReachedLosing};
-    ghost use Rattle.pg_frame_world.specs.PgAccount.Losses.{lost_in, is_lost};
-    ghost use Rattle.pg_frame_world.specs.Losing.{SeenAreLost, formed_after, lost_after};
+    ghost use Rattle.pg_world_packets.specs.Losing.{IsReachedLosing};
+    ghost use Rattle.pg_world_packets.specs.PgWorldAccount.Losses.{lost_in, is_lost};
+    ghost use Rattle.pg_world_packets.specs.Losing.{SeenAreLost, formed_after, lost_after};
     ghost use Rattle.pg_world.specs.Bars.{RefusesBarred, StepTellsUndrained, TellsUndrained, put_bar};
     ghost use Rattle.pg_world.specs.Bars.{pull_bar, event_bar, bar_of, bytes_formed_after, bytes_lost_after};
-    ghost use Rattle.pg_frame_world.specs.Worlds.{has_port, has_places, TimedFrameWorld};
-    ghost use Rattle.pg_frame_world.specs.PgAccount.Histories.{no_account};
+    ghost use Rattle.pg_world_packets.specs.Worlds.{has_port, has_places, TimedFrameWorld};
+    ghost use Rattle.pg_world_packets.specs.PgWorldAccount.Histories.{no_account};
     ghost use Rattle.pg_world.specs.Changes.{Moves, put_count, pull_count, MoveChanges};
     ghost use Rattle.pg_world.specs.Changes.{EventChanges, FrameChanges, StepChanges};
-    ghost use Rattle.pg_frame_world.specs.PgFrame.Pieces.{ring_put, pull};
+    ghost use Rattle.pg_world_packets.specs.PgFrame.Pieces.{ring_put, pull};
     ghost use Rattle.pg_world.specs.Crossings.{crossing_of, node_of, room_of, idle_crossing, link_at};
     ghost use Rattle.pg_world.specs.Crossings.{bytes_at, IsWelcome, ShowsPast, ShowsBytes};
     ghost use Rattle.pg_world.specs.Crossings.{ShowsBytesPast, EventComesTo, FrameComesTo, StepComesTo};
-    ghost use Rattle.pg_frame_world.specs.Worlds.{IsReached};
+    ghost use Rattle.pg_world_packets.specs.Worlds.{IsReached};
 
     /// A world of these nodes, with an empty ring from each to each other, which has room for `ring` bytes, and where
     /// nothing has begun.

@@ -2,7 +2,7 @@
 //! worlds of packets, too.
 //!
 //! `world.step(&step)?` makes a step, and `world.history(&name)` gives the history of a group. Begin with `src/byte_world.rt`, or with
-//! `frame_world.rt` of pg_frame_world; `history.rt` of pg_uses plays such a world.
+//! `frame_world.rt` of pg_world_packets; `history.rt` of pg_uses plays such a world.
 #![tactic(auto)]
 
 mod byte_world;
@@ -12,7 +12,10 @@ mod step;
 
 pub use byte_world::World;
 pub use bytes::{run, starting_nodes};
-pub use pg_frame_world::{
+pub use pg_node::{
+    Done, Framed, Node, NodeConfig, NodeFault, NodeState, Outgoing, ServeFault, read_packet, serve,
+};
+pub use pg_world_packets::{
     Answer, Command, Config, Deframer, Effect, Entry, FrameFault, FrameStep, FrameWorld,
     GroupTable, IndexTable, MAX_NODES, MAX_PORTS, Message, MessageFault, OpId, Packet, RefFault,
     RefSource, Refusal, Reply, Request, Said, Scope, Start, Stepped, Update, WorldFault,
@@ -23,9 +26,5 @@ pub use pg_frame_world::{
     orders_keep_tables, packet_len, pending_ends_are_listed, pieces_continue, refusals_are_exact,
     run_frames, same_group, same_groups, which_groups, write_frame, write_packet_into,
     written_is_read,
-};
-pub use pg_node::{
-    AnyReader, AnyWriter, Done, Framed, Node, NodeConfig, NodeFault, NodeState, Outgoing,
-    ServeFault, Sink, Source, read_packet, serve,
 };
 pub use step::Step;

@@ -2,11 +2,11 @@
 
 ghost use Rattle.std.specs.Prelude.{◌≡◌, ◌-◌, [], IfOk, map, replicate};
 ghost use Rattle.std.specs.List.{All};
-ghost use Rattle.pg_frame_world.specs.PgRing.Capacity.{IsCapacity};
+ghost use Rattle.pg_world_packets.specs.PgRing.Capacity.{IsCapacity};
 ghost use Rattle.pg_world.specs.Rooms.{HaveRoomFor};
 ghost use Rattle.pg_world.specs.Crossings.{bytes_of};
 
-use pg_frame_world::MemRing;
+use pg_world_packets::MemRing;
 use std::alloc::{AllocError, Global};
 
 /// The rings from one node to each of its peers.

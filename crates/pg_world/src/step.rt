@@ -1,4 +1,4 @@
-use pg_frame_world::FrameStep;
+use pg_world_packets::FrameStep;
 
 /// A step of a world whose packets cross as bytes. Nodes are named by their places.
 #[derive(Debug, Drop)]

@@ -1,13 +1,12 @@
 //! Calls of a table, many times.
 
 ghost use Rattle.std.specs.Prelude.{IsTrue};
-ghost use Rattle.pg_message.specs.PgGroup.Table.{HasRoom};
+ghost use Rattle.pg_group.specs.Table.{HasRoom};
 
-use pg_figures::{Watch, report_each};
-use pg_message::{Ended, GroupTable, Scope, Update};
+use pg_group::{Ended, GroupTable, Scope, Update};
 use pg_query::{closest, members};
-use pg_random::Random;
 use pg_term::{Atom, Pid, Term};
+use pg_test_kit::{Random, Watch, report_each};
 use std::alloc::Global;
 
 /// Whether the count that the update raises is below the greatest that there is.

@@ -1,9 +1,8 @@
 //! Names of nodes, and pids of them.
 
-use pg_figures::Change;
-use pg_message::Update;
-use pg_random::Random;
+use pg_group::Update;
 use pg_term::{Atom, Pid, Term, TermFault};
+use pg_test_kit::{Change, Random};
 use std::alloc::{AllocError, Global};
 
 // The name of the node of this number.

@@ -5,19 +5,19 @@ ghost use Rattle.std.specs.List.{IsDistinct};
 ghost use Rattle.pg_term.specs.Same.{same_atom};
 ghost use Rattle.pg_term.specs.declared.pid.Pid.{Pid};
 ghost use Rattle.pg_term.specs.declared.term.Term.{Term};
-ghost use Rattle.pg_replica.specs.PgTermIo.Writing.{written};
-ghost use Rattle.pg_replica.specs.PgGroup.Value.{count_in};
-ghost use Rattle.pg_replica.specs.PgEnds.declared.processes.TheConstants.{MAX_PROCESSES};
-ghost use Rattle.pg_replica.specs.PgMessage.Writing.{body_of, term_of_packet};
-ghost use Rattle.pg_replica.specs.PgOpens.Places.{name_at};
+ghost use Rattle.pg_node_state.specs.PgTermIo.Writing.{written};
+ghost use Rattle.pg_node_state.specs.PgGroup.Value.{count_in};
+ghost use Rattle.pg_node_state.specs.PgEnds.declared.processes.TheConstants.{MAX_PROCESSES};
+ghost use Rattle.pg_node_state.specs.PgMessageTypes.Writing.{body_of, term_of_packet};
+ghost use Rattle.pg_node_state.specs.PgNodeOpens.Places.{name_at};
 ghost use Rattle.pg_node.specs.Begun.{BeginsLinked, CantBegin, IsOpened, CantOpen};
 ghost use Rattle.pg_node.specs.Links.{link_of, links_in};
-ghost use Rattle.pg_replica.specs.PgNodeState.States.{names_of as names_known, kept_by};
+ghost use Rattle.pg_node_state.specs.States.{names_of as names_known, kept_by};
 
 use crate::node::Node;
 use crate::node::wire::Wire;
 use bytes::BytesMut;
-use pg_replica::{
+use pg_node_state::{
     GroupTable, NodeConfig, NodeFault, NodeState, Packet, packet_len, started, write_packet_into,
 };
 use std::alloc::{AllocError, Global};
@@ -26,10 +26,10 @@ use std::alloc::{AllocError, Global};
 const PIECE_LEN: usize = 65_536;
 
 impl<T: GroupTable + Drop> Node<T> {
-    ghost use Rattle.pg_replica.specs.PgStep.State.{new_state};
-    ghost use Rattle.pg_replica.specs.PgNodeState.Issued.{ports_of};
+    ghost use Rattle.pg_node_state.specs.PgStep.State.{new_state};
+    ghost use Rattle.pg_node_state.specs.Issued.{ports_of};
     ghost use Rattle.pg_node.specs.Nodes.{held_by, links_of};
-    ghost use Rattle.pg_replica.specs.PgNodeState.States.{names_of, state_of, answers_of};
+    ghost use Rattle.pg_node_state.specs.States.{names_of, state_of, answers_of};
 
     /// A node at time 0, as `NodeState::new` makes it: in the outbox to each peer is the frame that announces the
     /// groups of the table.

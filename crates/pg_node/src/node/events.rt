@@ -2,32 +2,32 @@
 
 ghost use Rattle.std.specs.Prelude.{◌≡◌, ◌<◌, ◌+◌, ◌^◌, ℕ, true, false, None, Some, Ok, Err};
 ghost use Rattle.std.specs.Prelude.{IfOk, IfErr, IfSome, OnOk, OnErr, length};
-ghost use Rattle.pg_replica.specs.PgMessage.Members.{IsShort};
+ghost use Rattle.pg_node_state.specs.PgMessageTypes.Members.{IsShort};
 
 use crate::node::Node;
 use crate::node::wires::{make_room, send_all};
-use pg_replica::{Command, Done, Framed, Goes, GroupTable, NodeFault, OpId, Packet, Refusal};
+use pg_node_state::{Command, Done, Framed, Goes, GroupTable, NodeFault, OpId, Packet, Refusal};
 use std::alloc::AllocError;
 use std::mem;
 
 impl<T: GroupTable + Drop> Node<T> {
-    ghost use Rattle.pg_replica.specs.PgOpens.Places.{name_at};
-    ghost use Rattle.pg_replica.specs.PgStep.Step.{Issue, Retry, step_act, step_take};
-    ghost use Rattle.pg_replica.specs.PgStep.declared.refusal.Refusal.TheVariants.{NodeLost};
-    ghost use Rattle.pg_replica.specs.PgNodeState.declared.state.fault.NodeFault.TheVariants.{Refused};
+    ghost use Rattle.pg_node_state.specs.PgNodeOpens.Places.{name_at};
+    ghost use Rattle.pg_node_state.specs.PgStep.Step.{Issue, Retry, step_act, step_take};
+    ghost use Rattle.pg_node_state.specs.PgStep.declared.refusal.Refusal.TheVariants.{NodeLost};
+    ghost use Rattle.pg_node_state.specs.declared.state.fault.NodeFault.TheVariants.{Refused};
     ghost use Rattle.pg_node.specs.Bytes.{ReadsNext, next_packet, marked, passed, closed};
     ghost use Rattle.pg_node.specs.Nodes.{held_by, links_of, has_lost, read_next, step_link};
     ghost use Rattle.pg_node.specs.Nodes.{buffer_of, taken_of, TakesNext, ComesInRoom, sent_out, step_lose};
-    ghost use Rattle.pg_replica.specs.PgSends.Dones.{FramedDone};
-    ghost use Rattle.pg_replica.specs.PgSends.Framed.{listed_of};
-    ghost use Rattle.pg_replica.specs.PgSends.Frames.{AreSmallFrames};
-    ghost use Rattle.pg_replica.specs.PgSends.Going.{goes_out};
+    ghost use Rattle.pg_node_state.specs.PgNodeSends.Dones.{FramedDone};
+    ghost use Rattle.pg_node_state.specs.PgNodeSends.Framed.{listed_of};
+    ghost use Rattle.pg_node_state.specs.PgNodeSends.Frames.{AreSmallFrames};
+    ghost use Rattle.pg_node_state.specs.PgNodeSends.Going.{goes_out};
     ghost use Rattle.pg_node.specs.Links.{at_link};
-    ghost use Rattle.pg_replica.specs.PgNodeState.Issued.{ports_of};
-    ghost use Rattle.pg_replica.specs.PgSends.Sendable.{AreSendable};
-    ghost use Rattle.pg_replica.specs.PgNodeState.States.{Stays};
-    ghost use Rattle.pg_replica.specs.PgNodeState.States.{names_of, nodes_of, state_of, answers_of, Comes};
-    ghost use Rattle.pg_replica.specs.PgSends.Sent.{stamped_of};
+    ghost use Rattle.pg_node_state.specs.Issued.{ports_of};
+    ghost use Rattle.pg_node_state.specs.PgNodeSends.Sendable.{AreSendable};
+    ghost use Rattle.pg_node_state.specs.States.{Stays};
+    ghost use Rattle.pg_node_state.specs.States.{names_of, nodes_of, state_of, answers_of, Comes};
+    ghost use Rattle.pg_node_state.specs.PgNodeSends.Sent.{stamped_of};
 
     /// Takes the next packet of a peer, if its frame is whole: what the step sends is framed in the outboxes. `peer`:
     /// its place among the peers.

@@ -5,15 +5,15 @@ ghost use Rattle.std.specs.Prelude.{length, take, min, None, Ok, Err, IfOk, IfEr
 
 use crate::node::Node;
 use crate::node::wire::Wire;
-use pg_replica::{GroupTable, NodeFault, NodeState, Refusal};
+use pg_node_state::{GroupTable, NodeFault, NodeState, Refusal};
 use pg_ring::{Inlet, Link};
 
 impl<T: GroupTable + Drop> Node<T> {
-    ghost use Rattle.pg_replica.specs.PgStep.declared.refusal.Refusal.TheVariants.{NodeLost};
-    ghost use Rattle.pg_replica.specs.PgNodeState.declared.state.fault.NodeFault.TheVariants.{Refused, Damaged, OutOfMemory};
+    ghost use Rattle.pg_node_state.specs.PgStep.declared.refusal.Refusal.TheVariants.{NodeLost};
+    ghost use Rattle.pg_node_state.specs.declared.state.fault.NodeFault.TheVariants.{Refused, Damaged, OutOfMemory};
     ghost use Rattle.pg_node.specs.Links.{at_link, with_fed, without_front};
     ghost use Rattle.pg_node.specs.Nodes.{held_by, links_of, buffer_of, has_lost, read_next};
-    ghost use Rattle.pg_replica.specs.PgNodeState.States.{names_of};
+    ghost use Rattle.pg_node_state.specs.States.{names_of};
 
     /// The node over packets.
     ///
@@ -109,7 +109,7 @@ impl<T: GroupTable + Drop> Node<T> {
     }
 }
 
-ghost use Rattle.pg_replica.specs.PgNodeState.declared.state.fault.NodeFault.TheVariants as faults;
+ghost use Rattle.pg_node_state.specs.declared.state.fault.NodeFault.TheVariants as faults;
 ghost use Rattle.pg_node.specs.Links.{link_of, with_fed as link_fed};
 
 /// Adds what an inlet gives to what came in, up to `max` bytes and to the length of `piece`, where they are on the

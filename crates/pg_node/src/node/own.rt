@@ -4,21 +4,22 @@ ghost use Rattle.std.specs.Prelude.{◌≡◌, ◌<◌, ◌+◌, ℕ, Some, Ok, 
 
 use crate::node::Node;
 use crate::node::wires::{make_room, send_all};
-use pg_replica::{Done, Framed, GroupTable, NodeFault, OwnReply};
+use pg_message_reader::OwnReply;
+use pg_node_state::{Done, Framed, GroupTable, NodeFault};
 
 impl<T: GroupTable + Drop> Node<T> {
-    ghost use Rattle.pg_replica.specs.PgOpens.Places.{name_at};
-    ghost use Rattle.pg_replica.specs.PgReader.Own.{own_reply};
-    ghost use Rattle.pg_replica.specs.PgStep.Step.{step_take};
+    ghost use Rattle.pg_node_state.specs.PgNodeOpens.Places.{name_at};
+    ghost use Rattle.pg_message_reader.specs.Own.{own_reply};
+    ghost use Rattle.pg_node_state.specs.PgStep.Step.{step_take};
     ghost use Rattle.pg_node.specs.Bytes.{next_packet, marked, passed};
     ghost use Rattle.pg_node.specs.Links.{at_link};
     ghost use Rattle.pg_node.specs.Nodes.{held_by, links_of, has_lost, read_next, sent_out, ComesInRoom};
-    ghost use Rattle.pg_replica.specs.PgSends.Framed.{listed_of};
-    ghost use Rattle.pg_replica.specs.PgSends.Frames.{AreSmallFrames};
-    ghost use Rattle.pg_replica.specs.PgSends.Sendable.{AreSendable};
-    ghost use Rattle.pg_replica.specs.PgNodeState.States.{Stays};
-    ghost use Rattle.pg_replica.specs.PgNodeState.States.{names_of, nodes_of, state_of, answers_of};
-    ghost use Rattle.pg_replica.specs.PgSends.Sent.{stamped_of};
+    ghost use Rattle.pg_node_state.specs.PgNodeSends.Framed.{listed_of};
+    ghost use Rattle.pg_node_state.specs.PgNodeSends.Frames.{AreSmallFrames};
+    ghost use Rattle.pg_node_state.specs.PgNodeSends.Sendable.{AreSendable};
+    ghost use Rattle.pg_node_state.specs.States.{Stays};
+    ghost use Rattle.pg_node_state.specs.States.{names_of, nodes_of, state_of, answers_of};
+    ghost use Rattle.pg_node_state.specs.PgNodeSends.Sent.{stamped_of};
 
     /// The next packet of a peer, where that is a reply which is read as numbers, and the loss of the peer was not seen.
     pub(crate) fn own_reply(&self, peer: usize) -> Option<OwnReply>

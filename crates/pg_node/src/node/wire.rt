@@ -2,13 +2,12 @@
 
 ghost use Rattle.std.specs.Prelude.{◌≡◌, ◌≤◌, ◌+◌, ◌^◌, true, false, length};
 ghost use Rattle.std.specs.Prelude.{take, min, Some, Ok, Err, IfOk, IfErr, IfSome, OnOk, OnErr};
-ghost use Rattle.pg_replica.specs.PgWriter.declared.size.TheConstants.{MAX_SMALL_LEN};
+ghost use Rattle.pg_node_state.specs.PgMessageWriter.declared.size.TheConstants.{MAX_SMALL_LEN};
 ghost use Rattle.pg_node.specs.Bytes.{damages};
 
 use bytes::BytesMut;
-use pg_replica::{
-    Deframer, MAX_SMALL_LEN, NodeFault, OwnReply, Packet, Refusal, read_own_reply, read_packet,
-};
+use pg_message_reader::{OwnReply, read_own_reply, read_packet};
+use pg_node_state::{Deframer, MAX_SMALL_LEN, NodeFault, Packet, Refusal};
 use pg_ring::{Inlet, Link};
 use pg_term::Atom;
 use std::alloc::{AllocError, Global};
@@ -25,10 +24,10 @@ pub(crate) struct Wire {
 }
 
 impl Wire {
-    ghost use Rattle.pg_replica.specs.PgMessage.Members.{IsShort};
-    ghost use Rattle.pg_replica.specs.PgNodeState.declared.state.fault.NodeFault.TheVariants.{Damaged, OutOfMemory};
+    ghost use Rattle.pg_node_state.specs.PgMessageTypes.Members.{IsShort};
+    ghost use Rattle.pg_node_state.specs.declared.state.fault.NodeFault.TheVariants.{Damaged, OutOfMemory};
     ghost use Rattle.pg_node.specs.Links.{idle_link, link_of, with_more, with_fed, without_front, HasFrameRoom};
-    ghost use Rattle.pg_replica.specs.PgReader.Own.{own_reply};
+    ghost use Rattle.pg_message_reader.specs.Own.{own_reply};
     ghost use Rattle.pg_node.specs.Bytes.{next_packet, ReadsNext, marked, passed, closed, is_drained, is_idle};
 
     /// A link where nothing came in and nothing goes out. It takes no memory yet.

@@ -1,16 +1,16 @@
 //! The links of a node to all its peers.
 
 ghost use Rattle.std.specs.Prelude.{◌≡◌, ◌≤◌, ◌<◌, ◌+◌, ◌&&◌, ℕ, [], true, cond, nat_eq, length, OnOk};
-ghost use Rattle.pg_replica.specs.PgMessage.declared.packet.Packet.{Packet};
-ghost use Rattle.pg_replica.specs.PgSends.declared.goes.Goes.TheVariants.{Marked};
-ghost use Rattle.pg_replica.specs.PgSends.Framed.{listed_of};
-ghost use Rattle.pg_replica.specs.PgSends.Frames.{frames_to, AreSmallFrames, IsFrame};
-ghost use Rattle.pg_replica.specs.PgSends.Going.{going};
-ghost use Rattle.pg_replica.specs.PgSends.Sendable.{FitLinks};
+ghost use Rattle.pg_node_state.specs.PgMessageTypes.declared.packet.Packet.{Packet};
+ghost use Rattle.pg_node_state.specs.PgNodeSends.declared.goes.Goes.TheVariants.{Marked};
+ghost use Rattle.pg_node_state.specs.PgNodeSends.Framed.{listed_of};
+ghost use Rattle.pg_node_state.specs.PgNodeSends.Frames.{frames_to, AreSmallFrames, IsFrame};
+ghost use Rattle.pg_node_state.specs.PgNodeSends.Going.{going};
+ghost use Rattle.pg_node_state.specs.PgNodeSends.Sendable.{FitLinks};
 ghost use Rattle.pg_node.specs.Links.{links_in, room_in, with_more, HaveFrameRoom};
 
 use crate::node::wire::Wire;
-use pg_replica::{Framed, Goes, MAX_SMALL_LEN, Places};
+use pg_node_state::{Framed, Goes, MAX_SMALL_LEN, Places};
 use std::alloc::AllocError;
 
 /// Makes room for one small frame in every outbox, where it was not made, or taken since. `has_room`: whether it is there, which

@@ -1,22 +1,22 @@
 //! How a command is counted at its port, and answered.
 
 ghost use Rattle.std.specs.Prelude.{◌<◌, IfOk};
-ghost use Rattle.pg_ports.specs.PgStep.State.{Response};
+ghost use Rattle.pg_node_ports.specs.PgStep.State.{Response};
 
 use crate::state::NodeState;
-use pg_ports::{GroupTable, Reply, give, reserve_answer};
-use pg_sends::{Done, Outgoing};
+use pg_node_ports::{GroupTable, Reply, give, reserve_answer};
+use pg_node_sends::{Done, Outgoing};
 use std::alloc::AllocError;
 
 impl<T: GroupTable + Drop> NodeState<T> {
-    ghost use Rattle.pg_ports.specs.PgOpens.Places.{name_at};
-    ghost use Rattle.pg_ports.specs.PgStep.Commands.{Answers, answer};
-    ghost use Rattle.pg_ports.specs.PgStep.Step.{at_clock};
+    ghost use Rattle.pg_node_ports.specs.PgNodeOpens.Places.{name_at};
+    ghost use Rattle.pg_node_ports.specs.PgStep.Commands.{Answers, answer};
+    ghost use Rattle.pg_node_ports.specs.PgStep.Step.{at_clock};
     ghost use Rattle.pg_node_state.specs.Clocks.{IsNow};
     ghost use Rattle.pg_node_state.specs.Issued.{op_issued, ports_of};
     ghost use Rattle.pg_node_state.specs.States.{Stays};
     ghost use Rattle.pg_node_state.specs.States.{names_of, kept_by, state_of, answers_of, Happens};
-    ghost use Rattle.pg_sends.specs.Sendable.{AreSendable};
+    ghost use Rattle.pg_node_sends.specs.Sendable.{AreSendable};
 
     /// Counts the next command of a port, and answers it.
     pub(crate) fn answer<S: Outgoing + Drop>(

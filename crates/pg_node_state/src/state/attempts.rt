@@ -1,34 +1,34 @@
 //! How an attempt of a command of the node begins, and what follows at once.
 
 ghost use Rattle.std.specs.Prelude.{◌≡◌, ◌≤◌, ◌<◌, ◌+◌, ◌*◌, ◌^◌, true, false, IfOk, length};
-ghost use Rattle.pg_ports.specs.PgGroup.declared.update.Update.{Update};
-ghost use Rattle.pg_ports.specs.PgGroup.Value.{count_in, name_of};
-ghost use Rattle.pg_ports.specs.PgMessage.declared.packet.TheConstants.{MAX_STAMP};
-ghost use Rattle.pg_ports.specs.PgOpens.Readings.{stage_seen};
-ghost use Rattle.pg_ports.specs.PgOpens.declared.command.Stage.TheVariants as seen;
-ghost use Rattle.pg_ports.specs.PgStep.declared.command.OpId.{OpId};
-ghost use Rattle.pg_ports.specs.PgStep.Nodes.{Node, greatest, is_peer};
-ghost use Rattle.pg_ports.specs.PgStep.Peers.{would_grant};
-ghost use Rattle.pg_ports.specs.PgStep.State.Stage.{Waiting};
+ghost use Rattle.pg_node_ports.specs.PgGroup.declared.update.Update.{Update};
+ghost use Rattle.pg_node_ports.specs.PgGroup.Value.{count_in, name_of};
+ghost use Rattle.pg_node_ports.specs.PgMessageTypes.declared.packet.TheConstants.{MAX_STAMP};
+ghost use Rattle.pg_node_ports.specs.PgNodeOpens.Readings.{stage_seen};
+ghost use Rattle.pg_node_ports.specs.PgNodeOpens.declared.command.Stage.TheVariants as seen;
+ghost use Rattle.pg_node_ports.specs.PgStep.declared.command.OpId.{OpId};
+ghost use Rattle.pg_node_ports.specs.PgStep.Nodes.{Node, greatest, is_peer};
+ghost use Rattle.pg_node_ports.specs.PgStep.Peers.{would_grant};
+ghost use Rattle.pg_node_ports.specs.PgStep.State.Stage.{Waiting};
 ghost use Rattle.pg_term.specs.declared.pid.Pid.{Pid};
 ghost use Rattle.pg_term.specs.declared.term.Term.{Term};
 
 use crate::state::NodeState;
 use crate::state::first::{ask_first, end_alone};
 use bytes::BytesMut;
-use pg_ports::{Asked, GroupTable, OpId, Reply, keep_reserved, reserve_answer};
-use pg_sends::{
+use pg_node_ports::{Asked, GroupTable, OpId, Reply, keep_reserved, reserve_answer};
+use pg_node_sends::{
     Done, Outgoing, all_asked, ask_own, began_alone, first_asked, has_peer, own_under,
     waiting_under,
 };
 use std::alloc::AllocError;
 
 impl<T: GroupTable + Drop> NodeState<T> {
-    ghost use Rattle.pg_ports.specs.PgOpens.Places.{name_at};
-    ghost use Rattle.pg_ports.specs.PgStep.Attempts.{attempt};
-    ghost use Rattle.pg_ports.specs.PgStep.Step.{at_clock};
+    ghost use Rattle.pg_node_ports.specs.PgNodeOpens.Places.{name_at};
+    ghost use Rattle.pg_node_ports.specs.PgStep.Attempts.{attempt};
+    ghost use Rattle.pg_node_ports.specs.PgStep.Step.{at_clock};
     ghost use Rattle.pg_node_state.specs.Issued.{ports_of};
-    ghost use Rattle.pg_sends.specs.Sendable.{AreSendable};
+    ghost use Rattle.pg_node_sends.specs.Sendable.{AreSendable};
     ghost use Rattle.pg_node_state.specs.States.{Stays};
     ghost use Rattle.pg_node_state.specs.States.{names_of, live_of, kept_by, state_of, answers_of, Happens};
 

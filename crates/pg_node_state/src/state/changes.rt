@@ -2,23 +2,23 @@
 
 ghost use Rattle.std.specs.Prelude.{◌≡◌, ◌<◌, true, Some, IfOk};
 ghost use Rattle.std.specs.Option.{is_some};
-ghost use Rattle.pg_ports.specs.PgGroup.declared.update.Update.{Update};
-ghost use Rattle.pg_ports.specs.PgGroup.Value.{name_of};
-ghost use Rattle.pg_ports.specs.PgMessage.Name.{is_name};
-ghost use Rattle.pg_ports.specs.PgStep.Commands.{change_of, look};
+ghost use Rattle.pg_node_ports.specs.PgGroup.declared.update.Update.{Update};
+ghost use Rattle.pg_node_ports.specs.PgGroup.Value.{name_of};
+ghost use Rattle.pg_node_ports.specs.PgMessageTypes.Name.{is_name};
+ghost use Rattle.pg_node_ports.specs.PgStep.Commands.{change_of, look};
 
 use crate::state::NodeState;
 use bytes::BytesMut;
-use pg_ports::{Command, GroupTable, look};
-use pg_sends::{Done, Outgoing};
+use pg_node_ports::{Command, GroupTable, look};
+use pg_node_sends::{Done, Outgoing};
 use std::alloc::AllocError;
 
 impl<T: GroupTable + Drop> NodeState<T> {
-    ghost use Rattle.pg_ports.specs.PgStep.Commands.{change};
-    ghost use Rattle.pg_ports.specs.PgStep.Step.{at_clock};
+    ghost use Rattle.pg_node_ports.specs.PgStep.Commands.{change};
+    ghost use Rattle.pg_node_ports.specs.PgStep.Step.{at_clock};
     ghost use Rattle.pg_node_state.specs.Clocks.{IsNow};
     ghost use Rattle.pg_node_state.specs.Issued.{op_issued, ports_of};
-    ghost use Rattle.pg_sends.specs.Sendable.{AreSendable};
+    ghost use Rattle.pg_node_sends.specs.Sendable.{AreSendable};
     ghost use Rattle.pg_node_state.specs.States.{Stays};
     ghost use Rattle.pg_node_state.specs.States.{names_of, live_of, kept_by, state_of, answers_of, Happens};
 

@@ -1,23 +1,23 @@
 //! What a node makes of a command.
 
 ghost use Rattle.std.specs.Prelude.{◌≡◌, ◌<◌, ◌+◌, true, None, IfOk};
-ghost use Rattle.pg_ports.specs.PgMessage.declared.packet.TheConstants.{MAX_STAMP};
+ghost use Rattle.pg_node_ports.specs.PgMessageTypes.declared.packet.TheConstants.{MAX_STAMP};
 
 use crate::state::{NodeFault, NodeState};
 use bytes::BytesMut;
-use pg_ports::{Command, GroupTable, MAX_STAMP, Refusal, Reply, query_reply};
-use pg_sends::{Done, Outgoing};
+use pg_node_ports::{Command, GroupTable, MAX_STAMP, Refusal, Reply, query_reply};
+use pg_node_sends::{Done, Outgoing};
 use std::alloc::AllocError;
 
 impl<T: GroupTable + Drop> NodeState<T> {
-    ghost use Rattle.pg_ports.specs.PgStep.Commands.{carried_out, fault_of, answer};
-    ghost use Rattle.pg_ports.specs.PgStep.Commands as commands;
-    ghost use Rattle.pg_ports.specs.PgStep.State.Response.{Read};
-    ghost use Rattle.pg_ports.specs.PgStep.StepLaws.{is_query};
-    ghost use Rattle.pg_ports.specs.PgStep.Step.{Issue, step_act, at_clock};
+    ghost use Rattle.pg_node_ports.specs.PgStep.Commands.{carried_out, fault_of, answer};
+    ghost use Rattle.pg_node_ports.specs.PgStep.Commands as commands;
+    ghost use Rattle.pg_node_ports.specs.PgStep.State.Response.{Read};
+    ghost use Rattle.pg_node_ports.specs.PgStep.StepLaws.{is_query};
+    ghost use Rattle.pg_node_ports.specs.PgStep.Step.{Issue, step_act, at_clock};
     ghost use Rattle.pg_node_state.specs.Clocks.{IsNow};
     ghost use Rattle.pg_node_state.specs.Issued.{op_issued, ports_of};
-    ghost use Rattle.pg_sends.specs.Sendable.{AreSendable};
+    ghost use Rattle.pg_node_sends.specs.Sendable.{AreSendable};
     ghost use Rattle.pg_node_state.specs.States.{Stays};
     ghost use Rattle.pg_node_state.specs.States.{names_of, nodes_of, live_of, kept_by};
     ghost use Rattle.pg_node_state.specs.States.{state_of, answers_of, Happens, Comes};

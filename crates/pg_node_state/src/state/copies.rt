@@ -3,7 +3,7 @@
 ghost use Rattle.std.specs.Prelude.{IfOk};
 
 use crate::state::NodeState;
-use pg_ports::GroupTable;
+use pg_node_ports::GroupTable;
 use std::alloc::AllocError;
 
 impl<T: GroupTable + Drop> NodeState<T> {

@@ -1,7 +1,7 @@
 use pg_frame::TooLong;
-use pg_ports::{MessageFault, Refusal};
+use pg_node_ports::{MessageFault, Refusal};
 use pg_term::TermFault;
-use pg_term::pg_faults::{DAMAGED, OUT_OF_MEMORY, TOO_LONG};
+use pg_term::faults::{DAMAGED, OUT_OF_MEMORY, TOO_LONG};
 use std::alloc::AllocError;
 use thiserror::Error;
 

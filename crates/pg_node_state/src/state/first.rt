@@ -1,20 +1,20 @@
 //! The open commands as an attempt begins.
 
 ghost use Rattle.std.specs.Prelude.{◌≡◌, ◌<◌, ◌+◌, ◌^◌, true, false, length};
-ghost use Rattle.pg_ports.specs.PgGroup.declared.update.Update.{Update};
-ghost use Rattle.pg_ports.specs.PgGroup.Value.{name_of};
-ghost use Rattle.pg_ports.specs.PgOpens.Opens.{names_of, live_of, references_of, stages_of, Shows};
-ghost use Rattle.pg_ports.specs.PgOpens.Places.{name_at};
-ghost use Rattle.pg_ports.specs.PgOpens.Readings.{stage_seen};
-ghost use Rattle.pg_ports.specs.PgOpens.declared.command.Stage.TheVariants as seen;
-ghost use Rattle.pg_ports.specs.PgStep.Attempts.{attempt};
-ghost use Rattle.pg_ports.specs.PgStep.Nodes.{Node, greatest, is_peer};
-ghost use Rattle.pg_ports.specs.PgStep.Peers.{would_grant};
-ghost use Rattle.pg_ports.specs.PgStep.State.{State};
-ghost use Rattle.pg_ports.specs.PgStep.State.Stage.{Waiting};
+ghost use Rattle.pg_node_ports.specs.PgGroup.declared.update.Update.{Update};
+ghost use Rattle.pg_node_ports.specs.PgGroup.Value.{name_of};
+ghost use Rattle.pg_node_ports.specs.PgNodeOpens.Opens.{names_of, live_of, references_of, stages_of, Shows};
+ghost use Rattle.pg_node_ports.specs.PgNodeOpens.Places.{name_at};
+ghost use Rattle.pg_node_ports.specs.PgNodeOpens.Readings.{stage_seen};
+ghost use Rattle.pg_node_ports.specs.PgNodeOpens.declared.command.Stage.TheVariants as seen;
+ghost use Rattle.pg_node_ports.specs.PgStep.Attempts.{attempt};
+ghost use Rattle.pg_node_ports.specs.PgStep.Nodes.{Node, greatest, is_peer};
+ghost use Rattle.pg_node_ports.specs.PgStep.Peers.{would_grant};
+ghost use Rattle.pg_node_ports.specs.PgStep.State.{State};
+ghost use Rattle.pg_node_ports.specs.PgStep.State.Stage.{Waiting};
 ghost use Rattle.pg_node_state.specs.Issued.{asked_first};
 
-use pg_ports::{Asked, OpId, Opens};
+use pg_node_ports::{Asked, OpId, Opens};
 
 /// A command that waits begins an attempt, and the node at a place is asked, alone: the greatest live one. `granted`:
 /// what the own node would answer. It takes no memory.

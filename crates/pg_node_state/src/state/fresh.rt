@@ -1,11 +1,11 @@
 //! What a command that is to be opened needs, made before anything changes.
 
 ghost use Rattle.std.specs.Prelude.{◌≡◌, true, is_some, Some, IfOk, OnOk};
-ghost use Rattle.pg_ports.specs.PgOpens.Opens.{names_of, has_room, Follows};
-ghost use Rattle.pg_ports.specs.PgStep.Commands.{change_of};
-ghost use Rattle.pg_ports.specs.PgStep.Turns.{becomes};
+ghost use Rattle.pg_node_ports.specs.PgNodeOpens.Opens.{names_of, has_room, Follows};
+ghost use Rattle.pg_node_ports.specs.PgStep.Commands.{change_of};
+ghost use Rattle.pg_node_ports.specs.PgStep.Turns.{becomes};
 
-use pg_ports::{Command, Opens, Update};
+use pg_node_ports::{Command, Opens, Update};
 use std::alloc::{AllocError, Global};
 
 /// Makes the update of a command, a copy of what it names, and room for it among the open ones.

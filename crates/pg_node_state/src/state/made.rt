@@ -6,15 +6,15 @@ ghost use Rattle.std.specs.Option.{option_copied};
 ghost use Rattle.pg_term.specs.Same.{same_atom};
 ghost use Rattle.pg_term.specs.declared.pid.Pid.{Pid};
 ghost use Rattle.pg_term.specs.declared.term.Term.{Term};
-ghost use Rattle.pg_ports.specs.PgGroup.Value.{count_in};
-ghost use Rattle.pg_ports.specs.PgEnds.Numbers.{ended_among};
-ghost use Rattle.pg_ports.specs.PgEnds.declared.processes.TheConstants.{MAX_PROCESSES};
+ghost use Rattle.pg_node_ports.specs.PgGroup.Value.{count_in};
+ghost use Rattle.pg_node_ports.specs.PgEnds.Numbers.{ended_among};
+ghost use Rattle.pg_node_ports.specs.PgEnds.declared.processes.TheConstants.{MAX_PROCESSES};
 
 use crate::state::NodeState;
-use pg_ports::{
+use pg_node_ports::{
     Answer, Ended, Formation, GroupTable, LockTable, OpId, Opens, Packet, Processes, idle_ports,
 };
-use pg_sends::opening;
+use pg_node_sends::opening;
 use pg_term::{Atom, Pid, Reference, Term};
 use std::alloc::{AllocError, Global};
 
@@ -31,12 +31,12 @@ pub struct NodeConfig {
     pub ports: u16,
 }
 
-ghost use Rattle.pg_ports.specs.PgOpens.Places.{name_at};
-ghost use Rattle.pg_ports.specs.PgStep.State.{new_state, formed};
+ghost use Rattle.pg_node_ports.specs.PgNodeOpens.Places.{name_at};
+ghost use Rattle.pg_node_ports.specs.PgStep.State.{new_state, formed};
 ghost use Rattle.pg_node_state.specs.Issued.{ports_of};
-ghost use Rattle.pg_sends.specs.Opening.{Announces};
+ghost use Rattle.pg_node_sends.specs.Opening.{Announces};
 ghost use Rattle.pg_node_state.specs.States.{names_of, nodes_of, live_of, kept_by, state_of, answers_of};
-ghost use Rattle.pg_sends.specs.Sent.{sends_in};
+ghost use Rattle.pg_node_sends.specs.Sent.{sends_in};
 ghost use Rattle.pg_node_state.specs.Waiting.{AreWaiting};
 
 impl<T: GroupTable + Drop> NodeState<T> {

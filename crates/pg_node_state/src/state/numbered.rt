@@ -1,22 +1,22 @@
 //! What a node makes of a reply that is read as numbers.
 
 ghost use Rattle.std.specs.Prelude.{◌≡◌, ◌≢◌, ◌<◌, ◌+◌, true, Err, IfOk, length};
-ghost use Rattle.pg_ports.specs.PgMessage.declared.message.Message.TheVariants as messages;
+ghost use Rattle.pg_node_ports.specs.PgMessageTypes.declared.message.Message.TheVariants as messages;
 
 use crate::state::{NodeFault, NodeState};
 use bytes::BytesMut;
-use pg_ports::{GroupTable, MAX_STAMP, Refusal, Said};
-use pg_sends::{Done, Outgoing};
+use pg_node_ports::{GroupTable, MAX_STAMP, Refusal, Said};
+use pg_node_sends::{Done, Outgoing};
 
 impl<T: GroupTable + Drop> NodeState<T> {
-    ghost use Rattle.pg_ports.specs.PgRefs.Numbered.{numbered};
-    ghost use Rattle.pg_ports.specs.PgOpens.Places.{name_at};
-    ghost use Rattle.pg_ports.specs.PgStep.Step.{step_take};
+    ghost use Rattle.pg_node_ports.specs.PgRefs.Numbered.{numbered};
+    ghost use Rattle.pg_node_ports.specs.PgNodeOpens.Places.{name_at};
+    ghost use Rattle.pg_node_ports.specs.PgStep.Step.{step_take};
     ghost use Rattle.pg_node_state.specs.declared.state.fault.NodeFault.TheVariants.{OutOfMemory};
     ghost use Rattle.pg_node_state.specs.States.{Stays};
     ghost use Rattle.pg_node_state.specs.States.{names_of, nodes_of, live_of, kept_by, state_of};
     ghost use Rattle.pg_node_state.specs.States.{answers_of, takes_none, Comes};
-    ghost use Rattle.pg_sends.specs.Sendable.{AreSendable};
+    ghost use Rattle.pg_node_sends.specs.Sendable.{AreSendable};
 
     /// Takes a reply of a peer to a reference of the node itself, as `take` does where the packet says that: no packet
     /// is built. `peer`: its place among the peers. `stamp`: the clock that the packet has. `number`: that of the reference,

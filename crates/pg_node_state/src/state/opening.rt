@@ -1,12 +1,12 @@
 //! What a node announces as it begins.
 
 ghost use Rattle.std.specs.Prelude.{IfOk};
-ghost use Rattle.pg_ports.specs.PgOpens.Places.{name_at};
-ghost use Rattle.pg_sends.specs.Opening.{IsAnnouncement};
+ghost use Rattle.pg_node_ports.specs.PgNodeOpens.Places.{name_at};
+ghost use Rattle.pg_node_sends.specs.Opening.{IsAnnouncement};
 
 use crate::state::NodeState;
-use pg_ports::{GroupTable, Packet};
-use pg_sends::announced;
+use pg_node_ports::{GroupTable, Packet};
+use pg_node_sends::announced;
 use std::alloc::AllocError;
 
 impl<T: GroupTable + Drop> NodeState<T> {

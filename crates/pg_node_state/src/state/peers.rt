@@ -1,28 +1,28 @@
 //! What a node does for a peer.
 
 ghost use Rattle.std.specs.Prelude.{◌≡◌, ◌↔◌, ◌⊎◌, ◌<◌, ◌+◌, ◌^◌, true, Err, IfOk, IfErr, OnOk, length};
-ghost use Rattle.pg_ports.specs.PgMessage.Members.{HasFewMembers};
+ghost use Rattle.pg_node_ports.specs.PgMessageTypes.Members.{HasFewMembers};
 ghost use Rattle.pg_node_state.specs.declared.state.fault.NodeFault.TheVariants.{Refused, OutOfMemory};
-ghost use Rattle.pg_ports.specs.PgStep.declared.refusal.Refusal.TheVariants.{NotAMessage};
+ghost use Rattle.pg_node_ports.specs.PgStep.declared.refusal.Refusal.TheVariants.{NotAMessage};
 
 use crate::state::{NodeFault, NodeState};
 use bytes::BytesMut;
-use pg_ports::{ExchangeFault, GroupTable, Refusal, Update, take_end};
-use pg_sends::{Done, Outgoing, change_for_peer, forget_node, lock_for_peer};
+use pg_node_ports::{ExchangeFault, GroupTable, Refusal, Update, take_end};
+use pg_node_sends::{Done, Outgoing, change_for_peer, forget_node, lock_for_peer};
 use pg_term::{Atom, Items, Pid, Reference, Term};
 use std::alloc::AllocError;
 
 impl<T: GroupTable + Drop> NodeState<T> {
-    ghost use Rattle.pg_ports.specs.PgOpens.Places.{name_at};
-    ghost use Rattle.pg_ports.specs.PgStep.Peers.{lock_request, update_request, lock_freed};
-    ghost use Rattle.pg_ports.specs.PgStep.Peers.{exchange, process_end, is_bad_exchange, verdict};
-    ghost use Rattle.pg_ports.specs.PgStep.Losses.{see_loss};
-    ghost use Rattle.pg_ports.specs.PgStep.Step.{at_clock};
+    ghost use Rattle.pg_node_ports.specs.PgNodeOpens.Places.{name_at};
+    ghost use Rattle.pg_node_ports.specs.PgStep.Peers.{lock_request, update_request, lock_freed};
+    ghost use Rattle.pg_node_ports.specs.PgStep.Peers.{exchange, process_end, is_bad_exchange, verdict};
+    ghost use Rattle.pg_node_ports.specs.PgStep.Losses.{see_loss};
+    ghost use Rattle.pg_node_ports.specs.PgStep.Step.{at_clock};
     ghost use Rattle.pg_node_state.specs.Clocks.{IsNow};
     ghost use Rattle.pg_node_state.specs.Issued.{ports_of};
     ghost use Rattle.pg_node_state.specs.States.{Stays};
     ghost use Rattle.pg_node_state.specs.States.{names_of, live_of, kept_by, state_of, answers_of, IsReported};
-    ghost use Rattle.pg_sends.specs.Sendable.{AreSendable};
+    ghost use Rattle.pg_node_sends.specs.Sendable.{AreSendable};
 
     /// Answers a request for a lock.
     pub(crate) fn serve_lock<S: Outgoing + Drop>(

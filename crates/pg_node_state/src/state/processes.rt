@@ -2,29 +2,29 @@
 
 ghost use Rattle.std.specs.Prelude.{◌≡◌, ◌<◌, ◌+◌, ◌++◌, ◌∷◌, ◌^◌, [], true, length, nat_eq, IfOk, OnOk, OnErr};
 ghost use Rattle.pg_term.specs.Same.{same_pid};
-ghost use Rattle.pg_ports.specs.PgGroup.Ended.{ended_of};
-ghost use Rattle.pg_ports.specs.PgGroup.Functions.{upd};
-ghost use Rattle.pg_ports.specs.PgGroup.Table.{without};
-ghost use Rattle.pg_ports.specs.PgEnds.declared.processes.TheConstants.{MAX_PROCESSES};
-ghost use Rattle.pg_ports.specs.PgStep.declared.answer.Reply.TheVariants as replies;
-ghost use Rattle.pg_ports.specs.Ports.{counted_at};
-ghost use Rattle.pg_ports.specs.Ports.{port_commands, answers_in};
+ghost use Rattle.pg_node_ports.specs.PgGroup.Ended.{ended_of};
+ghost use Rattle.pg_node_ports.specs.PgGroup.Functions.{upd};
+ghost use Rattle.pg_node_ports.specs.PgGroup.Table.{without};
+ghost use Rattle.pg_node_ports.specs.PgEnds.declared.processes.TheConstants.{MAX_PROCESSES};
+ghost use Rattle.pg_node_ports.specs.PgStep.declared.answer.Reply.TheVariants as replies;
+ghost use Rattle.pg_node_ports.specs.Ports.{counted_at};
+ghost use Rattle.pg_node_ports.specs.Ports.{port_commands, answers_in};
 
 use crate::state::NodeState;
 use bytes::BytesMut;
-use pg_ports::{Ended, GroupTable, Port, Reply, give, reserve_answer, take_end};
-use pg_sends::{Done, Order, Outgoing, to_live};
+use pg_node_ports::{Ended, GroupTable, Port, Reply, give, reserve_answer, take_end};
+use pg_node_sends::{Done, Order, Outgoing, to_live};
 use pg_term::Pid;
 use std::alloc::AllocError;
 
 impl<T: GroupTable + Drop> NodeState<T> {
-    ghost use Rattle.pg_ports.specs.PgStep.Commands.{make, end_process};
-    ghost use Rattle.pg_ports.specs.PgStep.Step.{at_clock};
+    ghost use Rattle.pg_node_ports.specs.PgStep.Commands.{make, end_process};
+    ghost use Rattle.pg_node_ports.specs.PgStep.Step.{at_clock};
     ghost use Rattle.pg_node_state.specs.Clocks.{IsNow};
     ghost use Rattle.pg_node_state.specs.Issued.{op_issued, ports_of};
     ghost use Rattle.pg_node_state.specs.States.{Stays};
     ghost use Rattle.pg_node_state.specs.States.{names_of, live_of, kept_by, state_of, answers_of, Happens};
-    ghost use Rattle.pg_sends.specs.Sendable.{AreSendable};
+    ghost use Rattle.pg_node_sends.specs.Sendable.{AreSendable};
 
     /// Makes a process, for the next command of a port.
     pub(crate) fn make_process<S: Outgoing + Drop>(

@@ -1,17 +1,17 @@
 //! Why a command is refused.
 
 ghost use Rattle.std.specs.Prelude.{◌≡◌, ◌∷◌, [], not};
-ghost use Rattle.pg_ports.specs.PgMessage.Name.{is_name};
-ghost use Rattle.pg_ports.specs.PgStep.declared.command.Command.TheVariants as commands;
-ghost use Rattle.pg_ports.specs.PgStep.declared.command_fault.CommandFault.TheVariants.{NameTooLarge};
-ghost use Rattle.pg_ports.specs.PgStep.Faults.{first_that_holds};
+ghost use Rattle.pg_node_ports.specs.PgMessageTypes.Name.{is_name};
+ghost use Rattle.pg_node_ports.specs.PgStep.declared.command.Command.TheVariants as commands;
+ghost use Rattle.pg_node_ports.specs.PgStep.declared.command_fault.CommandFault.TheVariants.{NameTooLarge};
+ghost use Rattle.pg_node_ports.specs.PgStep.Faults.{first_that_holds};
 
 use crate::state::NodeState;
-use pg_ports::{Command, CommandFault, EndFault, GroupTable, check_name};
+use pg_node_ports::{Command, CommandFault, EndFault, GroupTable, check_name};
 use pg_term::{Pid, Term};
 
 impl<T: GroupTable + Drop> NodeState<T> {
-    ghost use Rattle.pg_ports.specs.PgStep.Commands.{fault_of};
+    ghost use Rattle.pg_node_ports.specs.PgStep.Commands.{fault_of};
     ghost use Rattle.pg_node_state.specs.States.{nodes_of, kept_by};
 
     /// Why a command is refused, the first that holds: `NameTooLarge`, `ForeignPid`, `NotFormed`, `NotMade`, `AlreadyEnded`,

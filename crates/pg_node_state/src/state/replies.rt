@@ -1,31 +1,31 @@
 //! What a node makes of a reply.
 
 ghost use Rattle.std.specs.Prelude.{◌≡◌, ◌≢◌, ◌<◌, ◌+◌, true, false, Err, IfOk, length};
-ghost use Rattle.pg_ports.specs.PgMessage.declared.message.Said.{Said};
+ghost use Rattle.pg_node_ports.specs.PgMessageTypes.declared.message.Said.{Said};
 
 use crate::state::{NodeFault, NodeState};
 use bytes::BytesMut;
-use pg_ports::{Gathering, GroupTable, Odd, OpId, Refusal, Said, Taken, number_of};
-use pg_sends::{Done, Outgoing};
+use pg_node_ports::{Gathering, GroupTable, Odd, OpId, Refusal, Said, Taken, number_of};
+use pg_node_sends::{Done, Outgoing};
 use pg_term::Reference;
 use std::alloc::AllocError;
 
 impl<T: GroupTable + Drop> NodeState<T> {
-    ghost use Rattle.pg_ports.specs.PgMulticall.Gathered.{what_of};
-    ghost use Rattle.pg_ports.specs.PgMulticall.declared.gather.Taken.TheVariants.{Counted};
-    ghost use Rattle.pg_ports.specs.PgRefs.Numbered.{numbered};
-    ghost use Rattle.pg_ports.specs.PgOpens.Places.{name_at};
-    ghost use Rattle.pg_ports.specs.PgOpens.Readings.{gathering_of};
-    ghost use Rattle.pg_ports.specs.PgOpens.declared.command.Gathering.TheVariants as gatherings;
-    ghost use Rattle.pg_ports.specs.PgStep.Attempts.{counted, gathered, use_of, reply_taken, strange};
+    ghost use Rattle.pg_node_ports.specs.PgMulticall.Gathered.{what_of};
+    ghost use Rattle.pg_node_ports.specs.PgMulticall.declared.gather.Taken.TheVariants.{Counted};
+    ghost use Rattle.pg_node_ports.specs.PgRefs.Numbered.{numbered};
+    ghost use Rattle.pg_node_ports.specs.PgNodeOpens.Places.{name_at};
+    ghost use Rattle.pg_node_ports.specs.PgNodeOpens.Readings.{gathering_of};
+    ghost use Rattle.pg_node_ports.specs.PgNodeOpens.declared.command.Gathering.TheVariants as gatherings;
+    ghost use Rattle.pg_node_ports.specs.PgStep.Attempts.{counted, gathered, use_of, reply_taken, strange};
     ghost use Rattle.pg_node_state.specs.Clocks.{IsNow};
     ghost use Rattle.pg_node_state.specs.declared.state.fault.NodeFault.TheVariants.{OutOfMemory};
-    ghost use Rattle.pg_ports.specs.PgStep.Step.{at_clock};
+    ghost use Rattle.pg_node_ports.specs.PgStep.Step.{at_clock};
     ghost use Rattle.pg_node_state.specs.Issued.{ports_of};
     ghost use Rattle.pg_node_state.specs.States.{Stays};
     ghost use Rattle.pg_node_state.specs.States.{names_of, live_of, kept_by, state_of};
     ghost use Rattle.pg_node_state.specs.States.{answers_of, is_counted, Happens, ComesAt};
-    ghost use Rattle.pg_sends.specs.Sendable.{AreSendable};
+    ghost use Rattle.pg_node_sends.specs.Sendable.{AreSendable};
 
     /// Takes the reply of a peer, which is not lost.
     ///
@@ -223,9 +223,9 @@ impl<T: GroupTable + Drop> NodeState<T> {
     }
 }
 
-ghost use Rattle.pg_ports.specs.PgStep.Attempts.{is_kind};
-ghost use Rattle.pg_ports.specs.PgStep.State.{Use};
-ghost use Rattle.pg_ports.specs.PgOpens.Readings.{gathering_of as what_is_gathered};
+ghost use Rattle.pg_node_ports.specs.PgStep.Attempts.{is_kind};
+ghost use Rattle.pg_node_ports.specs.PgStep.State.{Use};
+ghost use Rattle.pg_node_ports.specs.PgNodeOpens.Readings.{gathering_of as what_is_gathered};
 
 /// Whether a reply is of the kind that is gathered.
 fn is_kind(gathering: Gathering, said: Said) -> bool
@@ -238,7 +238,7 @@ fn is_kind(gathering: Gathering, said: Said) -> bool
     }
 }
 
-ghost use Rattle.pg_ports.specs.PgStep.Attempts.{is_of_lock};
+ghost use Rattle.pg_node_ports.specs.PgStep.Attempts.{is_of_lock};
 
 /// Whether it is what a request for a lock is answered.
 fn is_of_lock(said: Said) -> bool
@@ -250,7 +250,7 @@ fn is_of_lock(said: Said) -> bool
     }
 }
 
-ghost use Rattle.pg_ports.specs.PgStep.Attempts.{own_verdict, lock_status};
+ghost use Rattle.pg_node_ports.specs.PgStep.Attempts.{own_verdict, lock_status};
 
 /// Whether a reply grants the lock.
 fn is_granted(said: Said) -> bool

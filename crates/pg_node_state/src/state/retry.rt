@@ -1,20 +1,20 @@
 //! How a command that waits is tried again.
 
 ghost use Rattle.std.specs.Prelude.{◌≡◌, ◌<◌, IfOk};
-ghost use Rattle.pg_ports.specs.PgMessage.declared.packet.TheConstants.{MAX_STAMP};
+ghost use Rattle.pg_node_ports.specs.PgMessageTypes.declared.packet.TheConstants.{MAX_STAMP};
 
 use crate::state::{NodeFault, NodeState};
 use bytes::BytesMut;
-use pg_ports::{Gathering, GroupTable, MAX_STAMP, OpId, Refusal, Stage};
-use pg_sends::{Done, Outgoing};
+use pg_node_ports::{Gathering, GroupTable, MAX_STAMP, OpId, Refusal, Stage};
+use pg_node_sends::{Done, Outgoing};
 use std::alloc::AllocError;
 
 impl<T: GroupTable + Drop> NodeState<T> {
-    ghost use Rattle.pg_ports.specs.PgStep.Attempts.{go_on, replies_in, tried_again, is_complete};
-    ghost use Rattle.pg_ports.specs.PgStep.Step.{Retry, at_clock, step_act};
+    ghost use Rattle.pg_node_ports.specs.PgStep.Attempts.{go_on, replies_in, tried_again, is_complete};
+    ghost use Rattle.pg_node_ports.specs.PgStep.Step.{Retry, at_clock, step_act};
     ghost use Rattle.pg_node_state.specs.Clocks.{IsNow};
     ghost use Rattle.pg_node_state.specs.Issued.{ports_of};
-    ghost use Rattle.pg_sends.specs.Sendable.{AreSendable};
+    ghost use Rattle.pg_node_sends.specs.Sendable.{AreSendable};
     ghost use Rattle.pg_node_state.specs.States.{Stays};
     ghost use Rattle.pg_node_state.specs.States.{names_of, nodes_of, live_of, kept_by};
     ghost use Rattle.pg_node_state.specs.States.{state_of, answers_of, Happens, Comes};

@@ -1,15 +1,15 @@
 //! Whether two nodes are the same in all that is seen of them.
 
 ghost use Rattle.std.specs.Prelude.{◌≡◌, ◌↔◌, IsTrue, IfOk};
-ghost use Rattle.pg_ports.specs.PgGroup.Ended.{ended_of};
-ghost use Rattle.pg_ports.specs.PgLock.Locks.{locks_of};
-ghost use Rattle.pg_ports.specs.PgEnds.Processes.{made_of};
-ghost use Rattle.pg_ports.specs.PgOpens.Opens as opens;
+ghost use Rattle.pg_node_ports.specs.PgGroup.Ended.{ended_of};
+ghost use Rattle.pg_node_ports.specs.PgLock.Locks.{locks_of};
+ghost use Rattle.pg_node_ports.specs.PgEnds.Processes.{made_of};
+ghost use Rattle.pg_node_ports.specs.PgNodeOpens.Opens as opens;
 ghost use Rattle.pg_node_state.specs.Same.{AreSameNodes, AreAlike, AreSameBeside};
-ghost use Rattle.pg_ports.specs.Same.{AreSamePorts};
+ghost use Rattle.pg_node_ports.specs.Same.{AreSamePorts};
 
 use crate::state::NodeState;
-use pg_ports::{GroupTable, same_groups, same_ports};
+use pg_node_ports::{GroupTable, same_groups, same_ports};
 use std::alloc::AllocError;
 
 impl<T: GroupTable + Drop> NodeState<T> {

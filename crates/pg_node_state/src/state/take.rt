@@ -1,24 +1,24 @@
 //! What a node makes of a packet.
 
 ghost use Rattle.std.specs.Prelude.{◌≡◌, ◌≢◌, ◌<◌, ◌+◌, ◌^◌, true, Err, IfOk, length};
-ghost use Rattle.pg_ports.specs.PgMessage.Members.{IsShort, HasFewMembers};
-ghost use Rattle.pg_ports.specs.PgMessage.declared.packet.TheConstants.{MAX_STAMP};
+ghost use Rattle.pg_node_ports.specs.PgMessageTypes.Members.{IsShort, HasFewMembers};
+ghost use Rattle.pg_node_ports.specs.PgMessageTypes.declared.packet.TheConstants.{MAX_STAMP};
 
 use crate::state::{NodeFault, NodeState};
 use bytes::BytesMut;
-use pg_ports::{GroupTable, MAX_STAMP, Message, Packet, Refusal, Request};
-use pg_sends::{Done, Outgoing};
+use pg_node_ports::{GroupTable, MAX_STAMP, Message, Packet, Refusal, Request};
+use pg_node_sends::{Done, Outgoing};
 use pg_term::{Atom, Items, Pid, Term};
 
 impl<T: GroupTable + Drop> NodeState<T> {
-    ghost use Rattle.pg_ports.specs.PgOpens.Places.{name_at};
-    ghost use Rattle.pg_ports.specs.PgStep.Step.{step_take};
+    ghost use Rattle.pg_node_ports.specs.PgNodeOpens.Places.{name_at};
+    ghost use Rattle.pg_node_ports.specs.PgStep.Step.{step_take};
     ghost use Rattle.pg_node_state.specs.declared.state.fault.NodeFault.TheVariants.{OutOfMemory};
     ghost use Rattle.pg_node_state.specs.States.{Stays};
     ghost use Rattle.pg_node_state.specs.States.{names_of, nodes_of, live_of, kept_by, state_of};
     ghost use Rattle.pg_node_state.specs.States.{answers_of, announced_at, step_see_loss, takes_none, Comes};
-    ghost use Rattle.pg_sends.specs.Sent.{stamped_of};
-    ghost use Rattle.pg_sends.specs.Sendable.{AreSendable};
+    ghost use Rattle.pg_node_sends.specs.Sent.{stamped_of};
+    ghost use Rattle.pg_node_sends.specs.Sendable.{AreSendable};
 
     /// Takes a packet of a peer. `peer`: its place among the peers. What is sent carries the clock that the event
     /// sets: the greater of the node's and the packet's, and 1 more.

@@ -1,23 +1,23 @@
 //! What follows once answers to a command of the node are in.
 
 ghost use Rattle.std.specs.Prelude.{◌≡◌, ◌<◌, ◌+◌, Bool, true, false, IfOk};
-ghost use Rattle.pg_ports.specs.PgGroup.declared.update.Update.{Update};
-ghost use Rattle.pg_ports.specs.PgGroup.Value.{name_of};
-ghost use Rattle.pg_ports.specs.PgOpens.Outlooks.{turn_by};
-ghost use Rattle.pg_ports.specs.PgOpens.Readings.{is_locking};
-ghost use Rattle.pg_ports.specs.PgOpens.declared.outlook.Outlook.TheVariants as outlooks;
-ghost use Rattle.pg_ports.specs.PgStep.declared.command.OpId.{OpId};
-ghost use Rattle.pg_ports.specs.PgStep.Nodes.{Node, is_peer};
-ghost use Rattle.pg_ports.specs.PgStep.Peers.{would_grant};
-ghost use Rattle.pg_ports.specs.PgStep.State.{Status};
-ghost use Rattle.pg_ports.specs.PgStep.State.Use.{Locking, Updating};
+ghost use Rattle.pg_node_ports.specs.PgGroup.declared.update.Update.{Update};
+ghost use Rattle.pg_node_ports.specs.PgGroup.Value.{name_of};
+ghost use Rattle.pg_node_ports.specs.PgNodeOpens.Outlooks.{turn_by};
+ghost use Rattle.pg_node_ports.specs.PgNodeOpens.Readings.{is_locking};
+ghost use Rattle.pg_node_ports.specs.PgNodeOpens.declared.outlook.Outlook.TheVariants as outlooks;
+ghost use Rattle.pg_node_ports.specs.PgStep.declared.command.OpId.{OpId};
+ghost use Rattle.pg_node_ports.specs.PgStep.Nodes.{Node, is_peer};
+ghost use Rattle.pg_node_ports.specs.PgStep.Peers.{would_grant};
+ghost use Rattle.pg_node_ports.specs.PgStep.State.{Status};
+ghost use Rattle.pg_node_ports.specs.PgStep.State.Use.{Locking, Updating};
 
 use crate::state::NodeState;
 use bytes::BytesMut;
-use pg_ports::{
+use pg_node_ports::{
     Asked, GroupTable, OpId, Outlook, Reply, keep_reserved, reserve_answer, steps_go_by_outlook,
 };
-use pg_sends::{
+use pg_node_sends::{
     Done, Outgoing, apply_own, ask_own, asked, begun, ended, free_own, freed, give_up_own,
     has_peer, own_under, update_under,
 };
@@ -25,16 +25,16 @@ use pg_term::equality;
 use std::alloc::AllocError;
 
 impl<T: GroupTable + Drop> NodeState<T> {
-    ghost use Rattle.pg_ports.specs.PgOpens.Readings.{gathering_of};
-    ghost use Rattle.pg_ports.specs.PgOpens.declared.command.Gathering.TheVariants as gatherings;
-    ghost use Rattle.pg_ports.specs.PgStep.Attempts.{ask, begin, finish, give_up, go_on};
-    ghost use Rattle.pg_ports.specs.PgStep.Step.{at_clock};
-    ghost use Rattle.pg_ports.specs.PgStep.Turns.{becomes};
+    ghost use Rattle.pg_node_ports.specs.PgNodeOpens.Readings.{gathering_of};
+    ghost use Rattle.pg_node_ports.specs.PgNodeOpens.declared.command.Gathering.TheVariants as gatherings;
+    ghost use Rattle.pg_node_ports.specs.PgStep.Attempts.{ask, begin, finish, give_up, go_on};
+    ghost use Rattle.pg_node_ports.specs.PgStep.Step.{at_clock};
+    ghost use Rattle.pg_node_ports.specs.PgStep.Turns.{becomes};
     ghost use Rattle.pg_node_state.specs.Clocks.{IsNow};
     ghost use Rattle.pg_node_state.specs.Issued.{ports_of};
     ghost use Rattle.pg_node_state.specs.States.{Stays};
     ghost use Rattle.pg_node_state.specs.States.{names_of, live_of, kept_by, state_of, answers_of, Happens};
-    ghost use Rattle.pg_sends.specs.Sendable.{AreSendable};
+    ghost use Rattle.pg_node_sends.specs.Sendable.{AreSendable};
 
     /// Gives an attempt up: frees the lock at each node that granted it. `number`: the one of its reference.
     pub(crate) fn stop_asking<S: Outgoing + Drop>(

@@ -1,26 +1,26 @@
 //! How a command that changes a group is opened.
 
 ghost use Rattle.std.specs.Prelude.{◌≡◌, ◌<◌, true, is_some, Some, IfOk};
-ghost use Rattle.pg_ports.specs.PgGroup.declared.update.Update.{Update};
-ghost use Rattle.pg_ports.specs.PgGroup.Value.{name_of};
-ghost use Rattle.pg_ports.specs.PgMessage.Name.{is_name};
-ghost use Rattle.pg_ports.specs.PgStep.Commands.{change_of};
+ghost use Rattle.pg_node_ports.specs.PgGroup.declared.update.Update.{Update};
+ghost use Rattle.pg_node_ports.specs.PgGroup.Value.{name_of};
+ghost use Rattle.pg_node_ports.specs.PgMessageTypes.Name.{is_name};
+ghost use Rattle.pg_node_ports.specs.PgStep.Commands.{change_of};
 
 use crate::state::NodeState;
 use crate::state::fresh::prepared;
 use bytes::BytesMut;
-use pg_ports::{Command, CommandFault, GroupTable, Reply, count, next_op, uncount};
-use pg_sends::{Done, Outgoing, is_busy};
+use pg_node_ports::{Command, CommandFault, GroupTable, Reply, count, next_op, uncount};
+use pg_node_sends::{Done, Outgoing, is_busy};
 use std::alloc::AllocError;
 
 impl<T: GroupTable + Drop> NodeState<T> {
-    ghost use Rattle.pg_ports.specs.PgStep.Attempts.{attempt};
-    ghost use Rattle.pg_ports.specs.PgStep.Commands.{undertake, open_command};
-    ghost use Rattle.pg_ports.specs.PgStep.Step.{at_clock};
-    ghost use Rattle.pg_ports.specs.PgStep.Turns.{and_then};
+    ghost use Rattle.pg_node_ports.specs.PgStep.Attempts.{attempt};
+    ghost use Rattle.pg_node_ports.specs.PgStep.Commands.{undertake, open_command};
+    ghost use Rattle.pg_node_ports.specs.PgStep.Step.{at_clock};
+    ghost use Rattle.pg_node_ports.specs.PgStep.Turns.{and_then};
     ghost use Rattle.pg_node_state.specs.Clocks.{IsNow};
     ghost use Rattle.pg_node_state.specs.Issued.{op_issued, ports_of};
-    ghost use Rattle.pg_sends.specs.Sendable.{AreSendable};
+    ghost use Rattle.pg_node_sends.specs.Sendable.{AreSendable};
     ghost use Rattle.pg_node_state.specs.States.{Stays};
     ghost use Rattle.pg_node_state.specs.States.{names_of, live_of, kept_by, state_of, answers_of, Happens};
 

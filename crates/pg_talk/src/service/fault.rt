@@ -1,7 +1,7 @@
 //! Why a service did not come to its end.
 
 use pg_cluster::StartFault;
-use pg_term::pg_faults::{BAD_LINE, OUT_OF_MEMORY, WRITE_FAULT};
+use pg_term::faults::{BAD_LINE, OUT_OF_MEMORY, WRITE_FAULT};
 use std::alloc::{AllocError, AllocFailed};
 use thiserror::Error;
 

@@ -2,12 +2,12 @@
 
 ghost use Rattle.std.specs.Prelude.{◌≡◌, ◌⊎◌, Some, None, IfOk, IfErr};
 ghost use Rattle.std.specs.Str.{chars};
-ghost use Rattle.pg_requests.specs.Members.{starts_said};
+ghost use Rattle.pg_node_requests.specs.Members.{starts_said};
 ghost use Rattle.pg_talk.specs.declared.service.fault.ServiceFault.TheVariants.{BadText, OutOfMemory};
 
 use crate::service::fault::ServiceFault;
 use pg_cluster::Config;
-use pg_requests::starts_of;
+use pg_node_requests::starts_of;
 use pg_term::Atom;
 use pg_text::TextFault;
 use std::alloc::Global;

@@ -2,8 +2,9 @@
 
 use crate::service::fault::ServiceFault;
 use bytes::BytesMut;
-use pg_cluster::{FrameFault, Sink, encode_into, frame_into};
-use pg_requests::{numbered, refused};
+use pg_cluster::{FrameFault, encode_into, frame_into};
+use pg_node_requests::{numbered, refused};
+use pg_streams::Sink;
 use pg_term::{Atom, Term, TermFault};
 use std::alloc::Global;
 
@@ -28,7 +29,7 @@ impl Outlet {
     ghost use Rattle.std.specs.Prelude.{◌≡◌, IfOk, IfSome, IfNone, OnOk};
     ghost use Rattle.std.specs.Io.KnownBytes.{Appends, Keeps};
     ghost use Rattle.pg_talk.specs.Frames.{framed, IsUntellable, WritesReply};
-    ghost use Rattle.pg_requests.specs.Replies.{numbered_term, refused_term};
+    ghost use Rattle.pg_node_requests.specs.Replies.{numbered_term, refused_term};
 
     /// One by which nothing was written. It takes no memory.
     pub(crate) fn new(alloc: Global) -> Outlet {

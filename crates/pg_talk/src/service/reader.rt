@@ -2,8 +2,9 @@
 
 use crate::service::fault::ServiceFault;
 use crate::service::reading::{ReadOf, Reading, read_all};
-use pg_cluster::{Deframer, SlotIn, Source, StartFault, slot_pair, slots_together};
-use pg_requests::{Input, Layout};
+use pg_cluster::{Deframer, SlotIn, StartFault, slot_pair, slots_together};
+use pg_node_requests::{Input, Layout};
+use pg_streams::Source;
 use std::alloc::Global;
 use std::snapshot::Snapshot;
 use std::sync::Arc;
@@ -26,8 +27,8 @@ pub(crate) struct Reader<S: Source + Drop> {
 impl<S: Source + Send + Drop + 'static> Reader<S> {
     ghost use Rattle.std.specs.Prelude.{◌≡◌, ◌++◌, [], ℕ, List, Option, IfOk};
     ghost use Rattle.pg_cluster.specs.PgRing.Slots.{taken};
-    ghost use Rattle.pg_requests.specs.declared.input.Input.{Input as InputValue};
-    ghost use Rattle.pg_requests.specs.declared.layout.NodePorts.{NodePorts};
+    ghost use Rattle.pg_node_requests.specs.declared.input.Input.{Input as InputValue};
+    ghost use Rattle.pg_node_requests.specs.declared.layout.NodePorts.{NodePorts};
     ghost use Rattle.pg_talk.specs.Readers.{IsPaired, Reads};
     ghost use Rattle.pg_talk.specs.Readings.{AreRead};
     ghost use Rattle.pg_talk.specs.ReadingThread.{EndsAt};

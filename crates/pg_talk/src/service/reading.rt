@@ -3,9 +3,10 @@
 ghost use Rattle.std.specs.Prelude.{◌≡◌};
 ghost use Rattle.pg_talk.specs.ReadingThread.{EndsAt as ReadsToItsEnd, IsAsked, breaks as is_broken};
 
-use pg_cluster::{Deframer, SlotOut, Source, decode};
-use pg_requests::{Input, Layout, read_request};
-use pg_term::pg_faults::{OUT_OF_MEMORY, READ_FAULT, TRUNCATED};
+use pg_cluster::{Deframer, SlotOut, decode};
+use pg_node_requests::{Input, Layout, read_request};
+use pg_streams::Source;
+use pg_term::faults::{OUT_OF_MEMORY, READ_FAULT, TRUNCATED};
 use std::alloc::{AllocError, Global};
 use std::snapshot::Snapshot;
 use std::sync::Arc;

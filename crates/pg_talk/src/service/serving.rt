@@ -10,8 +10,9 @@ use crate::service::MAX_WAITING;
 use crate::service::desk::Desk;
 use crate::service::fault::ServiceFault;
 use crate::service::outlet::{Address, Outlet};
-use pg_cluster::{Command, Running, Sink, SlotIn, Start};
-use pg_requests::{Input, bad_request, lost, node_lost, reply_term};
+use pg_cluster::{Command, Running, SlotIn, Start};
+use pg_node_requests::{Input, bad_request, lost, node_lost, reply_term};
+use pg_streams::Sink;
 use pg_term::{Atom, Term};
 use std::alloc::{AllocError, Global};
 use std::thread;
@@ -106,7 +107,7 @@ pub(crate) struct Serving {
 
 impl Serving {
     ghost use Rattle.std.specs.Prelude.{◌≡◌, ◌<◌, ◌∷◌, true, false, Option, ℕ, None, Some, IsTrue, IfOk, OnOk, length};
-    ghost use Rattle.pg_requests.specs.declared.input.Input.TheVariants.{Ask, Lose};
+    ghost use Rattle.pg_node_requests.specs.declared.input.Input.TheVariants.{Ask, Lose};
     ghost use Rattle.pg_cluster.specs.Running.{clients_in};
     ghost use Rattle.pg_cluster.specs.PgRing.Slots.{SameSlotIn, taken};
     ghost use Rattle.pg_talk.specs.Servings.{Advances, CameSince, ServingGoes, IsOver, LosesNode, RepliesLost};

@@ -4,23 +4,23 @@ use Rattle.std.proofs.Common.{Result, take, length, get_or, refl, sym, ap, ◌�
 use Rattle.std.specs.Prelude.{slice_set}
 use Rattle.std.proofs.Math.Seq.{take-length}
 use Rattle.std.proofs.lemmas.List.{take_more, take_more_set}
-use Rattle.pg_frame_world.specs.PgMachine.Losing.{nobody_gone}
-use Rattle.pg_frame_world.specs.PgMachine.Machine.{start_of}
-use Rattle.pg_frame_world.specs.PgStep.Config.{Config}
-use Rattle.pg_frame_world.specs.PgStep.FrameMachine.{frame_machine, losing_frame_machine}
-use Rattle.pg_frame_world.specs.PgStep.LossLaws.{LosingFrameWorld}
-use Rattle.pg_frame_world.specs.PgNodeState.declared.state.fault.NodeFault.{NodeFault}
+use Rattle.pg_world_packets.specs.PgStep.Machines.Losing.{nobody_gone}
+use Rattle.pg_world_packets.specs.PgStep.Machines.Machine.{start_of}
+use Rattle.pg_world_packets.specs.PgStep.Config.{Config}
+use Rattle.pg_world_packets.specs.PgStep.FrameMachine.{frame_machine, losing_frame_machine}
+use Rattle.pg_world_packets.specs.PgStep.LossLaws.{LosingFrameWorld}
+use Rattle.pg_world_packets.specs.PgNodeState.declared.state.fault.NodeFault.{NodeFault}
 use Rattle.pg_world.specs.declared.step.Step.{Step}
-use Rattle.pg_frame_world.specs.declared.step.Stepped.{Stepped}
+use Rattle.pg_world_packets.specs.declared.step.Stepped.{Stepped}
 use Rattle.pg_world.specs.BytesLosing.{ShowsLosingBytes, StepLeaves}
-use Rattle.pg_frame_world.specs.Losing.{IsReachedLosing}
+use Rattle.pg_world_packets.specs.Losing.{IsReachedLosing}
 use Rattle.pg_world.specs.BytesStart.{BytesBegin, OpensBytes}
 use Rattle.pg_world.specs.Changes.{StepChanges}
 use Rattle.pg_world.specs.Crossings.{Crossing}
 use Rattle.pg_world.specs.CrossingRuns.{AreLeft, Crosses, CrossesAll, IsShown, RanCrossing, number_of}
-use Rattle.pg_frame_world.specs.PgAccount.Histories.{Account}
-use Rattle.pg_frame_world.proofs.Leading.{Near, Here, Next}
-use Rattle.pg_frame_world.proofs.LosingRunning.{losing_reached_on, start_is}
+use Rattle.pg_world_packets.specs.PgWorldAccount.Histories.{Account}
+use Rattle.pg_world_packets.proofs.Leading.{Near, Here, Next}
+use Rattle.pg_world_packets.proofs.LosingRunning.{losing_reached_on, start_is}
 use Rattle.pg_world.proofs.over_bytes.Leading.{Any, any_told, leaves_on}
 
 reached_near : (config : Config) (u v : LosingFrameWorld) → IsReachedLosing config u → Near config Any (Unit {0}) u v → IsReachedLosing config v

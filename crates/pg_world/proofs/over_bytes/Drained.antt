@@ -2,23 +2,23 @@
 use Rattle.std.proofs.Common.{◌≡◌, ℕ, ◌+◌, Bool, true, false, not, ◌||◌, cond}
 use Rattle.std.proofs.Common.{max, List, Result, Ok, Err, refl, ap, ◌∙◌, subst}
 use Rattle.std.specs.Prelude.{nat_le}
-use Rattle.pg_frame_world.specs.PgMachine.Clocked.{Timed}
-use Rattle.pg_frame_world.specs.PgStep.declared.answer.Answer.{Answer}
-use Rattle.pg_frame_world.specs.PgStep.declared.refusal.Refusal.{Refusal}
-use Rattle.pg_frame_world.specs.PgStep.declared.refusal.Refusal.TheVariants.{ClockFull, NodeLost, NotDrained}
-use Rattle.pg_frame_world.specs.PgStep.Losses.{see_loss}
-use Rattle.pg_frame_world.specs.PgStep.Nodes.{Node}
-use Rattle.pg_frame_world.specs.PgStep.State.{State}
-use Rattle.pg_frame_world.specs.PgStep.Step.{CLOCK_LIMIT, TimedTurn, at_clock, timed}
-use Rattle.pg_frame_world.specs.PgStep.Turns.{NodeTurn}
-use Rattle.pg_frame_world.specs.PgSends.contracts.framing.FramedOutgoing.TheImpl as frames
-use Rattle.pg_frame_world.specs.PgSends.Dones.{FramedDone}
-use Rattle.pg_frame_world.specs.PgNodeState.declared.state.fault.NodeFault.{NodeFault}
-use Rattle.pg_frame_world.specs.PgNodeState.declared.state.fault.NodeFault.TheVariants.{Refused}
+use Rattle.pg_world_packets.specs.PgStep.Machines.Clocked.{Timed}
+use Rattle.pg_world_packets.specs.PgStep.declared.answer.Answer.{Answer}
+use Rattle.pg_world_packets.specs.PgStep.declared.refusal.Refusal.{Refusal}
+use Rattle.pg_world_packets.specs.PgStep.declared.refusal.Refusal.TheVariants.{ClockFull, NodeLost, NotDrained}
+use Rattle.pg_world_packets.specs.PgStep.Losses.{see_loss}
+use Rattle.pg_world_packets.specs.PgStep.Nodes.{Node}
+use Rattle.pg_world_packets.specs.PgStep.State.{State}
+use Rattle.pg_world_packets.specs.PgStep.Step.{CLOCK_LIMIT, TimedTurn, at_clock, timed}
+use Rattle.pg_world_packets.specs.PgStep.Turns.{NodeTurn}
+use Rattle.pg_world_packets.specs.PgNodeSends.contracts.framing.FramedOutgoing.TheImpl as frames
+use Rattle.pg_world_packets.specs.PgNodeSends.Dones.{FramedDone}
+use Rattle.pg_world_packets.specs.PgNodeState.declared.state.fault.NodeFault.{NodeFault}
+use Rattle.pg_world_packets.specs.PgNodeState.declared.state.fault.NodeFault.TheVariants.{Refused}
 use Rattle.pg_node.specs.Bytes.{is_drained}
 use Rattle.pg_node.specs.Links.{Link}
 use Rattle.pg_node.specs.Nodes.{step_lose}
-use Rattle.pg_frame_world.specs.PgNodeState.States.{Comes, step_see_loss}
+use Rattle.pg_world_packets.specs.PgNodeState.States.{Comes, step_see_loss}
 
 abbrev told : Result TimedTurn Refusal
 told = Err NotDrained

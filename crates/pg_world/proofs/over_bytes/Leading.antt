@@ -4,61 +4,61 @@ use Rattle.std.proofs.Common.{Some, None, Result, Ok, Err, refl, sym, ap, ◌∙
 use Rattle.std.specs.Prelude.{slice_get, option_map, IfSome}
 use Rattle.std.specs.Option.{option_copied}
 use Rattle.std.specs.Borrow.{Bor}
-use Rattle.pg_frame_world.specs.PgGroup.declared.table.GroupTable.{Ghosts}
+use Rattle.pg_world_packets.specs.PgGroup.declared.table.GroupTable.{Ghosts}
 use Rattle.pg_node.specs.declared.node.Node.{Node}
 use Rattle.pg_node.specs.Nodes.{links_of}
 use Rattle.std.proofs.lemmas.Bool.{eq-eqb, eqb-true}
 use Rattle.std.proofs.lemmas.Option.{get_or_from_slice_get, slice_get_within}
 use Rattle.pg_term.specs.declared.term.Term.{Term}
-use Rattle.pg_frame_world.specs.PgMachine.Losing.{Lose, LosingEvent, nobody_gone}
-use Rattle.pg_frame_world.specs.PgMachine.Losing.{Step as Happens}
-use Rattle.pg_frame_world.specs.PgMachine.Machine.{Do, Event, Take, start_of}
-use Rattle.pg_frame_world.specs.PgStep.declared.refusal.Refusal.{Refusal}
-use Rattle.pg_frame_world.specs.PgStep.declared.refusal.Refusal.TheVariants.{NotDrained}
-use Rattle.pg_frame_world.specs.PgStep.Config.{Config}
-use Rattle.pg_frame_world.specs.PgStep.FrameMachine.{frame_machine, losing_frame_machine}
-use Rattle.pg_frame_world.specs.PgStep.LossLaws.{LosingFrameWorld}
-use Rattle.pg_frame_world.specs.PgStep.Step.{Action, Issue, Retry}
-use Rattle.pg_frame_world.specs.PgHistory.History.{Entry, history}
-use Rattle.pg_frame_world.proofs.PgHistory.steps.Lossless.{NoneLost}
-use Rattle.pg_frame_world.specs.PgNodeState.declared.state.fault.NodeFault.{NodeFault}
-use Rattle.pg_frame_world.specs.PgNodeState.declared.state.fault.NodeFault.TheVariants.{Refused, OutOfMemory}
-use Rattle.pg_frame_world.specs.PgNodeState.declared.state.fault.NodeFault.TheVariants.{Message as BadMessage, TooLong, Damaged}
-use Rattle.pg_frame_world.specs.declared.step.FrameStep.{FrameStep}
-use Rattle.pg_frame_world.specs.declared.step.FrameStep.TheVariants as frames
+use Rattle.pg_world_packets.specs.PgStep.Machines.Losing.{Lose, LosingEvent, nobody_gone}
+use Rattle.pg_world_packets.specs.PgStep.Machines.Losing.{Step as Happens}
+use Rattle.pg_world_packets.specs.PgStep.Machines.Machine.{Do, Event, Take, start_of}
+use Rattle.pg_world_packets.specs.PgStep.declared.refusal.Refusal.{Refusal}
+use Rattle.pg_world_packets.specs.PgStep.declared.refusal.Refusal.TheVariants.{NotDrained}
+use Rattle.pg_world_packets.specs.PgStep.Config.{Config}
+use Rattle.pg_world_packets.specs.PgStep.FrameMachine.{frame_machine, losing_frame_machine}
+use Rattle.pg_world_packets.specs.PgStep.LossLaws.{LosingFrameWorld}
+use Rattle.pg_world_packets.specs.PgStep.Step.{Action, Issue, Retry}
+use Rattle.pg_world_packets.specs.PgLaws.History.{Entry, history}
+use Rattle.pg_world_packets.proofs.PgLaws.steps.Lossless.{NoneLost}
+use Rattle.pg_world_packets.specs.PgNodeState.declared.state.fault.NodeFault.{NodeFault}
+use Rattle.pg_world_packets.specs.PgNodeState.declared.state.fault.NodeFault.TheVariants.{Refused, OutOfMemory}
+use Rattle.pg_world_packets.specs.PgNodeState.declared.state.fault.NodeFault.TheVariants.{Message as BadMessage, TooLong, Damaged}
+use Rattle.pg_world_packets.specs.declared.step.FrameStep.{FrameStep}
+use Rattle.pg_world_packets.specs.declared.step.FrameStep.TheVariants as frames
 use Rattle.pg_world.specs.declared.step.Step.{Step}
 use Rattle.pg_world.specs.declared.step.Step.TheVariants as steps
-use Rattle.pg_frame_world.specs.declared.step.Stepped.{Stepped}
-use Rattle.pg_frame_world.specs.declared.step.Stepped.TheVariants.{Happened, Moved, Nothing, Gone}
+use Rattle.pg_world_packets.specs.declared.step.Stepped.{Stepped}
+use Rattle.pg_world_packets.specs.declared.step.Stepped.TheVariants.{Happened, Moved, Nothing, Gone}
 use Rattle.pg_world.specs.BytesLosing.{ShowsLosingBytes, MoveLeaves, WholeComesTo, SightComesTo}
 use Rattle.pg_world.specs.BytesLosing.{LossComesTo, EventLeaves, StepLeaves, put_refusal, pull_refusal}
-use Rattle.pg_frame_world.specs.Losing.{IsReachedLosing}
+use Rattle.pg_world_packets.specs.Losing.{IsReachedLosing}
 use Rattle.pg_world.specs.BytesLosingRuns.{bytes_past_losses}
 use Rattle.pg_world.specs.BytesStart.{BytesBegin}
 use Rattle.pg_world.specs.Crossings.{Crossing, ShowsPast, node_of, no_links}
 use Rattle.pg_node.specs.Links.{Link}
-use Rattle.pg_frame_world.specs.PgMachine.Places.{is_pair}
-use Rattle.pg_frame_world.specs.Views.{peer_place, place_of_peer}
-use Rattle.pg_frame_world.proofs.Counted.{place_there}
-use Rattle.pg_frame_world.proofs.Peering.{known, own_place, same_place}
-use Rattle.pg_frame_world.proofs.Turning.{is_pair_so}
-use Rattle.pg_frame_world.specs.Losing.{Telling, formed_after, formed_with, losing_of, told_take, told_own, told_sight}
-use Rattle.pg_frame_world.specs.LosingRuns.{LosingGoesTo}
-use Rattle.pg_frame_world.specs.Past.{HistoriesGrow, missed_in}
+use Rattle.pg_world_packets.specs.PgStep.Machines.Places.{is_pair}
+use Rattle.pg_world_packets.specs.Views.{peer_place, place_of_peer}
+use Rattle.pg_world_packets.proofs.Counted.{place_there}
+use Rattle.pg_world_packets.proofs.Peering.{known, own_place, same_place}
+use Rattle.pg_world_packets.proofs.Turning.{is_pair_so}
+use Rattle.pg_world_packets.specs.Losing.{Telling, formed_after, formed_with, losing_of, told_take, told_own, told_sight}
+use Rattle.pg_world_packets.specs.LosingRuns.{LosingGoesTo}
+use Rattle.pg_world_packets.specs.Past.{HistoriesGrow, missed_in}
 use Rattle.pg_world.specs.Bars.{bytes_formed_after}
 use Rattle.pg_world.specs.BytesPast.{BytesFormedFirst, BytesHavePast, BytesGoOn, BytesMissed, BytesRunOn}
-use Rattle.pg_frame_world.specs.Pending.{AgreeOn, pending_of, sees_free}
-use Rattle.pg_frame_world.specs.PgStarts.Seen.{Seen}
-use Rattle.pg_frame_world.specs.PgAccount.Histories.{Account}
-use Rattle.pg_frame_world.specs.PgAccount.Losses.{is_lost}
-use Rattle.pg_frame_world.specs.Worlds.{TimedFrameWorld, ShowsNodes}
-use Rattle.pg_frame_world.proofs.AtLosses.{ToldBehind, none_told}
-use Rattle.pg_frame_world.proofs.FormedSeen.{ToldOf, loss_told, told_both}
-use Rattle.pg_frame_world.proofs.Leading.{Near, NearBy, Here, Next, Lists, Survive, AreApart, goes_on}
-use Rattle.pg_frame_world.proofs.Leading.{past_after, past_of, runs_on, comes_on, some_comes}
-use Rattle.pg_frame_world.proofs.Leading.{histories_grow, history_is, applied_there, agreed_there, missed_there}
-use Rattle.pg_frame_world.proofs.Ordered.{ordered_length}
-use Rattle.pg_frame_world.proofs.LosingRunning.{losing_leads, start_is}
+use Rattle.pg_world_packets.specs.Pending.{AgreeOn, pending_of, sees_free}
+use Rattle.pg_world_packets.specs.PgWorldConfig.Seen.{Seen}
+use Rattle.pg_world_packets.specs.PgWorldAccount.Histories.{Account}
+use Rattle.pg_world_packets.specs.PgWorldAccount.Losses.{is_lost}
+use Rattle.pg_world_packets.specs.Worlds.{TimedFrameWorld, ShowsNodes}
+use Rattle.pg_world_packets.proofs.AtLosses.{ToldBehind, none_told}
+use Rattle.pg_world_packets.proofs.FormedSeen.{ToldOf, loss_told, told_both}
+use Rattle.pg_world_packets.proofs.Leading.{Near, NearBy, Here, Next, Lists, Survive, AreApart, goes_on}
+use Rattle.pg_world_packets.proofs.Leading.{past_after, past_of, runs_on, comes_on, some_comes}
+use Rattle.pg_world_packets.proofs.Leading.{histories_grow, history_is, applied_there, agreed_there, missed_there}
+use Rattle.pg_world_packets.proofs.Ordered.{ordered_length}
+use Rattle.pg_world_packets.proofs.LosingRunning.{losing_leads, start_is}
 use Rattle.pg_world.proofs.over_bytes.Past.{move_mapped}
 
 -- ---- the worlds to which a step leads

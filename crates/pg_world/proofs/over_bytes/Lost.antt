@@ -6,51 +6,51 @@ use Rattle.std.specs.Prelude.{slice_get, slice_set}
 use Rattle.std.specs.List.{AllByRecursion}
 use Rattle.std.proofs.lemmas.Bool.{cases_eq}
 use Rattle.std.proofs.lemmas.List.{length-map, take-map}
-use Rattle.pg_frame_world.specs.PgFrame.declared.fault.TooLong.{TooLong}
-use Rattle.pg_frame_world.specs.PgFrame.Frames.{front_of}
-use Rattle.pg_frame_world.specs.PgMessage.declared.message.Message.{Message}
-use Rattle.pg_frame_world.specs.PgMessage.declared.packet.Packet.{Packet}
-use Rattle.pg_frame_world.specs.PgMachine.Places.{is_pair}
-use Rattle.pg_frame_world.specs.PgMachine.Clocked.{Timed, Stamped}
-use Rattle.pg_frame_world.specs.PgMachine.Losing.{can_keep}
-use Rattle.pg_frame_world.specs.PgFrame.Pieces.{Bytes, ArePackets, AreCut, AreShort, StayWhole}
-use Rattle.pg_frame_world.specs.PgOpens.Places.{name_at as place_name}
-use Rattle.pg_frame_world.specs.PgStep.declared.answer.Answer.{Answer}
-use Rattle.pg_frame_world.specs.PgStep.declared.refusal.Refusal.TheVariants.{NodeLost, NotLost, NotDrained}
-use Rattle.pg_frame_world.specs.PgStep.Config.{Config, name_at, names_of}
-use Rattle.pg_frame_world.specs.PgStep.LossLaws.{LosingFrameWorld, see_refusal}
-use Rattle.pg_frame_world.specs.PgStep.State.{State}
-use Rattle.pg_frame_world.specs.PgStep.Step.{TimedTurn, at_clock}
-use Rattle.pg_frame_world.specs.PgSends.contracts.framing.FramedOutgoing.TheImpl as frames
-use Rattle.pg_frame_world.specs.PgSends.Dones.{FramedDone}
-use Rattle.pg_frame_world.specs.PgNodeState.declared.state.fault.NodeFault.{NodeFault}
-use Rattle.pg_frame_world.specs.PgNodeState.declared.state.fault.NodeFault.TheVariants.{Refused}
+use Rattle.pg_world_packets.specs.PgFrame.declared.fault.TooLong.{TooLong}
+use Rattle.pg_world_packets.specs.PgFrame.Frames.{front_of}
+use Rattle.pg_world_packets.specs.PgMessageTypes.declared.message.Message.{Message}
+use Rattle.pg_world_packets.specs.PgMessageTypes.declared.packet.Packet.{Packet}
+use Rattle.pg_world_packets.specs.PgStep.Machines.Places.{is_pair}
+use Rattle.pg_world_packets.specs.PgStep.Machines.Clocked.{Timed, Stamped}
+use Rattle.pg_world_packets.specs.PgStep.Machines.Losing.{can_keep}
+use Rattle.pg_world_packets.specs.PgFrame.Pieces.{Bytes, ArePackets, AreCut, AreShort, StayWhole}
+use Rattle.pg_world_packets.specs.PgNodeOpens.Places.{name_at as place_name}
+use Rattle.pg_world_packets.specs.PgStep.declared.answer.Answer.{Answer}
+use Rattle.pg_world_packets.specs.PgStep.declared.refusal.Refusal.TheVariants.{NodeLost, NotLost, NotDrained}
+use Rattle.pg_world_packets.specs.PgStep.Config.{Config, name_at, names_of}
+use Rattle.pg_world_packets.specs.PgStep.LossLaws.{LosingFrameWorld, see_refusal}
+use Rattle.pg_world_packets.specs.PgStep.State.{State}
+use Rattle.pg_world_packets.specs.PgStep.Step.{TimedTurn, at_clock}
+use Rattle.pg_world_packets.specs.PgNodeSends.contracts.framing.FramedOutgoing.TheImpl as frames
+use Rattle.pg_world_packets.specs.PgNodeSends.Dones.{FramedDone}
+use Rattle.pg_world_packets.specs.PgNodeState.declared.state.fault.NodeFault.{NodeFault}
+use Rattle.pg_world_packets.specs.PgNodeState.declared.state.fault.NodeFault.TheVariants.{Refused}
 use Rattle.pg_node.specs.Bytes.{is_drained, has_frame}
 use Rattle.pg_node.specs.Links.{Link}
 use Rattle.pg_node.specs.Nodes.{step_lose}
-use Rattle.pg_frame_world.specs.PgNodeState.States.{Comes, Happens, step_see_loss}
-use Rattle.pg_frame_world.specs.declared.step.Stepped.TheVariants.{Happened, Gone}
+use Rattle.pg_world_packets.specs.PgNodeState.States.{Comes, Happens, step_see_loss}
+use Rattle.pg_world_packets.specs.declared.step.Stepped.TheVariants.{Happened, Gone}
 use Rattle.pg_world.specs.Bars.{has_bytes}
 use Rattle.pg_world.specs.BytesLosing.{ShowsLosingBytes, SightComesTo, LossComesTo}
 use Rattle.pg_world.specs.Crossings.{Crossing, link_at, bytes_at, packet_as}
 use Rattle.pg_world.specs.Crossings.{packets_between, written_of, CanCross, IsOnWay}
-use Rattle.pg_frame_world.specs.declared.effect.Effect.{Effect}
-use Rattle.pg_frame_world.specs.Effects.{no_effect}
-use Rattle.pg_frame_world.specs.Losing.{losing_of, is_cut_off, told_sight, LosingComesTo}
-use Rattle.pg_frame_world.specs.PgAccount.Losses.{is_lost}
-use Rattle.pg_frame_world.specs.PgStarts.Seen.{Seen}
-use Rattle.pg_frame_world.specs.Views.{peer_place}
-use Rattle.pg_frame_world.specs.PgAccount.Histories.{Account}
-use Rattle.pg_frame_world.specs.Worlds.{TimedFrameWorld, ShowsNodes}
+use Rattle.pg_world_packets.specs.declared.effect.Effect.{Effect}
+use Rattle.pg_world_packets.specs.Effects.{no_effect}
+use Rattle.pg_world_packets.specs.Losing.{losing_of, is_cut_off, told_sight, LosingComesTo}
+use Rattle.pg_world_packets.specs.PgWorldAccount.Losses.{is_lost}
+use Rattle.pg_world_packets.specs.PgWorldConfig.Seen.{Seen}
+use Rattle.pg_world_packets.specs.Views.{peer_place}
+use Rattle.pg_world_packets.specs.PgWorldAccount.Histories.{Account}
+use Rattle.pg_world_packets.specs.Worlds.{TimedFrameWorld, ShowsNodes}
 use Rattle.pg_world.proofs.over_bytes.Past.{sight_from}
 use Rattle.pg_world.proofs.Crossed.{all_short}
-use Rattle.pg_frame_world.proofs.Peering.{named, peer_name, there_and_back}
-use Rattle.pg_frame_world.proofs.Seeing.{there, turned, stays, unseen, not_lost, sight_refused, sight_seen}
-use Rattle.pg_frame_world.proofs.Sighted.{sight, sight_clock, sighted, same_wire}
-use Rattle.pg_frame_world.proofs.Sighted.{seen_then, nodes_sighted, updates_sighted}
-use Rattle.pg_frame_world.proofs.Stopped.{cut_off, cut_here, cut_else, nodes_cut, updates_cut}
-use Rattle.pg_frame_world.proofs.Stopped.{can_so, loss_happens, seen_more, lost_it, lost_others}
-use Rattle.pg_frame_world.proofs.Turning.{pair_is}
+use Rattle.pg_world_packets.proofs.Peering.{named, peer_name, there_and_back}
+use Rattle.pg_world_packets.proofs.Seeing.{there, turned, stays, unseen, not_lost, sight_refused, sight_seen}
+use Rattle.pg_world_packets.proofs.Sighted.{sight, sight_clock, sighted, same_wire}
+use Rattle.pg_world_packets.proofs.Sighted.{seen_then, nodes_sighted, updates_sighted}
+use Rattle.pg_world_packets.proofs.Stopped.{cut_off, cut_here, cut_else, nodes_cut, updates_cut}
+use Rattle.pg_world_packets.proofs.Stopped.{can_so, loss_happens, seen_more, lost_it, lost_others}
+use Rattle.pg_world_packets.proofs.Turning.{pair_is}
 
 -- ---- a loss is seen
 

@@ -10,54 +10,54 @@ use Rattle.std.proofs.lemmas.Bool.{ltb-false}
 use Rattle.std.proofs.lemmas.List.{get_or-replicate, length-map, length-append, map-append}
 use Rattle.std.proofs.lemmas.Option.{slice_get-map, slice_get-get_or}
 use Rattle.pg_term.specs.Same.{same_atom}
-use Rattle.pg_frame_world.specs.PgTermIo.declared.limits.TheConstants.{MAX_LEN}
-use Rattle.pg_frame_world.specs.PgTermIo.Writing.{written}
-use Rattle.pg_frame_world.specs.PgFrame.Frames.{frame}
-use Rattle.pg_frame_world.specs.PgGroup.declared.table.GroupTable.{Ghosts}
-use Rattle.pg_frame_world.specs.PgMachine.Places.{is_pair}
-use Rattle.pg_frame_world.specs.PgMachine.Machine.{start_of}
-use Rattle.pg_frame_world.specs.PgMachine.Clocked.{Stamped}
-use Rattle.pg_frame_world.specs.PgMessage.declared.fault.MessageFault.{MessageFault}
-use Rattle.pg_frame_world.specs.PgMessage.declared.fault.MessageFault.TheVariants as messages
-use Rattle.pg_frame_world.specs.PgMessage.declared.message.Message.{Message}
-use Rattle.pg_frame_world.specs.PgMessage.declared.packet.Packet.{Packet}
-use Rattle.pg_frame_world.specs.PgMessage.declared.packet.TheConstants.{MAX_STAMP}
-use Rattle.pg_frame_world.specs.PgMessage.Reading.{packet_of}
-use Rattle.pg_frame_world.specs.PgMessage.Writing.{body_of, sent, length_of, term_of_packet, is_exchange, is_sayable}
+use Rattle.pg_world_packets.specs.PgTermIo.declared.limits.TheConstants.{MAX_LEN}
+use Rattle.pg_world_packets.specs.PgTermIo.Writing.{written}
+use Rattle.pg_world_packets.specs.PgFrame.Frames.{frame}
+use Rattle.pg_world_packets.specs.PgGroup.declared.table.GroupTable.{Ghosts}
+use Rattle.pg_world_packets.specs.PgStep.Machines.Places.{is_pair}
+use Rattle.pg_world_packets.specs.PgStep.Machines.Machine.{start_of}
+use Rattle.pg_world_packets.specs.PgStep.Machines.Clocked.{Stamped}
+use Rattle.pg_world_packets.specs.PgMessageTypes.declared.fault.MessageFault.{MessageFault}
+use Rattle.pg_world_packets.specs.PgMessageTypes.declared.fault.MessageFault.TheVariants as messages
+use Rattle.pg_world_packets.specs.PgMessageTypes.declared.message.Message.{Message}
+use Rattle.pg_world_packets.specs.PgMessageTypes.declared.packet.Packet.{Packet}
+use Rattle.pg_world_packets.specs.PgMessageTypes.declared.packet.TheConstants.{MAX_STAMP}
+use Rattle.pg_world_packets.specs.PgMessageTypes.Reading.{packet_of}
+use Rattle.pg_world_packets.specs.PgMessageTypes.Writing.{body_of, sent, length_of, term_of_packet, is_exchange, is_sayable}
 use Rattle.pg_term.specs.declared.fault.TermFault.TheVariants as terms
-use Rattle.pg_frame_world.specs.PgFrame.Pieces.{ArePackets}
-use Rattle.pg_frame_world.specs.PgOpens.Places.{name_at}
-use Rattle.pg_frame_world.specs.PgStep.Config.{Config, names_of, groups_at}
-use Rattle.pg_frame_world.specs.PgStep.FrameMachine.{frame_machine}
+use Rattle.pg_world_packets.specs.PgFrame.Pieces.{ArePackets}
+use Rattle.pg_world_packets.specs.PgNodeOpens.Places.{name_at}
+use Rattle.pg_world_packets.specs.PgStep.Config.{Config, names_of, groups_at}
+use Rattle.pg_world_packets.specs.PgStep.FrameMachine.{frame_machine}
 use Rattle.pg_node.specs.declared.node.Node.{Node}
-use Rattle.pg_frame_world.specs.PgNodeState.declared.state.fault.NodeFault.{NodeFault}
+use Rattle.pg_world_packets.specs.PgNodeState.declared.state.fault.NodeFault.{NodeFault}
 use Rattle.pg_node.specs.Begun.{BeginsWith, CantBegin, IsOpened}
-use Rattle.pg_frame_world.specs.PgWriter.Frames.{frame_of}
+use Rattle.pg_world_packets.specs.PgMessageWriter.Frames.{frame_of}
 use Rattle.pg_node.specs.Links.{Link}
 use Rattle.pg_node.specs.Nodes.{held_by, links_of}
-use Rattle.pg_frame_world.specs.PgNodeState.States.{names_of as known_names}
-use Rattle.pg_frame_world.specs.PgSends.Sent.{stamped_of}
-use Rattle.pg_frame_world.specs.PgConfig.declared.fault.WorldFault.{WorldFault}
-use Rattle.pg_frame_world.specs.PgConfig.declared.fault.WorldFault.TheVariants.{BadConfig, NameTooLarge}
-use Rattle.pg_frame_world.specs.PgConfig.declared.fault.WorldFault.TheVariants.{BadCapacity, TooLong, OutOfMemory}
+use Rattle.pg_world_packets.specs.PgNodeState.States.{names_of as known_names}
+use Rattle.pg_world_packets.specs.PgNodeSends.Sent.{stamped_of}
+use Rattle.pg_world_packets.specs.PgWorldConfig.declared.fault.WorldFault.{WorldFault}
+use Rattle.pg_world_packets.specs.PgWorldConfig.declared.fault.WorldFault.TheVariants.{BadConfig, NameTooLarge}
+use Rattle.pg_world_packets.specs.PgWorldConfig.declared.fault.WorldFault.TheVariants.{BadCapacity, TooLong, OutOfMemory}
 use Rattle.pg_world.specs.BytesStart.{OpensLinks, OpensBytes, BytesBegin}
 use Rattle.pg_world.specs.Changes.{links_at}
 use Rattle.pg_world.specs.Crossings.{Crossing, node_of, idle_crossing, no_links, link_at}
 use Rattle.pg_world.specs.Crossings.{bytes_at, packet_as, packets_between, written_of, CanCross}
-use Rattle.pg_frame_world.specs.Openings.{AreReady, TellsNames, AllFit, CantOpen, CantStart, opening_fault_of}
-use Rattle.pg_frame_world.specs.PgStarts.Firsts.{seen_first, firsts}
-use Rattle.pg_frame_world.specs.Starts.{AllOpen, Begins}
-use Rattle.pg_frame_world.specs.PgStarts.Seen.{Seen}
-use Rattle.pg_frame_world.specs.Views.{fresh_view, peer_place}
-use Rattle.pg_frame_world.specs.PgAccount.Histories.{Account, no_account}
-use Rattle.pg_frame_world.specs.Worlds.{TimedFrameWorld}
-use Rattle.pg_frame_world.proofs.Fitted.{has_none, said_all}
-use Rattle.pg_frame_world.proofs.Opened.{tells_names, names_at}
-use Rattle.pg_frame_world.proofs.Ordered.{ordered_length}
-use Rattle.pg_frame_world.proofs.Peering.{known, place_within}
-use Rattle.pg_frame_world.proofs.PgStarts.Starting.{firsts_length, firsts_are}
-use Rattle.pg_frame_world.proofs.Starting.{open_more, begins}
-use Rattle.pg_frame_world.proofs.Turning.{pair_is, pair_turned}
+use Rattle.pg_world_packets.specs.Openings.{AreReady, TellsNames, AllFit, CantOpen, CantStart, opening_fault_of}
+use Rattle.pg_world_packets.specs.PgWorldConfig.Firsts.{seen_first, firsts}
+use Rattle.pg_world_packets.specs.Starts.{AllOpen, Begins}
+use Rattle.pg_world_packets.specs.PgWorldConfig.Seen.{Seen}
+use Rattle.pg_world_packets.specs.Views.{fresh_view, peer_place}
+use Rattle.pg_world_packets.specs.PgWorldAccount.Histories.{Account, no_account}
+use Rattle.pg_world_packets.specs.Worlds.{TimedFrameWorld}
+use Rattle.pg_world_packets.proofs.Fitted.{has_none, said_all}
+use Rattle.pg_world_packets.proofs.Opened.{tells_names, names_at}
+use Rattle.pg_world_packets.proofs.Ordered.{ordered_length}
+use Rattle.pg_world_packets.proofs.Peering.{known, place_within}
+use Rattle.pg_world_packets.proofs.PgWorldConfig.Starting.{firsts_length, firsts_are}
+use Rattle.pg_world_packets.proofs.Starting.{open_more, begins}
+use Rattle.pg_world_packets.proofs.Turning.{pair_is, pair_turned}
 
 -- ---- one node
 

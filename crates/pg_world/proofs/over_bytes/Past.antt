@@ -2,44 +2,44 @@
 use Rattle.std.proofs.Common.{◌≡◌, ℕ, Bool, true, false, not, ◌||◌, cond, length, List, [], ◌∷◌}
 use Rattle.std.proofs.Common.{Option, Some, None, Result, Ok, Err, refl, sym, ap, ◌∙◌, subst}
 use Rattle.std.specs.Prelude.{IfErr, nat_lt}
-use Rattle.pg_frame_world.specs.PgMachine.Places.{is_place, is_pair}
-use Rattle.pg_frame_world.specs.PgMachine.Machine.{Event, Take, Do, node_of, happens}
-use Rattle.pg_frame_world.specs.PgMachine.Losing.{LosingEvent, Step, losing_happens}
-use Rattle.pg_frame_world.proofs.PgMachine.Steps.{happened}
-use Rattle.pg_frame_world.specs.PgStep.declared.refusal.Refusal.{Refusal}
-use Rattle.pg_frame_world.specs.PgStep.declared.refusal.Refusal.TheVariants.{NoSuchPlace, NodeLost, NotDrained}
-use Rattle.pg_frame_world.specs.PgStep.declared.refusal.Refusal.TheVariants.{NotAMessage, NotWaiting, ClockFull, NotLost}
-use Rattle.pg_frame_world.specs.PgStep.Config.{Config, name_at}
-use Rattle.pg_frame_world.specs.PgStep.Faults.{first_that_holds}
-use Rattle.pg_frame_world.specs.PgStep.FrameMachine.{frame_machine, losing_frame_machine, last_notice}
-use Rattle.pg_frame_world.specs.PgStep.LossLaws.{LosingFrameWorld}
-use Rattle.pg_frame_world.specs.PgStep.Nodes.{Node}
-use Rattle.pg_frame_world.specs.PgStep.Step.{Action}
-use Rattle.pg_frame_world.specs.PgStep.StepLaws.{port_of}
-use Rattle.pg_frame_world.specs.PgNodeState.declared.state.fault.NodeFault.{NodeFault}
-use Rattle.pg_frame_world.specs.PgNodeState.declared.state.fault.NodeFault.TheVariants.{Refused, OutOfMemory}
-use Rattle.pg_frame_world.specs.PgNodeState.declared.state.fault.NodeFault.TheVariants.{Message as BadMessage, TooLong, Damaged}
-use Rattle.pg_frame_world.specs.declared.effect.Effect.{Effect}
-use Rattle.pg_frame_world.specs.declared.step.FrameStep.{FrameStep}
-use Rattle.pg_frame_world.specs.declared.step.FrameStep.TheVariants as frames
-use Rattle.pg_frame_world.specs.declared.step.Stepped.{Stepped}
-use Rattle.pg_frame_world.specs.declared.step.Stepped.TheVariants.{Happened, Moved, Nothing, Gone}
+use Rattle.pg_world_packets.specs.PgStep.Machines.Places.{is_place, is_pair}
+use Rattle.pg_world_packets.specs.PgStep.Machines.Machine.{Event, Take, Do, node_of, happens}
+use Rattle.pg_world_packets.specs.PgStep.Machines.Losing.{LosingEvent, Step, losing_happens}
+use Rattle.pg_world_packets.proofs.PgStep.Machines.Steps.{happened}
+use Rattle.pg_world_packets.specs.PgStep.declared.refusal.Refusal.{Refusal}
+use Rattle.pg_world_packets.specs.PgStep.declared.refusal.Refusal.TheVariants.{NoSuchPlace, NodeLost, NotDrained}
+use Rattle.pg_world_packets.specs.PgStep.declared.refusal.Refusal.TheVariants.{NotAMessage, NotWaiting, ClockFull, NotLost}
+use Rattle.pg_world_packets.specs.PgStep.Config.{Config, name_at}
+use Rattle.pg_world_packets.specs.PgStep.Faults.{first_that_holds}
+use Rattle.pg_world_packets.specs.PgStep.FrameMachine.{frame_machine, losing_frame_machine, last_notice}
+use Rattle.pg_world_packets.specs.PgStep.LossLaws.{LosingFrameWorld}
+use Rattle.pg_world_packets.specs.PgStep.Nodes.{Node}
+use Rattle.pg_world_packets.specs.PgStep.Step.{Action}
+use Rattle.pg_world_packets.specs.PgStep.StepLaws.{port_of}
+use Rattle.pg_world_packets.specs.PgNodeState.declared.state.fault.NodeFault.{NodeFault}
+use Rattle.pg_world_packets.specs.PgNodeState.declared.state.fault.NodeFault.TheVariants.{Refused, OutOfMemory}
+use Rattle.pg_world_packets.specs.PgNodeState.declared.state.fault.NodeFault.TheVariants.{Message as BadMessage, TooLong, Damaged}
+use Rattle.pg_world_packets.specs.declared.effect.Effect.{Effect}
+use Rattle.pg_world_packets.specs.declared.step.FrameStep.{FrameStep}
+use Rattle.pg_world_packets.specs.declared.step.FrameStep.TheVariants as frames
+use Rattle.pg_world_packets.specs.declared.step.Stepped.{Stepped}
+use Rattle.pg_world_packets.specs.declared.step.Stepped.TheVariants.{Happened, Moved, Nothing, Gone}
 use Rattle.pg_world.specs.Bars.{IsFaultOf, put_bar, pull_bar}
 use Rattle.pg_world.specs.BytesLosing.{ShowsLosingBytes, MoveLeaves, WholeComesTo, SightComesTo}
 use Rattle.pg_world.specs.BytesLosing.{EventLeaves, LossComesTo, put_refusal, pull_refusal, gone_refusal}
 use Rattle.pg_world.specs.Crossings.{Crossing, ShowsBytes, ShowsBytesPast, EventComesTo, MoveComesTo, LossLeaves, is_take}
-use Rattle.pg_frame_world.specs.Effects.{effect_in, losing_effect_in}
-use Rattle.pg_frame_world.specs.Losing.{SeenAreLost, account_with, formed_at, losing_of, is_cut_off, is_barred, Telling}
-use Rattle.pg_frame_world.specs.Losing.{told_take, told_own, told_of, LosingLed, LosingComesTo}
-use Rattle.pg_frame_world.specs.PgAccount.Losses.{is_lost}
-use Rattle.pg_frame_world.specs.PgAccount.Histories.{Account, account_formed}
-use Rattle.pg_frame_world.specs.PgStarts.Seen.{Seen}
-use Rattle.pg_frame_world.specs.Worlds.{TimedFrameWorld, ShowsNodes, ShowsUpdates, has_port, has_places, told_event}
-use Rattle.pg_frame_world.proofs.Barred.{cut_is, barred_told, unplaced_told, take_cut, either_stays}
-use Rattle.pg_frame_world.proofs.Barred.{take_refused_so, take_busy_so, own_refused_so}
-use Rattle.pg_frame_world.proofs.Lossy.{lifted, same_effect, lost_kept}
-use Rattle.pg_frame_world.proofs.Stopped.{updates_formed}
-use Rattle.pg_frame_world.proofs.Turning.{pair_turned}
+use Rattle.pg_world_packets.specs.Effects.{effect_in, losing_effect_in}
+use Rattle.pg_world_packets.specs.Losing.{SeenAreLost, account_with, formed_at, losing_of, is_cut_off, is_barred, Telling}
+use Rattle.pg_world_packets.specs.Losing.{told_take, told_own, told_of, LosingLed, LosingComesTo}
+use Rattle.pg_world_packets.specs.PgWorldAccount.Losses.{is_lost}
+use Rattle.pg_world_packets.specs.PgWorldAccount.Histories.{Account, account_formed}
+use Rattle.pg_world_packets.specs.PgWorldConfig.Seen.{Seen}
+use Rattle.pg_world_packets.specs.Worlds.{TimedFrameWorld, ShowsNodes, ShowsUpdates, has_port, has_places, told_event}
+use Rattle.pg_world_packets.proofs.Barred.{cut_is, barred_told, unplaced_told, take_cut, either_stays}
+use Rattle.pg_world_packets.proofs.Barred.{take_refused_so, take_busy_so, own_refused_so}
+use Rattle.pg_world_packets.proofs.Lossy.{lifted, same_effect, lost_kept}
+use Rattle.pg_world_packets.proofs.Stopped.{updates_formed}
+use Rattle.pg_world_packets.proofs.Turning.{pair_turned}
 
 -- ---- bytes that should move
 

@@ -2,38 +2,38 @@
 use Rattle.std.proofs.Common.{◌≡◌, inl, inr, ℕ, cond, Option, Result, Ok, Err}
 use Rattle.std.proofs.Common.{refl, sym, ap, subst, true, false, List, []}
 use Rattle.std.specs.Option.{option_map_or}
-use Rattle.pg_frame_world.specs.PgMachine.Losing.{LosingEvent, Lose, nobody_gone}
-use Rattle.pg_frame_world.specs.PgStep.declared.refusal.Refusal.{Refusal}
-use Rattle.pg_frame_world.specs.PgStep.declared.refusal.Refusal.TheVariants.{NoSuchPlace, NodeLost, NotDrained}
-use Rattle.pg_frame_world.specs.PgStep.declared.refusal.Refusal.TheVariants.{NotAMessage, NotWaiting, ClockFull, NotLost}
-use Rattle.pg_frame_world.specs.PgStep.Config.{Config, names_of}
-use Rattle.pg_frame_world.specs.PgStep.Faults.{refusal_number_of}
-use Rattle.pg_frame_world.specs.PgStep.LossLaws.{LosingFrameWorld}
-use Rattle.pg_frame_world.specs.PgStep.Step.{Action}
-use Rattle.pg_frame_world.specs.PgNodeState.NodeFault.{node_number_of}
-use Rattle.pg_frame_world.specs.PgNodeState.declared.state.fault.NodeFault.{NodeFault}
-use Rattle.pg_frame_world.specs.PgNodeState.declared.state.fault.NodeFault.TheVariants.{Refused, OutOfMemory}
-use Rattle.pg_frame_world.specs.PgNodeState.declared.state.fault.NodeFault.TheVariants.{Message as BadMessage, TooLong, Damaged}
-use Rattle.pg_frame_world.specs.declared.step.FrameStep.TheVariants as frames
+use Rattle.pg_world_packets.specs.PgStep.Machines.Losing.{LosingEvent, Lose, nobody_gone}
+use Rattle.pg_world_packets.specs.PgStep.declared.refusal.Refusal.{Refusal}
+use Rattle.pg_world_packets.specs.PgStep.declared.refusal.Refusal.TheVariants.{NoSuchPlace, NodeLost, NotDrained}
+use Rattle.pg_world_packets.specs.PgStep.declared.refusal.Refusal.TheVariants.{NotAMessage, NotWaiting, ClockFull, NotLost}
+use Rattle.pg_world_packets.specs.PgStep.Config.{Config, names_of}
+use Rattle.pg_world_packets.specs.PgStep.Faults.{refusal_number_of}
+use Rattle.pg_world_packets.specs.PgStep.LossLaws.{LosingFrameWorld}
+use Rattle.pg_world_packets.specs.PgStep.Step.{Action}
+use Rattle.pg_world_packets.specs.PgNodeState.NodeFault.{node_number_of}
+use Rattle.pg_world_packets.specs.PgNodeState.declared.state.fault.NodeFault.{NodeFault}
+use Rattle.pg_world_packets.specs.PgNodeState.declared.state.fault.NodeFault.TheVariants.{Refused, OutOfMemory}
+use Rattle.pg_world_packets.specs.PgNodeState.declared.state.fault.NodeFault.TheVariants.{Message as BadMessage, TooLong, Damaged}
+use Rattle.pg_world_packets.specs.declared.step.FrameStep.TheVariants as frames
 use Rattle.pg_world.specs.declared.step.Step.{Step}
 use Rattle.pg_world.specs.declared.step.Step.TheVariants as steps
-use Rattle.pg_frame_world.specs.declared.step.Stepped.{Stepped}
-use Rattle.pg_frame_world.specs.declared.step.Stepped.TheVariants.{Happened, Moved, Nothing, Gone}
+use Rattle.pg_world_packets.specs.declared.step.Stepped.{Stepped}
+use Rattle.pg_world_packets.specs.declared.step.Stepped.TheVariants.{Happened, Moved, Nothing, Gone}
 use Rattle.pg_world.specs.BytesLosing.{MoveLeaves, WholeComesTo, SightComesTo, LossComesTo, StepLeaves}
 use Rattle.pg_world.specs.BytesLosing.{put_refusal, pull_refusal, gone_refusal, ShowsLosingBytes}
 use Rattle.pg_world.specs.BytesLosingRuns.{bytes_past_losses, IsBytesEvent, IsBytesLeftOut, HasNumber, IsLossOf}
-use Rattle.pg_frame_world.specs.Losing.{Telling, LosingComesTo, told_of, told_take, told_sight, IsReachedLosing}
-use Rattle.pg_frame_world.specs.LosingRuns.{LosingStepsTo, IsToldEvent, IsLeftOut, LosingGoesTo, RanLosing}
+use Rattle.pg_world_packets.specs.Losing.{Telling, LosingComesTo, told_of, told_take, told_sight, IsReachedLosing}
+use Rattle.pg_world_packets.specs.LosingRuns.{LosingStepsTo, IsToldEvent, IsLeftOut, LosingGoesTo, RanLosing}
 use Rattle.std.specs.List.{IsDistinct}
 use Rattle.pg_term.specs.Same.{same_atom}
-use Rattle.pg_frame_world.specs.PgMachine.Machine.{start_of}
-use Rattle.pg_frame_world.specs.PgStep.FrameMachine.{frame_machine, losing_frame_machine}
-use Rattle.pg_frame_world.specs.PgLoss.Reached.{LosingReaches}
-use Rattle.pg_frame_world.specs.PgRetries.Survived.{LossesSurvived}
+use Rattle.pg_world_packets.specs.PgStep.Machines.Machine.{start_of}
+use Rattle.pg_world_packets.specs.PgStep.FrameMachine.{frame_machine, losing_frame_machine}
+use Rattle.pg_world_packets.specs.PgLawsLosses.Reached.{LosingReaches}
+use Rattle.pg_world_packets.specs.PgLawsLosses.Retrying.Survived.{LossesSurvived}
 use Rattle.pg_world.specs.BytesStart.{BytesBegin}
 use Rattle.pg_world.specs.Crossings.{Crossing}
-use Rattle.pg_frame_world.specs.PgAccount.Histories.{Account}
-use Rattle.pg_frame_world.proofs.LosingRunning.{ran_past_so, start_is}
+use Rattle.pg_world_packets.specs.PgWorldAccount.Histories.{Account}
+use Rattle.pg_world_packets.proofs.LosingRunning.{ran_past_so, start_is}
 
 -- what came of a step, by its number: it is no fault, or the fault's number
 abbrev numbered : Result Stepped NodeFault → ℕ

@@ -2,27 +2,27 @@
 use Rattle.std.proofs.Common.{◌≡◌, ◌≢◌, ℕ, ◌+◌, ◌<◌, true, false, get_or}
 use Rattle.std.proofs.Common.{length, List, Result, refl, sym, ap, ◌∙◌, subst}
 use Rattle.std.specs.Prelude.{slice_set}
-use Rattle.pg_frame_world.specs.PgGroup.declared.table.GroupTable.{Ghosts}
-use Rattle.pg_frame_world.specs.PgMachine.Places.{is_pair}
-use Rattle.pg_frame_world.specs.PgMachine.Clocked.{Timed}
-use Rattle.pg_frame_world.specs.PgOpens.Places.{name_at}
-use Rattle.pg_frame_world.specs.PgStep.Config.{Config}
-use Rattle.pg_frame_world.specs.PgStep.State.{State}
+use Rattle.pg_world_packets.specs.PgGroup.declared.table.GroupTable.{Ghosts}
+use Rattle.pg_world_packets.specs.PgStep.Machines.Places.{is_pair}
+use Rattle.pg_world_packets.specs.PgStep.Machines.Clocked.{Timed}
+use Rattle.pg_world_packets.specs.PgNodeOpens.Places.{name_at}
+use Rattle.pg_world_packets.specs.PgStep.Config.{Config}
+use Rattle.pg_world_packets.specs.PgStep.State.{State}
 use Rattle.pg_node.specs.declared.node.Node.{Node}
-use Rattle.pg_frame_world.specs.PgSends.Dones.{FramedDone}
-use Rattle.pg_frame_world.specs.PgNodeState.declared.state.fault.NodeFault.{NodeFault}
+use Rattle.pg_world_packets.specs.PgNodeSends.Dones.{FramedDone}
+use Rattle.pg_world_packets.specs.PgNodeState.declared.state.fault.NodeFault.{NodeFault}
 use Rattle.pg_node.specs.Bytes.{closed}
 use Rattle.pg_node.specs.Links.{Link, at_link}
 use Rattle.pg_node.specs.Nodes.{held_by, links_of, step_lose}
-use Rattle.pg_frame_world.specs.PgNodeState.States.{names_of, state_of, answers_of, Comes}
+use Rattle.pg_world_packets.specs.PgNodeState.States.{names_of, state_of, answers_of, Comes}
 use Rattle.pg_world.specs.declared.rings.Rings.{Rings}
 use Rattle.pg_world.specs.Crossings.{crossing_in, node_of, link_at, bytes_at}
-use Rattle.pg_frame_world.specs.PgAccount.Losses.{is_lost}
-use Rattle.pg_frame_world.specs.Views.{peer_place, place_of_peer}
-use Rattle.pg_frame_world.specs.Worlds.{TimedFrameWorld, ShowsNodes}
+use Rattle.pg_world_packets.specs.PgWorldAccount.Losses.{is_lost}
+use Rattle.pg_world_packets.specs.Views.{peer_place, place_of_peer}
+use Rattle.pg_world_packets.specs.Worlds.{TimedFrameWorld, ShowsNodes}
 use Rattle.pg_world.proofs.Linked.{seen_there, changed_else, part_kept}
-use Rattle.pg_frame_world.proofs.Peering.{there_and_back}
-use Rattle.pg_frame_world.proofs.Turning.{pair_is}
+use Rattle.pg_world_packets.proofs.Peering.{there_and_back}
+use Rattle.pg_world_packets.proofs.Turning.{pair_is}
 
 -- the clock of a peer
 pub peer_clock : (config : Config) {T : Type 0} {g : Ghosts T} (nodes : List (Node T g)) (rings : List Rings) (p : ℕ) (node : Node T g) (w : TimedFrameWorld)

@@ -1,17 +1,17 @@
 -- What comes of an event over bytes that names a place that is not there, or for which memory ran out.
 use Rattle.std.proofs.Common.{◌≡◌, true, false, Err, refl, sym, ap, ◌∙◌}
 use Rattle.std.specs.Prelude.{List}
-use Rattle.pg_frame_world.specs.PgMachine.Places.{is_place, is_pair}
-use Rattle.pg_frame_world.specs.PgStep.Config.{Config}
-use Rattle.pg_frame_world.specs.PgStep.Step.{Issue, Retry}
-use Rattle.pg_frame_world.specs.PgStep.declared.refusal.Refusal.TheVariants.{NoSuchPlace}
-use Rattle.pg_frame_world.specs.PgNodeState.declared.state.fault.NodeFault.TheVariants.{Refused, OutOfMemory}
-use Rattle.pg_frame_world.specs.declared.step.FrameStep.{FrameStep}
-use Rattle.pg_frame_world.specs.declared.step.FrameStep.TheVariants as steps
-use Rattle.pg_frame_world.specs.PgStarts.Seen.{Seen}
-use Rattle.pg_frame_world.specs.Worlds.{TimedFrameWorld, ShowsNodes, has_places}
+use Rattle.pg_world_packets.specs.PgStep.Machines.Places.{is_place, is_pair}
+use Rattle.pg_world_packets.specs.PgStep.Config.{Config}
+use Rattle.pg_world_packets.specs.PgStep.Step.{Issue, Retry}
+use Rattle.pg_world_packets.specs.PgStep.declared.refusal.Refusal.TheVariants.{NoSuchPlace}
+use Rattle.pg_world_packets.specs.PgNodeState.declared.state.fault.NodeFault.TheVariants.{Refused, OutOfMemory}
+use Rattle.pg_world_packets.specs.declared.step.FrameStep.{FrameStep}
+use Rattle.pg_world_packets.specs.declared.step.FrameStep.TheVariants as steps
+use Rattle.pg_world_packets.specs.PgWorldConfig.Seen.{Seen}
+use Rattle.pg_world_packets.specs.Worlds.{TimedFrameWorld, ShowsNodes, has_places}
 use Rattle.pg_world.specs.Crossings.{FrameComesTo}
-use Rattle.pg_frame_world.proofs.Unplaced.{acts_nowhere, taken_nowhere, unseen_nowhere}
+use Rattle.pg_world_packets.proofs.Unplaced.{acts_nowhere, taken_nowhere, unseen_nowhere}
 
 module _ (config : Config) (nodes : List Seen) (w : TimedFrameWorld) (shows : ShowsNodes config nodes w) where
   pub unplaced_event : (step : FrameStep) (Shown : TimedFrameWorld → Type 0) → has_places nodes step ≡ false → Shown w → FrameComesTo config w step (Err (Refused NoSuchPlace)) Shown

@@ -1,26 +1,26 @@
 //! How a world of bytes begins.
 
 ghost use Rattle.std.specs.Prelude.{◌≡◌, [], true, ◌<◌, ◌-◌, ℕ, IfOk, IfErr, length, map, get_or};
-ghost use Rattle.pg_frame_world.specs.PgRing.Capacity.{IsCapacity};
-ghost use Rattle.pg_frame_world.specs.PgStep.Config.{IsConfig};
+ghost use Rattle.pg_world_packets.specs.PgRing.Capacity.{IsCapacity};
+ghost use Rattle.pg_world_packets.specs.PgStep.Config.{IsConfig};
 ghost use Rattle.pg_node.specs.Nodes.{links_of};
 ghost use Rattle.pg_world.specs.Crossings.{node_of, no_links, idle_crossing};
-ghost use Rattle.pg_frame_world.specs.PgAccount.Histories.{no_account};
-ghost use Rattle.pg_frame_world.specs.Openings.{AreReady, CantOpen, CantStart, opening_fault_of};
-ghost use Rattle.pg_frame_world.specs.PgStarts.Firsts.{seen_first, firsts};
+ghost use Rattle.pg_world_packets.specs.PgWorldAccount.Histories.{no_account};
+ghost use Rattle.pg_world_packets.specs.Openings.{AreReady, CantOpen, CantStart, opening_fault_of};
+ghost use Rattle.pg_world_packets.specs.PgWorldConfig.Firsts.{seen_first, firsts};
 ghost use Rattle.pg_world.specs.BytesStart.{OpensLinks};
 
 use crate::bytes::ByteNodes;
-use pg_frame_world::{Config, IndexTable, Start, WorldFault, node_at, ready};
 use pg_node::{Node, NodeFault};
+use pg_world_packets::{Config, IndexTable, Start, WorldFault, node_at, ready};
 use std::alloc::Global;
 
 impl ByteNodes<IndexTable> {
-    ghost use Rattle.pg_frame_world.specs.PgAccount.Histories.{account_of};
+    ghost use Rattle.pg_world_packets.specs.PgWorldAccount.Histories.{account_of};
     ghost use Rattle.pg_world.specs.BytesStart.{BytesBegin, OpensBytes};
     ghost use Rattle.pg_world.specs.Crossings.{crossing_of, room_of};
-    ghost use Rattle.pg_frame_world.specs.PgAccount.Losses.{lost_in};
-    ghost use Rattle.pg_frame_world.specs.Openings.{AllFit, CantBegin, CantStart, AreReady};
+    ghost use Rattle.pg_world_packets.specs.PgWorldAccount.Losses.{lost_in};
+    ghost use Rattle.pg_world_packets.specs.Openings.{AllFit, CantBegin, CantStart, AreReady};
 
     /// The nodes of a configuration as they start, where what each of them announces of its groups is in its outbox
     /// to each other, and the ring from each to each other is empty.
@@ -68,7 +68,7 @@ impl ByteNodes<IndexTable> {
     }
 }
 
-ghost use Rattle.pg_frame_world.specs.Openings.{AllFit as AllFitFrames, CantBegin as CantBeginWith, have_few};
+ghost use Rattle.pg_world_packets.specs.Openings.{AllFit as AllFitFrames, CantBegin as CantBeginWith, have_few};
 ghost use Rattle.pg_world.specs.BytesStart.{BytesBegin as BytesBeginOf};
 
 /// The nodes of a configuration as they start over bytes, by their places, for who moves the bytes between them: what

@@ -4,32 +4,32 @@ ghost use Rattle.std.specs.Prelude.{◌≡◌, true, false, Err, IfErr, IfOk, le
 ghost use Rattle.std.specs.List.{list_all};
 
 use crate::bytes::ByteNodes;
-use pg_frame_world::{
+use pg_node::{Done, Framed, NodeFault};
+use pg_term::Term;
+use pg_world_packets::{
     Effect, Entry, FrameStep, GroupTable, Packet, Refusal, Stepped, front_is_first_of_cut,
     loss_cuts_packets, peer_place,
 };
-use pg_node::{Done, Framed, NodeFault};
-use pg_term::Term;
 use std::alloc::AllocError;
 
 impl<T: GroupTable + Drop> ByteNodes<T> {
-    ghost use Rattle.pg_frame_world.specs.PgMachine.Places.{is_pair};
-    ghost use Rattle.pg_frame_world.specs.PgStep.Config.{Config};
-    ghost use Rattle.pg_frame_world.specs.PgStep.LossLaws.{LosingFrameWorld};
+    ghost use Rattle.pg_world_packets.specs.PgStep.Machines.Places.{is_pair};
+    ghost use Rattle.pg_world_packets.specs.PgStep.Config.{Config};
+    ghost use Rattle.pg_world_packets.specs.PgStep.LossLaws.{LosingFrameWorld};
     ghost use Rattle.pg_world.specs.BytesLosing.{ShowsLosingBytes, SightComesTo, LossComesTo};
     ghost use Rattle.pg_world.specs.Bars.{IsFaultOf, RefusesBarred, TellsUndrained, has_bytes, sight_bar, loss_bar};
-    ghost use Rattle.pg_frame_world.specs.PgStep.declared.refusal.Refusal.TheVariants.{NotLost};
-    ghost use Rattle.pg_frame_world.specs.PgNodeState.declared.state.fault.NodeFault.TheVariants.{Refused};
+    ghost use Rattle.pg_world_packets.specs.PgStep.declared.refusal.Refusal.TheVariants.{NotLost};
+    ghost use Rattle.pg_world_packets.specs.PgNodeState.declared.state.fault.NodeFault.TheVariants.{Refused};
     ghost use Rattle.pg_world.specs.Changes.{SightChanges};
-    ghost use Rattle.pg_frame_world.specs.declared.step.FrameStep.TheVariants.{SeeLoss};
+    ghost use Rattle.pg_world_packets.specs.declared.step.FrameStep.TheVariants.{SeeLoss};
     ghost use Rattle.pg_world.specs.Crossings.{crossing_of, room_of, bytes_at};
-    ghost use Rattle.pg_frame_world.specs.PgAccount.Histories.{account_of};
-    ghost use Rattle.pg_frame_world.specs.PgAccount.Losses.{lost_in, is_lost};
-    ghost use Rattle.pg_frame_world.specs.Losing.{told_sight, lost_with, seen_at, is_cut_off, is_barred};
-    ghost use Rattle.pg_frame_world.specs.PgAccount.Histories.{as_entry, is_among};
-    ghost use Rattle.pg_frame_world.specs.Losing.{account_with, formed_at, is_formed};
-    ghost use Rattle.pg_frame_world.specs.Past.{has_seen_in, missed_in};
-    ghost use Rattle.pg_frame_world.specs.Worlds.{has_places};
+    ghost use Rattle.pg_world_packets.specs.PgWorldAccount.Histories.{account_of};
+    ghost use Rattle.pg_world_packets.specs.PgWorldAccount.Losses.{lost_in, is_lost};
+    ghost use Rattle.pg_world_packets.specs.Losing.{told_sight, lost_with, seen_at, is_cut_off, is_barred};
+    ghost use Rattle.pg_world_packets.specs.PgWorldAccount.Histories.{as_entry, is_among};
+    ghost use Rattle.pg_world_packets.specs.Losing.{account_with, formed_at, is_formed};
+    ghost use Rattle.pg_world_packets.specs.Past.{has_seen_in, missed_in};
+    ghost use Rattle.pg_world_packets.specs.Worlds.{has_places};
 
     /// Whether an event is one of a node that is lost, or one with a peer whose loss the node has seen.
     pub(crate) fn is_barred(&self, event: &FrameStep) -> bool

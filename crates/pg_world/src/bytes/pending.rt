@@ -3,15 +3,15 @@
 ghost use Rattle.std.specs.Prelude.{◌≡◌, IfOk};
 
 use crate::bytes::ByteNodes;
-use pg_frame_world::{GroupTable, pending_among};
 use pg_node::NodeState;
 use pg_term::Pid;
+use pg_world_packets::{GroupTable, pending_among};
 use std::alloc::AllocError;
 
 impl<T: GroupTable + Drop> ByteNodes<T> {
     ghost use Rattle.pg_world.specs.Crossings.{crossing_of};
-    ghost use Rattle.pg_frame_world.specs.PgAccount.Losses.{lost_in};
-    ghost use Rattle.pg_frame_world.specs.Pending.{lent_as, live_states, pending_of};
+    ghost use Rattle.pg_world_packets.specs.PgWorldAccount.Losses.{lost_in};
+    ghost use Rattle.pg_world_packets.specs.Pending.{lent_as, live_states, pending_of};
 
     /// The ends that are pending: each is that of a process whose home has it, and which some node has not. Of nodes
     /// that are lost nothing counts. They are listed home by home, and by number at each.

@@ -1,22 +1,22 @@
 //! Runs of steps over bytes from a configuration.
 
 ghost use Rattle.std.specs.Prelude.{◌≡◌, [], false, IfOk, IfErr, length};
-ghost use Rattle.pg_frame_world.specs.PgRing.Capacity.{IsCapacity};
-ghost use Rattle.pg_frame_world.specs.PgStep.Config.{Config as Configuration, IsConfig};
+ghost use Rattle.pg_world_packets.specs.PgRing.Capacity.{IsCapacity};
+ghost use Rattle.pg_world_packets.specs.PgStep.Config.{Config as Configuration, IsConfig};
 ghost use Rattle.pg_world.specs.BytesLosing.{ShowsLosingBytes as shows_losing};
 ghost use Rattle.pg_world.specs.BytesLosingRuns.{bytes_past_losses as over_bytes_past};
 ghost use Rattle.pg_world.specs.ByteWorlds.{account_of as kept_of, crossing_of as shown_by};
 ghost use Rattle.pg_world.specs.ByteWorlds.{given_of as given_by, lost_of as lost_by, room_of as room_in};
 ghost use Rattle.pg_world.specs.Crossings.{ShowsBytes as shows_bytes};
 ghost use Rattle.pg_world.specs.CrossingRuns.{AreLeft as AreLeftBy, RanCrossing};
-ghost use Rattle.pg_frame_world.specs.LosingRuns.{RanLosing};
-ghost use Rattle.pg_frame_world.specs.Openings.{AllFit, CantBegin};
-ghost use Rattle.pg_frame_world.specs.Runs.{Ran};
+ghost use Rattle.pg_world_packets.specs.LosingRuns.{RanLosing};
+ghost use Rattle.pg_world_packets.specs.Openings.{AllFit, CantBegin};
+ghost use Rattle.pg_world_packets.specs.Runs.{Ran};
 ghost use Rattle.pg_world.specs.BytesRuns.{NobodyLost as NoneIsLost, over_bytes};
 
 use crate::byte_world::World;
 use crate::step::Step;
-use pg_frame_world::{
+use pg_world_packets::{
     Config, GroupTable, IndexTable, WorldFault, each_world_past_losses, one_history,
 };
 use std::alloc::Global;
@@ -24,18 +24,18 @@ use std::alloc::Global;
 impl<T: GroupTable + Drop> World<T> {
     ghost use Rattle.pg_world.specs.ByteWorlds.{account_of, crossing_of, given_of, lost_of, room_of};
     ghost use Rattle.pg_world.specs.Crossings.{ShowsBytes, is_loss_in};
-    ghost use Rattle.pg_frame_world.specs.Worlds.{IsReached};
-    ghost use Rattle.pg_frame_world.specs.PgStep.LossLaws.{LosingFrameWorld};
+    ghost use Rattle.pg_world_packets.specs.Worlds.{IsReached};
+    ghost use Rattle.pg_world_packets.specs.PgStep.LossLaws.{LosingFrameWorld};
     ghost use Rattle.pg_world.specs.BytesLosing.{ShowsLosingBytes};
-    ghost use Rattle.pg_frame_world.specs.Losing.{IsReachedLosing};
+    ghost use Rattle.pg_world_packets.specs.Losing.{IsReachedLosing};
     ghost use Rattle.pg_world.specs.BytesLosingRuns.{bytes_past_losses};
-    ghost use Rattle.pg_frame_world.specs.LosingRuns.{LosingStepsTo, LosingGoesTo};
+    ghost use Rattle.pg_world_packets.specs.LosingRuns.{LosingStepsTo, LosingGoesTo};
     ghost use Rattle.pg_world.specs.CrossingRuns.{AreLeft, Crosses, CrossesAll};
-    ghost use Rattle.pg_frame_world.specs.Past.{HistoriesGrow};
+    ghost use Rattle.pg_world_packets.specs.Past.{HistoriesGrow};
     ghost use Rattle.pg_world.specs.BytesPast.{BytesCrossOn};
-    ghost use Rattle.pg_frame_world.specs.Runs.{StepsTo, GoesTo};
+    ghost use Rattle.pg_world_packets.specs.Runs.{StepsTo, GoesTo};
     ghost use Rattle.pg_world.specs.BytesRuns.{NobodyLost, over_bytes};
-    ghost use Rattle.pg_frame_world.specs.Worlds.{TimedFrameWorld};
+    ghost use Rattle.pg_world_packets.specs.Worlds.{TimedFrameWorld};
 
     /// Makes steps, one after another, and writes the number of each in its place: 0 where it happened, bytes moved,
     /// or no whole packet had come; else that of its fault. A step that is refused changes nothing of what the world

@@ -1,7 +1,7 @@
 use Rattle.std.proofs.Common.{◌<◌, ℕ, get_or}
 use Rattle.pg_ring.specs.declared.slot_in.SlotIn.{SlotIn}
 use Rattle.pg_ring.specs.declared.slot_out.SlotOut.{SlotOut}
-use Rattle.pg_joining.specs.PgRun.declared.notices.Notice.{Notice}
+use Rattle.pg_cluster_judges.specs.PgNodeRun.declared.notices.Notice.{Notice}
 use Rattle.pg_cluster.specs.Notices.{Told}
 use Rattle.pg_cluster.proofs.Telling.{TellersRest, InletsRest}
 use Rattle.pg_cluster.proofs.notices.settle_notices.Given as goal

@@ -1,7 +1,7 @@
 use Rattle.std.proofs.Common.{◌<◌, ℕ, get_or}
-use Rattle.pg_joining.specs.PgRun.declared.port.Client.{Client}
-use Rattle.pg_joining.specs.PgRun.declared.port.Port.{Port}
-use Rattle.pg_joining.specs.PgRun.Ports.{Meets}
+use Rattle.pg_cluster_judges.specs.PgNodeRun.declared.port.Client.{Client}
+use Rattle.pg_cluster_judges.specs.PgNodeRun.declared.port.Port.{Port}
+use Rattle.pg_cluster_judges.specs.PgNodeRun.Ports.{Meets}
 use Rattle.pg_cluster.specs.Clients.{ClientsRest}
 use Rattle.pg_cluster.proofs.SettlingPorts.{PortsRest}
 use Rattle.pg_cluster.proofs.pairs.settle_ports.Given as goal

@@ -1,6 +1,6 @@
 use Rattle.std.proofs.Common.{rules, ◌≡◌, ◌∙◌, length, subst, sym}
 use Rattle.pg_cluster.specs.Rows.{RowsWired}
-use Rattle.pg_cluster.proofs.Judging.{of_ok}
+use Rattle.pg_cluster_judges.proofs.Judging.{of_ok}
 use Rattle.pg_cluster.proofs.Making.{are_made, rings_of, rows_fit, shortage_of}
 use Rattle.pg_cluster.proofs.runs.make.Goals as goal
 

@@ -2,7 +2,7 @@ use Rattle.std.proofs.Common.{rules, arith, ◌≡◌, ◌+◌, ◌∷◌, ◌++
 use Rattle.std.proofs.Common.{map, ap, sym, ◌∙◌, append_assoc, length-append}
 use Rattle.std.proofs.lemmas.List.{length-map}
 use Rattle.std.specs.Vec.Iter.{into_iter_items}
-use Rattle.pg_joining.specs.PgRun.Runs.{generator_of}
+use Rattle.pg_cluster_judges.specs.PgNodeRun.Runs.{generator_of}
 use Rattle.pg_cluster.specs.Threads.{HasLinks, node_in, row_in}
 use Rattle.pg_cluster.proofs.Making.{lists}
 use Rattle.pg_cluster.proofs.Paired.{pairs_here}

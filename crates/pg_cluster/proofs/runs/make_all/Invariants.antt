@@ -2,8 +2,8 @@ use Rattle.std.proofs.Common.{◌≡◌, ◌+◌, ◌++◌, [], length, map}
 use Rattle.std.specs.List.{All}
 use Rattle.std.specs.Vec.Iter.{into_iter_items, into_iter_len}
 use Rattle.pg_cluster.specs.Clients.{AllPairs, IsOpenClient}
-use Rattle.pg_joining.specs.PgRun.Notices.{IsUntold}
-use Rattle.pg_joining.specs.PgRun.Runs.{generator_of, notices_at, notices_of}
+use Rattle.pg_cluster_judges.specs.PgNodeRun.Notices.{IsUntold}
+use Rattle.pg_cluster_judges.specs.PgNodeRun.Runs.{generator_of, notices_at, notices_of}
 use Rattle.pg_cluster.specs.Notices.{IsFresh}
 use Rattle.pg_cluster.specs.Threads.{node_in, row_in, log_in, ports_of_runs}
 use Rattle.pg_cluster.proofs.runs.make_all.Given as goal

@@ -4,10 +4,10 @@ use Rattle.pg_explore.specs.declared.moves.Move.{Move}
 use Rattle.pg_explore.specs.Listings.{AddsOpen, IsMoveOfPeer}
 use Rattle.pg_explore.specs.Moments.{sight_of}
 use Rattle.std.proofs.lemmas.List.{length-map}
-use Rattle.pg_frame_world.specs.PgMachine.Places.{is_pair}
+use Rattle.pg_world_packets.specs.PgStep.Machines.Places.{is_pair}
 use Rattle.pg_explore.specs.Moments.{progress_of}
-use Rattle.pg_frame_world.specs.FrameWorlds.{traffic_of}
-use Rattle.pg_frame_world.specs.Views.{on_the_way}
+use Rattle.pg_world_packets.specs.FrameWorlds.{traffic_of}
+use Rattle.pg_world_packets.specs.Views.{on_the_way}
 use Rattle.pg_explore.proofs.Opening.{take_open, sight_open}
 use Rattle.pg_explore.proofs.listing.add_peer.Goals as goal
 

@@ -3,7 +3,7 @@ use Rattle.std.proofs.Common.{◌≡◌, ◌≢◌, ◌<◌, ◌≤◌, ℕ, ◌
 use Rattle.std.proofs.Common.{map, take, get_or, max, refl, sym, ap, ap₂, ◌∙◌, inl, inr, subst, arith}
 use Rattle.std.proofs.lemmas.List.{get_or_read, take_all, take_more}
 use Rattle.std.specs.List.{Contains}
-use Rattle.pg_frame_world.specs.PgStep.declared.command.OpId.{OpId}
+use Rattle.pg_world_packets.specs.PgStep.declared.command.OpId.{OpId}
 use Rattle.pg_explore.specs.declared.moves.Move.{Move}
 use Rattle.pg_explore.specs.declared.moves.Move.TheVariants.{Retry}
 use Rattle.pg_explore.specs.Listings.{ListsWanted, sight_waits_at}

@@ -2,8 +2,8 @@ use Rattle.std.proofs.Common.{◌≡◌, ◌≢◌, ◌<◌, ◌≤◌, ℕ, ◌
 use Rattle.std.proofs.Common.{map, take, get_or, max, refl, sym, ap, ap₂, ◌∙◌, inl, inr, subst, arith}
 use Rattle.std.specs.Prelude.{option_map, slice_get, Option, Some}
 use Rattle.std.specs.Option.{option_copied}
-use Rattle.pg_frame_world.specs.FrameWorlds.{traffic_of}
-use Rattle.pg_frame_world.specs.PgStarts.Seen.{seen_of}
+use Rattle.pg_world_packets.specs.FrameWorlds.{traffic_of}
+use Rattle.pg_world_packets.specs.PgWorldConfig.Seen.{seen_of}
 use Rattle.pg_explore.proofs.Sized.{many_names, pair_is}
 use Rattle.pg_explore.proofs.listing.has_seen.Goals as goal
 use Rattle.pg_explore.proofs.listing.has_seen.Goals.{then-peer-node, else-peer-node}

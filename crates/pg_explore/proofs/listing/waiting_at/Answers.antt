@@ -3,11 +3,11 @@ use Rattle.std.proofs.Common.{map, take, get_or, max, refl, sym, ap, ap₂, ◌�
 use Rattle.std.proofs.lemmas.Result.{IfOk-weaker}
 use Rattle.std.specs.Prelude.{option_map, slice_get, is_some, Option, Some, None}
 use Rattle.std.specs.Option.{option_copied, option_map_or}
-use Rattle.pg_frame_world.specs.PgOpens.Places.{whole_in}
-use Rattle.pg_frame_world.specs.PgStep.Attempts.{waits}
-use Rattle.pg_frame_world.specs.PgStep.State.{live_nodes}
-use Rattle.pg_frame_world.specs.FrameWorlds.{traffic_of}
-use Rattle.pg_frame_world.specs.PgStarts.Seen.{Seen, seen_of}
+use Rattle.pg_world_packets.specs.PgNodeOpens.Places.{whole_in}
+use Rattle.pg_world_packets.specs.PgStep.Attempts.{waits}
+use Rattle.pg_world_packets.specs.PgStep.State.{live_nodes}
+use Rattle.pg_world_packets.specs.FrameWorlds.{traffic_of}
+use Rattle.pg_world_packets.specs.PgWorldConfig.Seen.{Seen, seen_of}
 use Rattle.pg_explore.proofs.Opening.{among}
 use Rattle.pg_explore.proofs.Optional.{inside_some}
 use Rattle.pg_explore.proofs.Sized.{many_nodes}

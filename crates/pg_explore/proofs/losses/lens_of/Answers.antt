@@ -1,8 +1,8 @@
 use Rattle.std.proofs.Common.{◌≡◌, ◌<◌, ◌≤◌, ◌+◌, ◌∷◌, ◌++◌, [], List, ℕ, map}
 use Rattle.std.proofs.Common.{take, get_or, length, sym, ap, ap₂, ◌∙◌, arith}
 use Rattle.std.proofs.lemmas.List.{length-map, take_all, take_more}
-use Rattle.pg_frame_world.specs.PgSends.Sent.{stamped_of}
-use Rattle.pg_frame_world.specs.FrameWorlds.{traffic_of}
+use Rattle.pg_world_packets.specs.PgNodeSends.Sent.{stamped_of}
+use Rattle.pg_world_packets.specs.FrameWorlds.{traffic_of}
 use Rattle.pg_explore.proofs.Lengthening.{length_at}
 use Rattle.pg_explore.proofs.Sized.{many_ways}
 use Rattle.pg_explore.proofs.losses.lens_of.Goals as goal

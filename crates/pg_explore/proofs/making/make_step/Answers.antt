@@ -1,5 +1,5 @@
 use Rattle.std.proofs.lemmas.Result.{IfOk-weaker}
-use Rattle.pg_frame_world.specs.Losing.{told_of}
+use Rattle.pg_world_packets.specs.Losing.{told_of}
 use Rattle.pg_explore.proofs.Outcomes.{came}
 use Rattle.pg_explore.proofs.making.make_step.Goals as goal
 

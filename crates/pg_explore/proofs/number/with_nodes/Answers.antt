@@ -1,9 +1,9 @@
 use Rattle.std.proofs.Common.{◌≡◌, ◌<◌, ◌≤◌, ◌∙◌, ap, arith, map, length}
 use Rattle.std.proofs.lemmas.List.{length-map}
 use Rattle.std.specs.Option.{option_copied}
-use Rattle.pg_frame_world.specs.Alike.{without_clock}
-use Rattle.pg_frame_world.specs.FrameWorlds.{traffic_of}
-use Rattle.pg_frame_world.specs.PgStarts.Seen.{seen_of}
+use Rattle.pg_world_packets.specs.Alike.{without_clock}
+use Rattle.pg_world_packets.specs.FrameWorlds.{traffic_of}
+use Rattle.pg_world_packets.specs.PgWorldConfig.Seen.{seen_of}
 use Rattle.pg_explore.specs.Numbers.{mixed_node}
 use Rattle.pg_explore.proofs.Counting.{fold_all, fold_more, map_at}
 use Rattle.pg_explore.proofs.Optional.{inside_some, seen_or}

@@ -1,8 +1,8 @@
 use Rattle.std.proofs.Common.{◌≡◌, ◌<◌, ◌≤◌, ◌∙◌, ap, arith, map, get_or, [], length}
 use Rattle.std.proofs.lemmas.List.{length-map}
 use Rattle.std.proofs.lemmas.Option.{slice_get-get_or}
-use Rattle.pg_frame_world.specs.Alike.{without_stamps}
-use Rattle.pg_frame_world.specs.FrameWorlds.{traffic_of}
+use Rattle.pg_world_packets.specs.Alike.{without_stamps}
+use Rattle.pg_world_packets.specs.FrameWorlds.{traffic_of}
 use Rattle.pg_explore.specs.Numbers.{mixed_way, unstamped_of}
 use Rattle.pg_explore.proofs.Counting.{fold_all, fold_more, map_at}
 use Rattle.pg_explore.proofs.Sized.{many_ways}

@@ -1,7 +1,7 @@
 use Rattle.std.proofs.Common.{◌≡◌, drop, [], get_or}
 use Rattle.std.specs.Prelude.{fold}
-use Rattle.pg_frame_world.specs.Alike.{without_stamps}
-use Rattle.pg_frame_world.specs.FrameWorlds.{traffic_of}
+use Rattle.pg_world_packets.specs.Alike.{without_stamps}
+use Rattle.pg_world_packets.specs.FrameWorlds.{traffic_of}
 use Rattle.pg_explore.specs.Numbers.{mixed_row, mixed_way}
 use Rattle.pg_explore.proofs.number.with_row.Given as goal
 

@@ -1,9 +1,9 @@
 use Rattle.std.proofs.Common.{◌<◌, map, length, refl, arith}
 use Rattle.std.proofs.lemmas.Option.{slice_get_read}
-use Rattle.pg_frame_world.specs.PgMachine.Clocked.{Stamped}
-use Rattle.pg_frame_world.specs.PgMessage.declared.message.Message.{Message}
-use Rattle.pg_frame_world.specs.PgMessage.declared.packet.Packet.{Packet}
-use Rattle.pg_frame_world.specs.PgSends.Sent.{stamped_of}
+use Rattle.pg_world_packets.specs.PgStep.Machines.Clocked.{Stamped}
+use Rattle.pg_world_packets.specs.PgMessageTypes.declared.message.Message.{Message}
+use Rattle.pg_world_packets.specs.PgMessageTypes.declared.packet.Packet.{Packet}
+use Rattle.pg_world_packets.specs.PgNodeSends.Sent.{stamped_of}
 use Rattle.pg_explore.specs.Numbers.{mixed_message}
 use Rattle.pg_explore.proofs.Counting.{fold_more, map_at}
 use Rattle.pg_explore.proofs.number.with_way.Goals as goal

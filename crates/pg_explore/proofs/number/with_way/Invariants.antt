@@ -1,6 +1,6 @@
 use Rattle.std.proofs.Common.{◌≡◌, drop, map, length}
 use Rattle.std.specs.Prelude.{fold}
-use Rattle.pg_frame_world.specs.PgSends.Sent.{stamped_of}
+use Rattle.pg_world_packets.specs.PgNodeSends.Sent.{stamped_of}
 use Rattle.pg_explore.specs.Numbers.{mixed, mixed_message, unstamped_of}
 use Rattle.pg_explore.proofs.number.with_way.Given as goal
 

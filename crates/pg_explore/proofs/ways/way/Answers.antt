@@ -1,6 +1,6 @@
 use Rattle.std.proofs.Common.{◌≡◌, ◌∙◌, ap, arith, map, get_or, [], length}
-use Rattle.pg_frame_world.specs.PgSends.Sent.{stamped_of}
-use Rattle.pg_frame_world.specs.FrameWorlds.{traffic_of}
+use Rattle.pg_world_packets.specs.PgNodeSends.Sent.{stamped_of}
+use Rattle.pg_world_packets.specs.FrameWorlds.{traffic_of}
 use Rattle.pg_explore.proofs.Optional.{if_some_at, some_by}
 use Rattle.pg_explore.proofs.Sized.{is_pair_so, many_nodes}
 use Rattle.pg_explore.proofs.ways.way.Goals as goal

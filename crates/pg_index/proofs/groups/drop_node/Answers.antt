@@ -1,6 +1,6 @@
 use Rattle.std.proofs.Common.{◌∙◌, ap}
 use Rattle.pg_group.specs.Value.{Counts}
-use Rattle.pg_members.specs.Rows.{counts_of}
+use Rattle.pg_index_members.specs.Rows.{counts_of}
 use Rattle.pg_index.specs.Groups.{counts_by_number, counts_at, without_node}
 use Rattle.pg_index.proofs.Numbers.{written, nobody_there, nobody_of_node, counts_alone}
 use Rattle.pg_index.proofs.groups.drop_node.Goals as goal

@@ -1,5 +1,5 @@
 use Rattle.std.proofs.Common.{◌∙◌}
-use Rattle.pg_members.specs.Rows.{counts_of}
+use Rattle.pg_index_members.specs.Rows.{counts_of}
 use Rattle.pg_index.specs.Listings.{listed_in}
 use Rattle.pg_index.proofs.Tables.{row_removed}
 use Rattle.pg_index.proofs.listings.remove_all.Goals as goal

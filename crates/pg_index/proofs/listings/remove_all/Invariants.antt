@@ -1,6 +1,6 @@
 use Rattle.std.proofs.Common.{◌≡◌, ℕ, false, length, nat_eq, nat_lt}
 use Rattle.pg_term.specs.declared.pid.Pid.{Pid}
-use Rattle.pg_members.specs.Rows.{counts_of}
+use Rattle.pg_index_members.specs.Rows.{counts_of}
 use Rattle.pg_index.specs.Listings.{listed_in}
 use Rattle.pg_index.proofs.listings.remove_all.Given as goal
 

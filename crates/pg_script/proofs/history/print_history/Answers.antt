@@ -3,7 +3,7 @@ use Rattle.std.specs.Prelude.{codes, ◌==◌}
 use Rattle.std.specs.Option.{option_copied}
 use Rattle.std.specs.Str.{chars}
 use Rattle.pg_script.specs.Histories.{listed_entries, last_entry}
-use Rattle.pg_trace.proofs.PgLines.Adds.{adds_both, adds_as}
+use Rattle.pg_script_trace.proofs.PgScriptLines.Adds.{adds_both, adds_as}
 use Rattle.pg_script.proofs.history.print_history.Goals as goal
 
 pub returns : goal.returns

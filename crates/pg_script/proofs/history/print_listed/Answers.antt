@@ -1,7 +1,7 @@
 use Rattle.std.proofs.Common.{◌++◌}
 use Rattle.std.proofs.lemmas.Result.{on_ok_weaker}
-use Rattle.pg_trace.specs.PgText.Writing.{update_text}
-use Rattle.pg_trace.proofs.PgLines.Adds.{adds_both, adds_as}
+use Rattle.pg_script_trace.specs.PgText.Writing.{update_text}
+use Rattle.pg_script_trace.proofs.PgScriptLines.Adds.{adds_both, adds_as}
 use Rattle.pg_script.proofs.Lists.{listed_entries_are}
 use Rattle.pg_script.proofs.history.print_listed.Goals as goal
 

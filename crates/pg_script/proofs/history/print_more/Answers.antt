@@ -1,7 +1,7 @@
 use Rattle.std.proofs.Common.{[], ◌∷◌, ◌++◌, take, add-one, sym}
-use Rattle.pg_trace.specs.PgText.Writing.{update_text}
+use Rattle.pg_script_trace.specs.PgText.Writing.{update_text}
 use Rattle.pg_script.specs.Histories.{more_entries}
-use Rattle.pg_trace.proofs.PgLines.Adds.{adds_both, adds_as, more_at}
+use Rattle.pg_script_trace.proofs.PgScriptLines.Adds.{adds_both, adds_as, more_at}
 use Rattle.pg_script.proofs.history.print_more.Goals as goal
 
 pub loop-entry-preserved : goal.loop-entry-preserved

@@ -1,6 +1,6 @@
 use Rattle.std.proofs.Common.{take}
 use Rattle.std.specs.Prelude.{string_bytes}
-use Rattle.pg_trace.specs.PgText.Writing.{GrowsBy}
+use Rattle.pg_script_trace.specs.PgText.Writing.{GrowsBy}
 use Rattle.pg_script.specs.Histories.{more_entries}
 use Rattle.pg_script.proofs.history.print_more.Given as goal
 

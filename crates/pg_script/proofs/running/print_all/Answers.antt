@@ -1,7 +1,7 @@
 use Rattle.std.proofs.Common.{◌++◌, take, add-one, sym}
-use Rattle.pg_trace.specs.PgLines.Printing.{answer_line}
+use Rattle.pg_script_trace.specs.PgScriptLines.Printing.{answer_line}
 use Rattle.pg_script.specs.Runs.{answer_lines}
-use Rattle.pg_trace.proofs.PgLines.Adds.{adds_both, adds_as, more_at}
+use Rattle.pg_script_trace.proofs.PgScriptLines.Adds.{adds_both, adds_as, more_at}
 use Rattle.pg_script.proofs.running.print_all.Goals as goal
 
 pub loop-answer-preserved : goal.loop-answer-preserved

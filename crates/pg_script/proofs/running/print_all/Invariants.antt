@@ -1,6 +1,6 @@
 use Rattle.std.proofs.Common.{take}
 use Rattle.std.specs.Prelude.{string_bytes}
-use Rattle.pg_trace.specs.PgText.Writing.{GrowsBy}
+use Rattle.pg_script_trace.specs.PgText.Writing.{GrowsBy}
 use Rattle.pg_script.specs.Runs.{answer_lines}
 use Rattle.pg_script.proofs.running.print_all.Given as goal
 

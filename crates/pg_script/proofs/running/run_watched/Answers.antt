@@ -1,5 +1,5 @@
 use Rattle.std.proofs.Common.{◌++◌}
-use Rattle.pg_trace.proofs.PgReplica.Streams.{appends_then}
+use Rattle.pg_script_trace.proofs.PgNode.Replicas.Streams.{appends_then}
 use Rattle.pg_script.proofs.running.run_watched.Goals as goal
 
 pub returns-in_err-run_lines-clause-appended : goal.returns-in_err-run_lines-clause-appended

@@ -1,7 +1,7 @@
 use Rattle.std.proofs.Common.{◌≡◌, ◌-◌, ◌++◌, List, ℕ, length, take, drop, ap, ◌∙◌, append_assoc, length-drop}
 use Rattle.std.proofs.lemmas.List.{take-append-drop}
 use Rattle.std.proofs.Math.Seq.{take-length}
-use Rattle.pg_trace.proofs.PgReplica.Streams.{appends_then}
+use Rattle.pg_script_trace.proofs.PgNode.Replicas.Streams.{appends_then}
 use Rattle.pg_script.proofs.writing.put_whole.Goals as goal
 
 -- all of what is behind n elements

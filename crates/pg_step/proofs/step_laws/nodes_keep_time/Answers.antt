@@ -1,7 +1,7 @@
 use Rattle.pg_step.specs.Step.{CLOCK_LIMIT}
 use Rattle.pg_step.specs.FrameMachine.{machine_of}
-use Rattle.pg_machine.proofs.Timing.{keeps_time, timely_start, timely_run}
-use Rattle.pg_machine.proofs.Plain.{plain_from_start}
+use Rattle.pg_step.proofs.Machines.Timing.{keeps_time, timely_start, timely_run}
+use Rattle.pg_step.proofs.Machines.Plain.{plain_from_start}
 use Rattle.pg_step.proofs.step_laws.nodes_keep_time.Goals as goal
 
 pub returns-clause-steps : goal.returns-clause-steps

@@ -1,5 +1,5 @@
 use Rattle.std.proofs.Common.{ℕ, List}
-use Rattle.pg_cluster.specs.PgRun.declared.port.Client.{Client}
+use Rattle.pg_cluster.specs.PgNodeRun.declared.port.Client.{Client}
 use Rattle.pg_talk.specs.Asking.{AllKeep}
 use Rattle.pg_talk.proofs.conversation.begin_all.Given as goal
 

@@ -1,7 +1,7 @@
 use Rattle.std.proofs.Common.{◌≡◌, ◌<◌, ◌+◌, ◌++◌, ◌∷◌, [], ℕ, List, length}
 use Rattle.std.proofs.Common.{get_or, sym, ap, subst, ◌∙◌, arith, length-append}
-use Rattle.pg_cluster.specs.PgRun.Ports.{IsSilent}
-use Rattle.pg_cluster.specs.PgRun.declared.port.Client.{Client}
+use Rattle.pg_cluster.specs.PgNodeRun.Ports.{IsSilent}
+use Rattle.pg_cluster.specs.PgNodeRun.declared.port.Client.{Client}
 use Rattle.pg_talk.specs.Asking.{HasRest, is_first}
 use Rattle.pg_talk.specs.declared.speaker.Speaker.{Speaker}
 use Rattle.pg_talk.proofs.Asked.{begin_push}

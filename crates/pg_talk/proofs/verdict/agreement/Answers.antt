@@ -2,9 +2,9 @@ use Rattle.std.proofs.Common.{◌≡◌, ◌↔◌, Bool, true, false, sym, ap, 
 use Rattle.std.specs.Prelude.{IsTrue}
 use Rattle.std.specs.List.{list_any}
 use Rattle.std.proofs.lemmas.Result.{IfOk-weaker}
-use Rattle.pg_cluster.specs.Judges.{Agree}
-use Rattle.pg_cluster.specs.Notices.{NobodyLost}
-use Rattle.pg_cluster.specs.Survivors.{SurvivorsAgree}
+use Rattle.pg_cluster.specs.PgClusterJudges.Judges.{Agree}
+use Rattle.pg_cluster.specs.PgClusterJudges.Schedule.{NobodyLost}
+use Rattle.pg_cluster.specs.PgClusterJudges.Survivors.{SurvivorsAgree}
 use Rattle.pg_talk.proofs.Judging.{none_there}
 use Rattle.pg_talk.proofs.verdict.agreement.Goals as goal
 

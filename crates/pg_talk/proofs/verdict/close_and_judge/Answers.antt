@@ -1,11 +1,11 @@
 use Rattle.std.proofs.Common.{◌≡◌, true, map, subst}
 use mathlib.Core.Logic.{∥∥₁_map}
-use Rattle.pg_cluster.specs.Closed.{IsOneRun, IsReplayed}
-use Rattle.pg_cluster.specs.Judges.{Agree}
-use Rattle.pg_cluster.specs.PgFrameWorld.Openings.{CanBegin}
+use Rattle.pg_cluster.specs.PgClusterJudges.Closed.{IsOneRun, IsReplayed}
+use Rattle.pg_cluster.specs.PgClusterJudges.Judges.{Agree}
+use Rattle.pg_cluster.specs.PgWorldPackets.Openings.{CanBegin}
 use Rattle.pg_cluster.specs.Running.{config_in}
-use Rattle.pg_cluster.specs.Survivors.{SurvivorsAgree}
-use Rattle.pg_cluster.specs.Together.{AreOneLosingRun}
+use Rattle.pg_cluster.specs.PgClusterJudges.Survivors.{SurvivorsAgree}
+use Rattle.pg_cluster.specs.PgClusterJudges.Together.{AreOneLosingRun}
 use Rattle.pg_talk.proofs.Judging.{told_by_losses, told_so}
 use Rattle.pg_talk.proofs.verdict.close_and_judge.Goals as goal
 

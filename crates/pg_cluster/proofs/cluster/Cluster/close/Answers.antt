@@ -1,8 +1,8 @@
-use Rattle.pg_cluster.specs.Closed.{lost_of, threads_of}
-use Rattle.pg_cluster.proofs.Agreed.{closed_agree}
+use Rattle.pg_cluster.specs.Clusters.{lost_of, threads_of}
+use Rattle.pg_cluster.proofs.Finishing.{closed_agree}
 use Rattle.pg_cluster.proofs.Finishing.{closed_survivors, finished_clients, finished_ended, finished_losing_run, finished_lost, finished_run}
 use Rattle.pg_cluster.proofs.Finishing.{ended_merely, heard_merely, stopped_joins, stopped_joins_losing}
-use Rattle.pg_cluster.proofs.StepsThere.{has_steps}
+use Rattle.pg_cluster_judges.proofs.StepsThere.{has_steps}
 use Rattle.pg_cluster.proofs.cluster.Cluster.close.Goals as goal
 
 pub returns-clause-ended : goal.returns-clause-ended

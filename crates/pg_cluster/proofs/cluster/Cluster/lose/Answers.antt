@@ -6,7 +6,8 @@ use Rattle.pg_ring.specs.Slots.{AreSlots}
 use Rattle.pg_cluster.specs.Clients.{AllPairs, ports_begun}
 use Rattle.pg_cluster.specs.Ended.{AreWired}
 use Rattle.pg_cluster.specs.Members.{is_lost, last_of, lasts_in, losses_in}
-use Rattle.pg_cluster.specs.Notices.{HaveNoticeRoom, NobodyLost, SaysLost}
+use Rattle.pg_cluster.specs.Notices.{HaveNoticeRoom, SaysLost}
+use Rattle.pg_cluster_judges.specs.Schedule.{NobodyLost}
 use Rattle.pg_cluster.specs.Room.{HasClosingRoom}
 use Rattle.pg_cluster.specs.Threads.{rows_begun, notices_begun}
 use Rattle.std.proofs.lemmas.List.{get_or_default}

@@ -4,14 +4,14 @@ use Rattle.pg_cluster.specs.Members.{is_lost, lasts_in, losses_in, thread_of, th
 use Rattle.pg_cluster.specs.Notices.{IsFresh, IsRoomy, HasNoNotice as IsSilentTeller}
 use Rattle.pg_cluster.specs.Threads.{notices_begun}
 use Rattle.std.proofs.lemmas.List.{length-map}
-use Rattle.pg_joining.specs.PgRun.Ports.{ArePort, IsSilent}
+use Rattle.pg_cluster_judges.specs.PgNodeRun.Ports.{ArePort, IsSilent}
 use Rattle.pg_cluster.specs.Clients.{IsOpenClient, ports_begun}
 use Rattle.pg_cluster.specs.Room.{HasClosingRoom}
 use Rattle.pg_cluster.specs.Threads.{AreMade, HaveRings}
 use Rattle.pg_cluster.proofs.Paired.{pairs_left, pairs_so}
 use Rattle.pg_cluster.proofs.Rooms.{room_first}
 use Rattle.pg_cluster.proofs.Telling.{says_none}
-use Rattle.pg_joining.specs.PgRun.Runs.{generator_of, notices_at}
+use Rattle.pg_cluster_judges.specs.PgNodeRun.Runs.{generator_of, notices_at}
 use Rattle.pg_cluster.specs.Threads.{begun_by}
 use Rattle.pg_cluster.proofs.Starts.{started_runs, started_limits, started_wired, started_clients, started_notices}
 use Rattle.pg_cluster.proofs.cluster.Cluster.start.Goals as goal

@@ -7,16 +7,18 @@ use Rattle.std.proofs.lemmas.List.{length-map, nil_from_length}
 use mathlib.Core.Logic.{∥∥₁_elim, ∥∥₁_map, ∥∥₁_map₂}
 use Rattle.pg_ring.specs.declared.slot_in.SlotIn.{SlotIn}
 use Rattle.pg_ring.specs.Slots.{taken}
-use Rattle.pg_joining.specs.PgRun.declared.notices.Notice.{Notice}
-use Rattle.pg_joining.specs.PgRun.Runs.{notices_at}
+use Rattle.pg_cluster_judges.specs.PgNodeRun.declared.notices.Notice.{Notice}
+use Rattle.pg_cluster_judges.specs.PgNodeRun.Runs.{notices_at}
 use Rattle.pg_cluster.specs.Clients.{ports_begun, ports_ended}
-use Rattle.pg_cluster.specs.Closed.{NoticesCame, logs_of, nodes_of, turns_of}
+use Rattle.pg_cluster.specs.Clusters.{NoticesCame}
+use Rattle.pg_cluster_judges.specs.Closed.{logs_of, nodes_of, turns_of}
 use Rattle.pg_cluster.specs.Ended.{AreWired, AllArrived}
 use Rattle.pg_cluster.specs.Members.{is_lost, lasts_in, losses_in, thread_of, threads_in}
-use Rattle.pg_cluster.specs.Notices.{IsOfLost, NobodyLost, SaysLost}
+use Rattle.pg_cluster.specs.Notices.{IsOfLost, SaysLost}
+use Rattle.pg_cluster_judges.specs.Schedule.{NobodyLost}
 use Rattle.pg_cluster.specs.Room.{HasClosingRoom}
 use Rattle.pg_cluster.specs.Threads.{EndedWith, Joined, lasts_ended, rows_begun, rows_ended, notices_ended}
-use Rattle.pg_cluster.proofs.Closing.{joined_after}
+use Rattle.pg_cluster.proofs.Crossing.{joined_after}
 use Rattle.pg_cluster.proofs.Finishing.{one_more_stands, stopped_ended, stopped_heard}
 use Rattle.pg_cluster.proofs.Hearing.{same_ports, clients_still}
 use Rattle.pg_cluster.proofs.Holding.{lasts_kept}

@@ -2,7 +2,7 @@ use Rattle.std.proofs.Common.{◌≡◌, ◌≤◌, ◌+◌, ◌++◌, length, m
 use Rattle.std.specs.Prelude.{vec_capacity, drop}
 use Rattle.std.specs.Vec.Iter.{into_iter_items, into_iter_len}
 use Rattle.pg_cluster.specs.Members.{is_lost, losses_in}
-use Rattle.pg_cluster.specs.Notices.{NobodyLost}
+use Rattle.pg_cluster_judges.specs.Schedule.{NobodyLost}
 use Rattle.pg_cluster.proofs.Starts.{ClocksKept, GiveBack}
 use Rattle.pg_cluster.proofs.cluster.Cluster.stop.Given as goal
 

@@ -1,12 +1,13 @@
 use Rattle.std.proofs.Common.{map}
 use Rattle.pg_cluster.specs.Clients.{AllHeard}
-use Rattle.pg_cluster.specs.Closed.{IsOneRun, JoinsToOneLosingRun, JoinsToOneRun, logs_of, nodes_of, threads_of, lost_of}
-use Rattle.pg_cluster.specs.Judges.{Agree}
-use Rattle.pg_cluster.specs.Notices.{NobodyLost}
-use Rattle.pg_cluster.specs.Survivors.{SurvivorsAgree}
+use Rattle.pg_cluster.specs.Clusters.{threads_of, lost_of}
+use Rattle.pg_cluster_judges.specs.Closed.{IsOneRun, JoinsToOneLosingRun, JoinsToOneRun, logs_of, nodes_of}
+use Rattle.pg_cluster_judges.specs.Judges.{Agree}
+use Rattle.pg_cluster_judges.specs.Schedule.{NobodyLost}
+use Rattle.pg_cluster_judges.specs.Survivors.{SurvivorsAgree}
 use Rattle.pg_cluster.specs.Threads.{AreMade, begun_by}
 use Rattle.pg_cluster.proofs.Handing.{of_its_own, fact_of_its_own, fact_once, run_once, stopped_of_its_own, stopped_once}
-use Rattle.pg_cluster.proofs.StepsThere.{has_steps}
+use Rattle.pg_cluster_judges.proofs.StepsThere.{has_steps}
 use Rattle.pg_cluster.proofs.running.Running.close.Goals as goal
 
 pub returns-clause-one_run : goal.returns-clause-one_run

@@ -2,9 +2,9 @@ use Rattle.std.proofs.Common.{◌≡◌, ◌++◌, ◌∷◌, [], map, sym, ap, 
 use Rattle.std.specs.List.{All}
 use Rattle.std.proofs.lemmas.List.{map-append}
 use Rattle.pg_ring.specs.Slots.{taken}
-use Rattle.pg_joining.specs.PgRun.Follows.{node_of, peers_of, log_of}
-use Rattle.pg_joining.specs.PgRun.Notices.{IsUntold}
-use Rattle.pg_joining.specs.PgRun.Runs.{generator_of, notices_of}
+use Rattle.pg_cluster_judges.specs.PgNodeRun.Follows.{node_of, peers_of, log_of}
+use Rattle.pg_cluster_judges.specs.PgNodeRun.Notices.{IsUntold}
+use Rattle.pg_cluster_judges.specs.PgNodeRun.Runs.{generator_of, notices_of}
 use Rattle.pg_cluster.specs.Threads.{node_in, row_in, log_in}
 use Rattle.pg_cluster.proofs.Opening.{opened_more, fresh_more}
 use Rattle.pg_cluster.proofs.Starts.{all_push}

@@ -1,7 +1,7 @@
 use Rattle.std.proofs.Common.{◌≡◌, ◌≢◌, ◌<◌, ◌≤◌, ℕ, ◌+◌, ◌-◌, Bool, true, false, List, [], ◌∷◌, ◌++◌}
 use Rattle.std.proofs.Common.{length, map, take, get_or, refl, sym, ap, ap₂, ◌∙◌, inl, inr, subst, arith}
 use Rattle.std.proofs.lemmas.List.{length-map}
-use Rattle.pg_frame_world.specs.FrameWorlds.{given_of}
+use Rattle.pg_world_packets.specs.FrameWorlds.{given_of}
 use Rattle.pg_explore.specs.Moments.{progress_after, progress_of}
 use Rattle.pg_explore.proofs.Progressing.{length_after}
 use Rattle.pg_explore.proofs.Reached.{of_made}

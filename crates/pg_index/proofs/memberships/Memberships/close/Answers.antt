@@ -3,7 +3,7 @@ use Rattle.std.specs.Prelude.{is_some}
 use Rattle.slab.specs.Slab.{Slab}
 use Rattle.pg_group.specs.Value.{nobody}
 use Rattle.pg_group.proofs.Changes.{upd_same}
-use Rattle.pg_members.specs.declared.row.Row.{Row}
+use Rattle.pg_index_members.specs.declared.row.Row.{Row}
 use Rattle.pg_index.specs.Groups.{counts_by_number, is_used}
 use Rattle.pg_index.proofs.Numbers.{slot_changed, nobody_there, number_is}
 use Rattle.pg_index.proofs.Changed.{used_changed}

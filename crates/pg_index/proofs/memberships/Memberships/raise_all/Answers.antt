@@ -3,7 +3,7 @@ use Rattle.pg_group.specs.Ended.{ended_of}
 use Rattle.pg_group.specs.Value.{Counts, told, with_one_more}
 use Rattle.pg_group.proofs.Maps.{on_err}
 use Rattle.pg_group.proofs.Merges.{told_more, told_kept}
-use Rattle.pg_members.specs.Rows.{counts_of}
+use Rattle.pg_index_members.specs.Rows.{counts_of}
 use Rattle.pg_index.specs.declared.memberships.Memberships.{Memberships}
 use Rattle.pg_index.specs.Groups.{counts_by_number, counts_changed, is_used}
 use Rattle.pg_index.proofs.Changed.{raised_none, told_none, told_now, raised_more, raised_so_far, raised_to}

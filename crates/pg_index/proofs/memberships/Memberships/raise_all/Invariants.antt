@@ -1,7 +1,7 @@
 use Rattle.std.proofs.Common.{◌≡◌, take}
 use Rattle.pg_group.specs.Ended.{ended_of}
 use Rattle.pg_group.specs.Value.{told}
-use Rattle.pg_members.specs.Rows.{counts_of}
+use Rattle.pg_index_members.specs.Rows.{counts_of}
 use Rattle.pg_index.specs.Groups.{counts_by_number, counts_raised, is_used}
 use Rattle.pg_index.proofs.memberships.Memberships.raise_all.Given as goal
 

@@ -1,12 +1,12 @@
 use Rattle.std.proofs.Common.{◌≡◌, ◌+◌, ◌∙◌, ℕ, suc, List, length, sym, ap, arith, subst}
-use Rattle.pg_replica.specs.PgGroup.Table.{Table}
-use Rattle.pg_replica.specs.PgMachine.Clocked.{Timed}
-use Rattle.pg_replica.specs.PgOpens.Places.{name_at}
-use Rattle.pg_replica.specs.PgStep.Nodes.{Node}
-use Rattle.pg_replica.specs.PgStep.State.{State}
+use Rattle.pg_node_state.specs.PgGroup.Table.{Table}
+use Rattle.pg_node_state.specs.PgStep.Machines.Clocked.{Timed}
+use Rattle.pg_node_state.specs.PgNodeOpens.Places.{name_at}
+use Rattle.pg_node_state.specs.PgStep.Nodes.{Node}
+use Rattle.pg_node_state.specs.PgStep.State.{State}
 use Rattle.pg_node.specs.Begun.{BeginsLinked}
 use Rattle.pg_node.specs.Nodes.{links_of}
-use Rattle.pg_replica.specs.PgNodeState.States.{names_of, state_of}
+use Rattle.pg_node_state.specs.States.{names_of, state_of}
 use Rattle.pg_node.proofs.Linked.{as_ok}
 use Rattle.pg_node.proofs.node.Node.new.Goals as goal
 

@@ -1,10 +1,10 @@
 use Rattle.std.specs.Prelude.{slice_set}
 use Rattle.std.proofs.lemmas.List.{length-set}
-use Rattle.pg_replica.specs.PgNodeState.States.{names_of}
+use Rattle.pg_node_state.specs.States.{names_of}
 use Rattle.std.proofs.Common.{◌≡◌, ◌+◌, ◌<◌, ◌∙◌, Err, length, refl, sym, arith, subst}
-use Rattle.pg_replica.specs.PgStep.declared.refusal.Refusal.TheVariants.{NodeLost}
-use Rattle.pg_replica.specs.PgNodeState.declared.state.fault.NodeFault.{NodeFault}
-use Rattle.pg_replica.specs.PgNodeState.declared.state.fault.NodeFault.TheVariants.{Refused}
+use Rattle.pg_node_state.specs.PgStep.declared.refusal.Refusal.TheVariants.{NodeLost}
+use Rattle.pg_node_state.specs.declared.state.fault.NodeFault.{NodeFault}
+use Rattle.pg_node_state.specs.declared.state.fault.NodeFault.TheVariants.{Refused}
 use Rattle.pg_node.specs.Bytes.{ReadsNext, next_packet, marked}
 use Rattle.pg_node.specs.Links.{Link, link_of, idle_link, links_in}
 use Rattle.pg_node.specs.Nodes.{read_next}

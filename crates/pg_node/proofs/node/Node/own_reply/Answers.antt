@@ -1,8 +1,8 @@
 use Rattle.std.proofs.Common.{◌≡◌, ◌<◌, ◌∙◌, List, ℕ, Some, Ok, length, sym, arith, subst}
 use Rattle.std.specs.Prelude.{IfSome}
-use Rattle.pg_replica.specs.PgOpens.Places.{name_at}
-use Rattle.pg_replica.specs.PgReader.Own.{own_reply}
-use Rattle.pg_replica.specs.PgNodeState.States.{names_of}
+use Rattle.pg_node_state.specs.PgNodeOpens.Places.{name_at}
+use Rattle.pg_message_reader.specs.Own.{own_reply}
+use Rattle.pg_node_state.specs.States.{names_of}
 use Rattle.pg_node.specs.Bytes.{next_packet}
 use Rattle.pg_node.specs.Links.{Link, link_of, idle_link, links_in}
 use Rattle.pg_node.specs.Nodes.{read_next}

@@ -3,8 +3,8 @@ use Rattle.std.proofs.lemmas.List.{length-set}
 use Rattle.std.proofs.Common.{◌≡◌, ◌+◌, ◌<◌, ◌∙◌, length, sym, ap, arith}
 use Rattle.pg_node.specs.Links.{Link, link_of, idle_link, links_in, with_fed}
 use Rattle.pg_node.proofs.Linked.{part_here, one_link, same_links, if_ok, on_err, still_room}
-use Rattle.pg_replica.specs.PgNodeState.States.{names_of}
-use Rattle.pg_replica.proofs.PgOpens.Named.{clash}
+use Rattle.pg_node_state.specs.States.{names_of}
+use Rattle.pg_node_state.proofs.PgNodeOpens.Named.{clash}
 use Rattle.pg_node.proofs.node.Node.pull.Goals as goal
 
 pub returns-then-is_lost-clause-damaged : goal.returns-then-is_lost-clause-damaged

@@ -1,7 +1,7 @@
 use Rattle.std.proofs.Common.{◌≡◌, ◌<◌, ◌≤◌, ◌+◌, length, take, refl, sym, arith, subst}
 use Rattle.std.specs.Prelude.{min, slice_set}
 use Rattle.std.proofs.lemmas.List.{length-set}
-use Rattle.pg_replica.specs.PgNodeState.States.{names_of}
+use Rattle.pg_node_state.specs.States.{names_of}
 use Rattle.pg_node.specs.Links.{Link, link_of, idle_link, links_in, without_front}
 use Rattle.pg_node.proofs.Linked.{part_here, one_link, still_room}
 use Rattle.pg_node.proofs.node.Node.put.Goals as goal

@@ -1,8 +1,8 @@
 use Rattle.std.proofs.Common.{◌∙◌, ℕ, Err, ap}
-use Rattle.pg_replica.specs.PgSends.Framed.{listed_of}
-use Rattle.pg_replica.specs.PgSends.Frames.{frames_to}
+use Rattle.pg_node_state.specs.PgNodeSends.Framed.{listed_of}
+use Rattle.pg_node_state.specs.PgNodeSends.Frames.{frames_to}
 use Rattle.pg_node.specs.Links.{Link, with_more}
-use Rattle.pg_replica.specs.PgNodeState.States.{state_of}
+use Rattle.pg_node_state.specs.States.{state_of}
 use Rattle.pg_node.proofs.Events.{in_room}
 use Rattle.pg_node.proofs.node.Node.retry.Goals as goal
 

@@ -1,16 +1,16 @@
 use Rattle.std.specs.Prelude.{slice_set}
 use Rattle.std.proofs.lemmas.List.{length-set}
-use Rattle.pg_replica.specs.PgStep.Nodes.{Node}
+use Rattle.pg_node_state.specs.PgStep.Nodes.{Node}
 use Rattle.std.proofs.Common.{◌≡◌, List, ◌<◌, ◌+◌, ◌∙◌, cond, length, Result, Ok, Err, refl, sym, ap, arith, subst}
-use Rattle.pg_replica.specs.PgOpens.Places.{name_at}
-use Rattle.pg_replica.specs.PgStep.declared.refusal.Refusal.{Refusal}
-use Rattle.pg_replica.specs.PgStep.declared.refusal.Refusal.TheVariants.{NodeLost, NotDrained}
-use Rattle.pg_replica.specs.PgStep.Step.{TimedTurn}
-use Rattle.pg_replica.specs.PgSends.contracts.framing.FramedOutgoing.TheImpl as frames
-use Rattle.pg_replica.specs.PgNodeState.declared.state.fault.NodeFault.TheVariants.{Refused}
+use Rattle.pg_node_state.specs.PgNodeOpens.Places.{name_at}
+use Rattle.pg_node_state.specs.PgStep.declared.refusal.Refusal.{Refusal}
+use Rattle.pg_node_state.specs.PgStep.declared.refusal.Refusal.TheVariants.{NodeLost, NotDrained}
+use Rattle.pg_node_state.specs.PgStep.Step.{TimedTurn}
+use Rattle.pg_node_state.specs.PgNodeSends.contracts.framing.FramedOutgoing.TheImpl as frames
+use Rattle.pg_node_state.specs.declared.state.fault.NodeFault.TheVariants.{Refused}
 use Rattle.pg_node.specs.Bytes.{closed, is_drained}
 use Rattle.pg_node.specs.Links.{link_of, idle_link}
-use Rattle.pg_replica.specs.PgNodeState.States.{names_of, state_of, answers_of, step_see_loss, Comes}
+use Rattle.pg_node_state.specs.States.{names_of, state_of, answers_of, step_see_loss, Comes}
 use Rattle.pg_node.proofs.Linked.{part_here, one_link, still_room}
 use Rattle.pg_node.proofs.node.Node.see_loss.Goals as goal
 

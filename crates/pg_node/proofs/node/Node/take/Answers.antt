@@ -1,17 +1,17 @@
 use Rattle.std.proofs.Common.{◌≡◌, ◌+◌, ◌∙◌, ℕ, Some, Ok, Err, sym, ap, subst}
-use Rattle.pg_replica.specs.PgMessage.declared.packet.Packet.{Packet}
-use Rattle.pg_replica.specs.PgOpens.Places.{name_at}
-use Rattle.pg_replica.specs.PgReader.Own.{own_reply}
-use Rattle.pg_replica.specs.PgStep.Step.{step_take}
-use Rattle.pg_replica.specs.PgSends.Dones.{FramedDone}
-use Rattle.pg_replica.specs.PgSends.Framed.{listed_of}
-use Rattle.pg_replica.specs.PgSends.Frames.{AreSmallFrames}
+use Rattle.pg_node_state.specs.PgMessageTypes.declared.packet.Packet.{Packet}
+use Rattle.pg_node_state.specs.PgNodeOpens.Places.{name_at}
+use Rattle.pg_message_reader.specs.Own.{own_reply}
+use Rattle.pg_node_state.specs.PgStep.Step.{step_take}
+use Rattle.pg_node_state.specs.PgNodeSends.Dones.{FramedDone}
+use Rattle.pg_node_state.specs.PgNodeSends.Framed.{listed_of}
+use Rattle.pg_node_state.specs.PgNodeSends.Frames.{AreSmallFrames}
 use Rattle.pg_node.specs.Bytes.{passed}
 use Rattle.pg_node.specs.Links.{links_in, at_link}
 use Rattle.pg_node.specs.Nodes.{has_lost, taken_of, TakesNext, sent_out}
-use Rattle.pg_replica.specs.PgSends.Sendable.{AreSendable}
-use Rattle.pg_replica.specs.PgNodeState.States.{names_of, nodes_of, state_of, answers_of}
-use Rattle.pg_replica.specs.PgSends.Sent.{stamped_of}
+use Rattle.pg_node_state.specs.PgNodeSends.Sendable.{AreSendable}
+use Rattle.pg_node_state.specs.States.{names_of, nodes_of, state_of, answers_of}
+use Rattle.pg_node_state.specs.PgNodeSends.Sent.{stamped_of}
 use Rattle.pg_node.proofs.Events.{same_done, takes_ok, takes_err, read_is, lost_ok, step_read}
 use Rattle.pg_node.proofs.node.Node.take.Goals as goal
 

@@ -1,16 +1,16 @@
 use Rattle.std.proofs.Common.{◌≡◌, ◌+◌, Option, Some, None, Ok, Err, refl, sym, subst}
-use Rattle.pg_replica.specs.PgMessage.declared.packet.Packet.{Packet}
-use Rattle.pg_replica.specs.PgOpens.Places.{name_at}
-use Rattle.pg_replica.specs.PgStep.Step.{step_take}
-use Rattle.pg_replica.specs.PgSends.Dones.{FramedDone}
+use Rattle.pg_node_state.specs.PgMessageTypes.declared.packet.Packet.{Packet}
+use Rattle.pg_node_state.specs.PgNodeOpens.Places.{name_at}
+use Rattle.pg_node_state.specs.PgStep.Step.{step_take}
+use Rattle.pg_node_state.specs.PgNodeSends.Dones.{FramedDone}
 use Rattle.pg_node.specs.Bytes.{next_packet}
-use Rattle.pg_replica.specs.PgSends.Framed.{listed_of}
-use Rattle.pg_replica.specs.PgSends.Frames.{AreSmallFrames}
+use Rattle.pg_node_state.specs.PgNodeSends.Framed.{listed_of}
+use Rattle.pg_node_state.specs.PgNodeSends.Frames.{AreSmallFrames}
 use Rattle.pg_node.specs.Links.{links_in}
 use Rattle.pg_node.specs.Nodes.{taken_of, TakesNext}
-use Rattle.pg_replica.specs.PgSends.Sendable.{AreSendable}
-use Rattle.pg_replica.specs.PgNodeState.States.{names_of, nodes_of, state_of, answers_of}
-use Rattle.pg_replica.specs.PgSends.Sent.{stamped_of}
+use Rattle.pg_node_state.specs.PgNodeSends.Sendable.{AreSendable}
+use Rattle.pg_node_state.specs.States.{names_of, nodes_of, state_of, answers_of}
+use Rattle.pg_node_state.specs.PgNodeSends.Sent.{stamped_of}
 use Rattle.pg_node.proofs.Events.{same_done, takes_ok, takes_err}
 use Rattle.pg_node.proofs.node.Node.take_next.Goals as goal
 

@@ -1,14 +1,14 @@
 use Rattle.std.proofs.Common.{◌≡◌, ◌+◌, ◌^◌, ◌∙◌, ℕ, Option, Ok, Err, sym, ap, subst}
 use Rattle.std.specs.Prelude.{IfErr, IfSome}
-use Rattle.pg_replica.specs.PgMessage.declared.packet.Packet.{Packet}
-use Rattle.pg_replica.specs.PgMessage.Members.{IsShort}
-use Rattle.pg_replica.specs.PgOpens.Places.{name_at}
+use Rattle.pg_node_state.specs.PgMessageTypes.declared.packet.Packet.{Packet}
+use Rattle.pg_node_state.specs.PgMessageTypes.Members.{IsShort}
+use Rattle.pg_node_state.specs.PgNodeOpens.Places.{name_at}
 use Rattle.pg_node.specs.Bytes.{next_packet, marked, passed}
 use Rattle.pg_node.specs.Links.{Link, links_in, at_link}
 use Rattle.pg_node.specs.Nodes.{has_lost, read_next, step_link, taken_of, TakesNext, sent_out}
-use Rattle.pg_replica.specs.PgSends.Sendable.{AreSendable}
-use Rattle.pg_replica.specs.PgNodeState.States.{names_of, nodes_of, state_of, answers_of, Stays}
-use Rattle.pg_replica.specs.PgSends.Framed.{listed_of}
+use Rattle.pg_node_state.specs.PgNodeSends.Sendable.{AreSendable}
+use Rattle.pg_node_state.specs.States.{names_of, nodes_of, state_of, answers_of, Stays}
+use Rattle.pg_node_state.specs.PgNodeSends.Framed.{listed_of}
 use Rattle.pg_node.proofs.Events.{tells_ok, next_err, read_is, lost_ok, lost_err, step_read}
 use Rattle.pg_node.proofs.node.Node.take_packet.Goals as goal
 

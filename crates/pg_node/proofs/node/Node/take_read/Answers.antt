@@ -2,12 +2,12 @@ use Rattle.std.proofs.lemmas.Result.{err_from_is_err_and}
 use Rattle.std.proofs.lemmas.List.{length-set}
 use Rattle.std.specs.Prelude.{slice_set}
 use Rattle.std.proofs.Common.{◌≡◌, ◌<◌, ◌+◌, ◌∙◌, List, Err, length, refl, sym, ap, arith}
-use Rattle.pg_replica.specs.PgNodeState.declared.state.fault.NodeFault.TheVariants.{OutOfMemory}
+use Rattle.pg_node_state.specs.declared.state.fault.NodeFault.TheVariants.{OutOfMemory}
 use Rattle.pg_node.specs.Bytes.{marked}
-use Rattle.pg_replica.specs.PgSends.Framed.{listed_of}
+use Rattle.pg_node_state.specs.PgNodeSends.Framed.{listed_of}
 use Rattle.pg_node.specs.Links.{links_in, at_link}
-use Rattle.pg_replica.specs.PgStep.Nodes.{Node}
-use Rattle.pg_replica.specs.PgNodeState.States.{names_of, state_of}
+use Rattle.pg_node_state.specs.PgStep.Nodes.{Node}
+use Rattle.pg_node_state.specs.States.{names_of, state_of}
 use Rattle.pg_node.proofs.Linked.{one_link, still_room}
 use Rattle.pg_node.proofs.Events.{unmarked, sent_links, in_room}
 use Rattle.pg_node.proofs.node.Node.take_read.Goals as goal

@@ -1,7 +1,7 @@
 use Rattle.std.proofs.Common.{◌≡◌, arith}
-use Rattle.pg_replica.specs.PgOpens.Places.{name_at}
+use Rattle.pg_node_state.specs.PgNodeOpens.Places.{name_at}
 use Rattle.pg_node.specs.Links.{links_in}
-use Rattle.pg_replica.specs.PgNodeState.States.{names_of, kept_by}
+use Rattle.pg_node_state.specs.States.{names_of, kept_by}
 use Rattle.pg_node.proofs.Begun.{begins_so}
 use Rattle.pg_node.proofs.node.begun.opening_wires.Goals as goal
 

@@ -1,7 +1,7 @@
 use Rattle.std.proofs.Common.{◌≡◌, ◌∙◌, ap, sym, arith}
 use Rattle.pg_node.specs.Links.{links_in, with_more}
-use Rattle.pg_replica.specs.PgSends.Frames.{frames_to}
-use Rattle.pg_replica.specs.PgSends.Marked.{marks_of, sent_below}
+use Rattle.pg_node_state.specs.PgNodeSends.Frames.{frames_to}
+use Rattle.pg_node_state.specs.PgNodeSends.Marked.{marks_of, sent_below}
 use Rattle.pg_node.proofs.Linked.{none_yet, one_more_out, marked_there, frame_short}
 use Rattle.pg_node.proofs.node.wires.append_marked.Goals as goal
 

@@ -1,6 +1,6 @@
 use Rattle.std.proofs.Common.{◌≡◌, ◌∙◌, ◌&&◌, ℕ, List, [], true, cond, nat_eq, length, sym, subst}
-use Rattle.pg_replica.specs.PgSends.declared.goes.Goes.TheVariants.{One, Marked}
-use Rattle.pg_replica.specs.PgSends.Frames.{IsFrame}
+use Rattle.pg_node_state.specs.PgNodeSends.declared.goes.Goes.TheVariants.{One, Marked}
+use Rattle.pg_node_state.specs.PgNodeSends.Frames.{IsFrame}
 use Rattle.pg_node.specs.Links.{links_in, with_more}
 use Rattle.pg_node.proofs.Linked.{one_out, one_small, many_fit, many_out, many_small}
 use Rattle.pg_node.proofs.node.wires.send_all.Goals as goal

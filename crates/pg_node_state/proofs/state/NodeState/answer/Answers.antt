@@ -1,10 +1,10 @@
 use Rattle.std.proofs.Common.{◌∙◌, ℕ, ap, arith}
-use Rattle.pg_ports.specs.Ports.{counted_at}
-use Rattle.pg_ports.specs.Ports.{port_commands, answers_in}
+use Rattle.pg_node_ports.specs.Ports.{counted_at}
+use Rattle.pg_node_ports.specs.Ports.{port_commands, answers_in}
 use Rattle.pg_node_state.specs.States.{names_of, kept_by}
-use Rattle.pg_sends.specs.Sent.{sends_in}
+use Rattle.pg_node_sends.specs.Sent.{sends_in}
 use Rattle.pg_node_state.proofs.Answered.{counts_within, given_later, given_still, counts_still}
-use Rattle.pg_ports.proofs.Answered.{answered_on}
+use Rattle.pg_node_ports.proofs.Answered.{answered_on}
 use Rattle.pg_node_state.proofs.state.NodeState.answer.Goals as goal
 
 pub invariant_of-self-in-Err-1 : goal.invariant_of-self-in-Err-1

@@ -1,5 +1,5 @@
 use Rattle.std.proofs.Common.{sym, ◌∙◌}
-use Rattle.pg_ports.proofs.Answered.{answers_there}
+use Rattle.pg_node_ports.proofs.Answered.{answers_there}
 use Rattle.pg_node_state.proofs.state.NodeState.answers.Goals as goal
 
 pub returns : goal.returns

@@ -1,28 +1,28 @@
 use Rattle.std.proofs.Common.{◌≡◌, ◌∙◌, ◌+◌, ℕ, true, false, ap, sym, refl, subst, arith}
-use Rattle.pg_ports.specs.PgMachine.Clocked.{stamped}
-use Rattle.pg_ports.specs.PgGroup.Value.{name_of}
-use Rattle.pg_ports.specs.PgLock.Locks.{locks_of, grants, after_ask}
-use Rattle.pg_ports.specs.PgEnds.Processes.{node_of}
+use Rattle.pg_node_ports.specs.PgStep.Machines.Clocked.{stamped}
+use Rattle.pg_node_ports.specs.PgGroup.Value.{name_of}
+use Rattle.pg_node_ports.specs.PgLock.Locks.{locks_of, grants, after_ask}
+use Rattle.pg_node_ports.specs.PgEnds.Processes.{node_of}
 use Rattle.pg_term.specs.Same.{same_atom}
-use Rattle.pg_ports.specs.PgOpens.Opens.{Shows, names_of as opens_names, live_of as live_in, uses_of}
-use Rattle.pg_ports.specs.PgOpens.Readings.{is_locking}
-use Rattle.pg_ports.specs.PgStep.Attempts.{attempt, ask, own_reference, with_asked}
-use Rattle.pg_ports.specs.PgStep.Nodes.{Node, Nodes, is_peer, greatest}
-use Rattle.pg_ports.specs.PgStep.Peers.{would_grant}
-use Rattle.pg_ports.specs.PgStep.State.{State, Status, Use, formed}
-use Rattle.pg_ports.specs.PgStep.State.Use.{Locking}
+use Rattle.pg_node_ports.specs.PgNodeOpens.Opens.{Shows, names_of as opens_names, live_of as live_in, uses_of}
+use Rattle.pg_node_ports.specs.PgNodeOpens.Readings.{is_locking}
+use Rattle.pg_node_ports.specs.PgStep.Attempts.{attempt, ask, own_reference, with_asked}
+use Rattle.pg_node_ports.specs.PgStep.Nodes.{Node, Nodes, is_peer, greatest}
+use Rattle.pg_node_ports.specs.PgStep.Peers.{would_grant}
+use Rattle.pg_node_ports.specs.PgStep.State.{State, Status, Use, formed}
+use Rattle.pg_node_ports.specs.PgStep.State.Use.{Locking}
 use Rattle.pg_node_state.specs.Ports.{merged_in}
 use Rattle.pg_node_state.specs.States.{names_of, live_of, kept_by}
 use Rattle.pg_node_state.proofs.Attempted.{statuses, attempt_asks, rest_turn, rest_sends, rest_locks}
 use Rattle.pg_node_state.proofs.First.{WaitsWith, waits_with, first_state}
-use Rattle.pg_sends.proofs.Updates.{same_update}
+use Rattle.pg_node_sends.proofs.Updates.{same_update}
 use Rattle.pg_node_state.proofs.First.{first_given, asked_under, grants_no_more}
 use Rattle.pg_node_state.proofs.Given.{given_use, of_lock, waiting_came}
 use Rattle.pg_node_state.proofs.Kept.{shows, assembled, happens_as}
 use Rattle.pg_node_state.proofs.Steady.{peers_stay, own_stays, merged_stay}
 use Rattle.pg_node_state.proofs.Steady.{lost_stay, made_stay, given_stay, live_stays}
 use Rattle.pg_node_state.proofs.Turned.{own_apart}
-use Rattle.pg_sends.proofs.Undone.{granted_free}
+use Rattle.pg_node_sends.proofs.Undone.{granted_free}
 use Rattle.pg_node_state.proofs.state.NodeState.ask_everyone.Goals as goal
 
 pub ask_own-requires : goal.ask_own-requires

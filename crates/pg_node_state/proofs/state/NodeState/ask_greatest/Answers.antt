@@ -1,16 +1,16 @@
 use Rattle.std.proofs.Common.{◌≡◌, ◌∙◌, ◌+◌, true, false, sym, refl, subst, arith}
-use Rattle.pg_ports.specs.PgMachine.Clocked.{stamped}
-use Rattle.pg_ports.specs.PgMessage.declared.message.Message.{Message}
-use Rattle.pg_ports.specs.PgMessage.declared.message.Message.TheVariants.{Call}
-use Rattle.pg_ports.specs.PgMessage.declared.message.Request.TheVariants.{SetLock}
-use Rattle.pg_ports.specs.PgGroup.Value.{name_of}
-use Rattle.pg_ports.specs.PgLock.Locks.{locks_of}
-use Rattle.pg_ports.specs.PgEnds.Processes.{node_of}
+use Rattle.pg_node_ports.specs.PgStep.Machines.Clocked.{stamped}
+use Rattle.pg_node_ports.specs.PgMessageTypes.declared.message.Message.{Message}
+use Rattle.pg_node_ports.specs.PgMessageTypes.declared.message.Message.TheVariants.{Call}
+use Rattle.pg_node_ports.specs.PgMessageTypes.declared.message.Request.TheVariants.{SetLock}
+use Rattle.pg_node_ports.specs.PgGroup.Value.{name_of}
+use Rattle.pg_node_ports.specs.PgLock.Locks.{locks_of}
+use Rattle.pg_node_ports.specs.PgEnds.Processes.{node_of}
 use Rattle.pg_term.specs.Same.{same_atom}
-use Rattle.pg_ports.specs.PgOpens.Opens.{Shows, names_of as opens_names}
-use Rattle.pg_ports.specs.PgStep.Attempts.{own_reference, attempt}
-use Rattle.pg_ports.specs.PgStep.Nodes.{Node, Nodes, is_node, is_peer, greatest, to_one}
-use Rattle.pg_ports.specs.PgStep.State.{State}
+use Rattle.pg_node_ports.specs.PgNodeOpens.Opens.{Shows, names_of as opens_names}
+use Rattle.pg_node_ports.specs.PgStep.Attempts.{own_reference, attempt}
+use Rattle.pg_node_ports.specs.PgStep.Nodes.{Node, Nodes, is_node, is_peer, greatest, to_one}
+use Rattle.pg_node_ports.specs.PgStep.State.{State}
 use Rattle.pg_node_state.specs.Issued.{asked_first}
 use Rattle.pg_node_state.specs.Ports.{merged_in}
 use Rattle.pg_node_state.specs.States.{names_of, live_of, kept_by}

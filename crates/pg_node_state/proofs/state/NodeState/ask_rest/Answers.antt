@@ -1,20 +1,20 @@
 use Rattle.std.proofs.Common.{◌∙◌, ◌&&◌, ap, sym, refl, arith, true, length}
-use Rattle.pg_ports.specs.PgGroup.Value.{name_of}
-use Rattle.pg_ports.specs.PgLock.Locks.{locks_of, after_ask}
-use Rattle.pg_ports.specs.PgEnds.Processes.{node_of}
-use Rattle.pg_ports.specs.PgOpens.Opens.{Shows, names_of as opens_names}
-use Rattle.pg_ports.specs.PgOpens.Readings.{update_of}
-use Rattle.pg_ports.specs.PgStep.State.{State}
+use Rattle.pg_node_ports.specs.PgGroup.Value.{name_of}
+use Rattle.pg_node_ports.specs.PgLock.Locks.{locks_of, after_ask}
+use Rattle.pg_node_ports.specs.PgEnds.Processes.{node_of}
+use Rattle.pg_node_ports.specs.PgNodeOpens.Opens.{Shows, names_of as opens_names}
+use Rattle.pg_node_ports.specs.PgNodeOpens.Readings.{update_of}
+use Rattle.pg_node_ports.specs.PgStep.State.{State}
 use Rattle.pg_node_state.specs.Ports.{merged_in}
-use Rattle.pg_ports.specs.Ports.{port_commands}
+use Rattle.pg_node_ports.specs.Ports.{port_commands}
 use Rattle.pg_node_state.specs.States.{live_of, kept_by}
 use Rattle.pg_node_state.proofs.Kept.{shows, assembled}
 use Rattle.pg_node_state.proofs.Steady.{peers_stay, own_stays, merged_stay, lost_stay, made_stay, given_stay}
 use Rattle.pg_node_state.proofs.Turned.{LockParts, parts_by}
-use Rattle.pg_sends.proofs.Updates.{update_is}
-use Rattle.pg_ports.specs.PgStep.Attempts.{ask, with_asked}
-use Rattle.pg_ports.specs.PgStep.Peers.{would_grant}
-use Rattle.pg_ports.specs.PgStep.State.Use.{Locking}
+use Rattle.pg_node_sends.proofs.Updates.{update_is}
+use Rattle.pg_node_ports.specs.PgStep.Attempts.{ask, with_asked}
+use Rattle.pg_node_ports.specs.PgStep.Peers.{would_grant}
+use Rattle.pg_node_ports.specs.PgStep.State.Use.{Locking}
 use Rattle.pg_node_state.proofs.Given.{given_use, of_lock, locking_came, gathered_named}
 use Rattle.pg_node_state.proofs.state.NodeState.ask_rest.Goals as goal
 

@@ -1,5 +1,5 @@
 use Rattle.std.proofs.Common.{not, ap, ◌∙◌, arith}
-use Rattle.pg_ports.proofs.PgOpens.Asking.{peer_left}
+use Rattle.pg_node_ports.proofs.PgNodeOpens.Asking.{peer_left}
 use Rattle.pg_node_state.proofs.state.NodeState.attempt.Goals as goal
 
 pub ask_greatest-requires-clause-peer : goal.ask_greatest-requires-clause-peer

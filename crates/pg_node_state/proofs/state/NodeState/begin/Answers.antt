@@ -1,31 +1,31 @@
 use Rattle.std.proofs.Common.{◌≡◌, ◌∙◌, ◌+◌, ◌^◌, ◌&&◌, ℕ, ap, sym, refl, arith, true, subst, nat_eq, length}
-use Rattle.pg_ports.specs.PgGroup.declared.update.Update.{Update as Change}
-use Rattle.pg_ports.specs.PgGroup.Value.{name_of}
-use Rattle.pg_ports.specs.PgGroup.Ended.{ended_of}
-use Rattle.pg_ports.specs.PgLock.Locks.{locks_of, after_ask}
-use Rattle.pg_ports.specs.PgEnds.Processes.{node_of}
-use Rattle.pg_ports.specs.PgOpens.Opens.{Shows, names_of as opens_names}
-use Rattle.pg_ports.specs.PgOpens.Readings.{update_of}
-use Rattle.pg_ports.specs.PgStep.State.{State}
+use Rattle.pg_node_ports.specs.PgGroup.declared.update.Update.{Update as Change}
+use Rattle.pg_node_ports.specs.PgGroup.Value.{name_of}
+use Rattle.pg_node_ports.specs.PgGroup.Ended.{ended_of}
+use Rattle.pg_node_ports.specs.PgLock.Locks.{locks_of, after_ask}
+use Rattle.pg_node_ports.specs.PgEnds.Processes.{node_of}
+use Rattle.pg_node_ports.specs.PgNodeOpens.Opens.{Shows, names_of as opens_names}
+use Rattle.pg_node_ports.specs.PgNodeOpens.Readings.{update_of}
+use Rattle.pg_node_ports.specs.PgStep.State.{State}
 use Rattle.pg_node_state.specs.Ports.{merged_in}
-use Rattle.pg_ports.specs.Ports.{port_commands}
+use Rattle.pg_node_ports.specs.Ports.{port_commands}
 use Rattle.pg_node_state.specs.States.{live_of, kept_by}
 use Rattle.pg_node_state.proofs.Kept.{shows, assembled}
 use Rattle.pg_node_state.proofs.Steady.{peers_stay, own_stays, merged_stay, lost_stay, made_stay, given_stay}
 use Rattle.pg_node_state.proofs.Turned.{Locks as LockOf, locks_by}
-use Rattle.pg_sends.proofs.Updates.{update_is}
+use Rattle.pg_node_sends.proofs.Updates.{update_is}
 use Rattle.std.proofs.lemmas.Bool.{eq-eqb}
 use Rattle.pg_term.specs.Same.{same_atom}
-use Rattle.pg_ports.proofs.PgGroup.Changes.{upd_at}
-use Rattle.pg_ports.specs.PgGroup.Table.{changed}
-use Rattle.pg_ports.specs.PgStep.Attempts.{ask, begin, with_asked}
-use Rattle.pg_ports.specs.PgStep.Nodes.{Node, Nodes}
-use Rattle.pg_ports.specs.PgStep.Peers.{would_grant}
-use Rattle.pg_ports.specs.PgStep.State.{Status, Use}
-use Rattle.pg_ports.specs.PgStep.State.Use.{Locking, Owning, Updating}
-use Rattle.pg_ports.specs.PgStep.State.Stage.{Changing}
-use Rattle.pg_ports.specs.PgOpens.Readings.{is_locking}
-use Rattle.pg_ports.specs.PgOpens.Opens.{uses_of}
+use Rattle.pg_node_ports.proofs.PgGroup.Changes.{upd_at}
+use Rattle.pg_node_ports.specs.PgGroup.Table.{changed}
+use Rattle.pg_node_ports.specs.PgStep.Attempts.{ask, begin, with_asked}
+use Rattle.pg_node_ports.specs.PgStep.Nodes.{Node, Nodes}
+use Rattle.pg_node_ports.specs.PgStep.Peers.{would_grant}
+use Rattle.pg_node_ports.specs.PgStep.State.{Status, Use}
+use Rattle.pg_node_ports.specs.PgStep.State.Use.{Locking, Owning, Updating}
+use Rattle.pg_node_ports.specs.PgStep.State.Stage.{Changing}
+use Rattle.pg_node_ports.specs.PgNodeOpens.Readings.{is_locking}
+use Rattle.pg_node_ports.specs.PgNodeOpens.Opens.{uses_of}
 use Rattle.pg_node_state.proofs.Counts.{few_changed}
 use Rattle.pg_node_state.proofs.Given.{given_use, of_any, given_stage, of_lock, of_none}
 use Rattle.pg_node_state.proofs.Given.{of_update, locking_came, gathered_named}

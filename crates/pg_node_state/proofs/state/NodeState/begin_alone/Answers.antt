@@ -1,48 +1,48 @@
 use Rattle.std.proofs.Common.{◌≡◌, ◌∙◌, ◌+◌, ◌^◌, ◌<◌, ◌≤◌, ◌&&◌, ℕ, Bool}
 use Rattle.std.proofs.Common.{length, ap, sym, refl, arith, true, subst, nat_eq}
-use Rattle.pg_ports.specs.PgGroup.declared.update.Update.{Update as Change}
-use Rattle.pg_ports.specs.PgGroup.Value.{name_of}
-use Rattle.pg_ports.specs.PgGroup.Ended.{ended_of}
-use Rattle.pg_ports.specs.PgLock.Locks.{Locks, locks_of, given_up, is_holder}
-use Rattle.pg_ports.specs.PgEnds.Processes.{node_of}
-use Rattle.pg_ports.specs.PgOpens.Opens.{Shows, names_of as opens_names, live_of as live_in}
-use Rattle.pg_ports.specs.PgOpens.Readings.{update_of}
-use Rattle.pg_ports.specs.PgStep.State.{State}
+use Rattle.pg_node_ports.specs.PgGroup.declared.update.Update.{Update as Change}
+use Rattle.pg_node_ports.specs.PgGroup.Value.{name_of}
+use Rattle.pg_node_ports.specs.PgGroup.Ended.{ended_of}
+use Rattle.pg_node_ports.specs.PgLock.Locks.{Locks, locks_of, given_up, is_holder}
+use Rattle.pg_node_ports.specs.PgEnds.Processes.{node_of}
+use Rattle.pg_node_ports.specs.PgNodeOpens.Opens.{Shows, names_of as opens_names, live_of as live_in}
+use Rattle.pg_node_ports.specs.PgNodeOpens.Readings.{update_of}
+use Rattle.pg_node_ports.specs.PgStep.State.{State}
 use Rattle.pg_node_state.specs.Ports.{merged_in}
-use Rattle.pg_ports.specs.Ports.{port_commands}
+use Rattle.pg_node_ports.specs.Ports.{port_commands}
 use Rattle.pg_node_state.specs.States.{names_of, live_of, kept_by}
 use Rattle.pg_node_state.proofs.Kept.{shows, assembled}
 use Rattle.pg_node_state.proofs.Steady.{peers_stay, own_stays, merged_stay, lost_stay, made_stay, given_stay}
 use Rattle.pg_node_state.proofs.Turned.{Locks as LockOf, locks_by}
-use Rattle.pg_sends.proofs.Updates.{update_is}
+use Rattle.pg_node_sends.proofs.Updates.{update_is}
 use Rattle.std.proofs.lemmas.Bool.{eq-eqb}
 use Rattle.pg_term.specs.Same.{same_atom}
-use Rattle.pg_ports.proofs.PgGroup.Changes.{upd_at}
-use Rattle.pg_ports.specs.PgGroup.Functions.{upd}
-use Rattle.pg_ports.specs.PgGroup.Value.{count_in}
-use Rattle.pg_ports.specs.PgGroup.Table.{Table, changed}
-use Rattle.pg_ports.specs.PgStep.Attempts.{ask, asks, begin, finish, with_asked, own_reference}
-use Rattle.pg_ports.specs.PgStep.declared.answer.Reply.TheVariants as reply
-use Rattle.pg_ports.specs.PgStep.Turns.{NodeTurn}
-use Rattle.pg_ports.specs.PgMachine.Clocked.{stamped}
+use Rattle.pg_node_ports.proofs.PgGroup.Changes.{upd_at}
+use Rattle.pg_node_ports.specs.PgGroup.Functions.{upd}
+use Rattle.pg_node_ports.specs.PgGroup.Value.{count_in}
+use Rattle.pg_node_ports.specs.PgGroup.Table.{Table, changed}
+use Rattle.pg_node_ports.specs.PgStep.Attempts.{ask, asks, begin, finish, with_asked, own_reference}
+use Rattle.pg_node_ports.specs.PgStep.declared.answer.Reply.TheVariants as reply
+use Rattle.pg_node_ports.specs.PgStep.Turns.{NodeTurn}
+use Rattle.pg_node_ports.specs.PgStep.Machines.Clocked.{stamped}
 use Rattle.std.proofs.Math.Path.{fun_ext}
 use Rattle.std.proofs.Common.{Option, ◌++◌, ◌∷◌, []}
-use Rattle.pg_ports.specs.PgOpens.Places.{name_at}
-use Rattle.pg_ports.specs.PgStep.State.{Response}
-use Rattle.pg_ports.specs.PgMessage.declared.message.Message.TheVariants.{Call}
-use Rattle.pg_ports.specs.PgMessage.declared.message.Request.TheVariants as request
+use Rattle.pg_node_ports.specs.PgNodeOpens.Places.{name_at}
+use Rattle.pg_node_ports.specs.PgStep.State.{Response}
+use Rattle.pg_node_ports.specs.PgMessageTypes.declared.message.Message.TheVariants.{Call}
+use Rattle.pg_node_ports.specs.PgMessageTypes.declared.message.Request.TheVariants as request
 use Rattle.pg_node_state.specs.States.{Gave}
-use Rattle.pg_ports.specs.Ports.{answers_in}
-use Rattle.pg_sends.proofs.Undone.{granted_free, not_taken}
-use Rattle.pg_ports.specs.PgStep.State.{formed}
-use Rattle.pg_ports.specs.PgStep.Nodes.{Node, Nodes}
-use Rattle.pg_ports.specs.PgStep.Peers.{would_grant}
-use Rattle.pg_ports.specs.PgStep.declared.command.OpId.{OpId}
-use Rattle.pg_ports.specs.PgStep.State.{Status, Use}
-use Rattle.pg_ports.specs.PgStep.State.Use.{Locking, Owning, Updating, Spent}
-use Rattle.pg_ports.specs.PgStep.State.Stage.{Changing, Closed}
-use Rattle.pg_ports.specs.PgOpens.Readings.{is_locking, is_updating}
-use Rattle.pg_ports.specs.PgOpens.Opens.{uses_of}
+use Rattle.pg_node_ports.specs.Ports.{answers_in}
+use Rattle.pg_node_sends.proofs.Undone.{granted_free, not_taken}
+use Rattle.pg_node_ports.specs.PgStep.State.{formed}
+use Rattle.pg_node_ports.specs.PgStep.Nodes.{Node, Nodes}
+use Rattle.pg_node_ports.specs.PgStep.Peers.{would_grant}
+use Rattle.pg_node_ports.specs.PgStep.declared.command.OpId.{OpId}
+use Rattle.pg_node_ports.specs.PgStep.State.{Status, Use}
+use Rattle.pg_node_ports.specs.PgStep.State.Use.{Locking, Owning, Updating, Spent}
+use Rattle.pg_node_ports.specs.PgStep.State.Stage.{Changing, Closed}
+use Rattle.pg_node_ports.specs.PgNodeOpens.Readings.{is_locking, is_updating}
+use Rattle.pg_node_ports.specs.PgNodeOpens.Opens.{uses_of}
 use Rattle.pg_node_state.proofs.Counts.{few_changed}
 use Rattle.pg_node_state.proofs.Given.{given_use, of_any, given_stage, of_lock, of_none}
 use Rattle.pg_node_state.proofs.Given.{of_update, given_ports, locking_came, gathered_named}

@@ -1,11 +1,11 @@
 use Rattle.std.proofs.Common.{◌≡◌, true, sym, subst, rules}
 use Rattle.std.specs.Prelude.{IfOk}
 use Rattle.std.specs.Option.{is_some}
-use Rattle.pg_ports.specs.PgStep.declared.command.Command.{Command}
-use Rattle.pg_ports.specs.PgStep.Commands.{carried_out, change_of}
-use Rattle.pg_ports.specs.PgStep.Step.{at_clock}
-use Rattle.pg_ports.specs.PgStep.StepLaws.{is_query}
-use Rattle.pg_ports.specs.PgStep.Turns.{NodeTurn}
+use Rattle.pg_node_ports.specs.PgStep.declared.command.Command.{Command}
+use Rattle.pg_node_ports.specs.PgStep.Commands.{carried_out, change_of}
+use Rattle.pg_node_ports.specs.PgStep.Step.{at_clock}
+use Rattle.pg_node_ports.specs.PgStep.StepLaws.{is_query}
+use Rattle.pg_node_ports.specs.PgStep.Turns.{NodeTurn}
 use Rattle.pg_node_state.specs.Issued.{op_issued}
 use Rattle.pg_node_state.specs.States.{names_of, nodes_of, live_of, kept_by, state_of, answers_of, Happens}
 use Rattle.pg_node_state.proofs.Commanded.{changes, named_by, reads_table}

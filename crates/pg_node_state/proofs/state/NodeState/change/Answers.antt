@@ -1,9 +1,9 @@
 use Rattle.std.proofs.Common.{◌∙◌, Option, refl, sym, subst}
 use Rattle.std.specs.Prelude.{IfOk}
-use Rattle.pg_ports.specs.PgStep.declared.answer.Reply.{Reply}
-use Rattle.pg_ports.specs.PgStep.State.Response.{Given}
-use Rattle.pg_ports.specs.PgStep.Commands.{change_by}
-use Rattle.pg_ports.specs.PgStep.Step.{at_clock}
+use Rattle.pg_node_ports.specs.PgStep.declared.answer.Reply.{Reply}
+use Rattle.pg_node_ports.specs.PgStep.State.Response.{Given}
+use Rattle.pg_node_ports.specs.PgStep.Commands.{change_by}
+use Rattle.pg_node_ports.specs.PgStep.Step.{at_clock}
 use Rattle.pg_node_state.specs.Issued.{op_issued}
 use Rattle.pg_node_state.specs.States.{names_of, live_of, kept_by, state_of, answers_of, Happens}
 use Rattle.pg_node_state.proofs.state.NodeState.change.Goals as goal

@@ -1,29 +1,29 @@
 use Rattle.std.proofs.Common.{◌≡◌, ◌∙◌, ◌+◌, ◌-◌, ◌<◌, ◌≤◌, ◌^◌, ◌++◌, ◌∷◌, [], ℕ}
 use Rattle.std.proofs.Common.{true, false, length, nat_eq, ap, sym, refl, subst, arith}
-use Rattle.pg_ports.specs.PgMachine.Clocked.{stamped}
-use Rattle.pg_ports.specs.PgGroup.declared.update.Update.{Update as Change}
-use Rattle.pg_ports.specs.PgGroup.Ended.{ended_of}
-use Rattle.pg_ports.specs.PgGroup.Functions.{upd}
-use Rattle.pg_ports.specs.PgGroup.Table.{Table, changed}
-use Rattle.pg_ports.specs.PgGroup.Value.{count_in}
-use Rattle.pg_ports.specs.PgLock.Locks.{locks_of}
-use Rattle.pg_ports.specs.PgEnds.Processes.{node_of}
+use Rattle.pg_node_ports.specs.PgStep.Machines.Clocked.{stamped}
+use Rattle.pg_node_ports.specs.PgGroup.declared.update.Update.{Update as Change}
+use Rattle.pg_node_ports.specs.PgGroup.Ended.{ended_of}
+use Rattle.pg_node_ports.specs.PgGroup.Functions.{upd}
+use Rattle.pg_node_ports.specs.PgGroup.Table.{Table, changed}
+use Rattle.pg_node_ports.specs.PgGroup.Value.{count_in}
+use Rattle.pg_node_ports.specs.PgLock.Locks.{locks_of}
+use Rattle.pg_node_ports.specs.PgEnds.Processes.{node_of}
 use Rattle.pg_term.specs.Same.{same_atom}
-use Rattle.pg_ports.specs.PgOpens.Opens.{Shows, names_of as opens_names}
-use Rattle.pg_ports.specs.PgStep.Attempts.{attempt}
-use Rattle.pg_ports.specs.PgStep.declared.answer.Reply.TheVariants as reply
-use Rattle.pg_ports.specs.PgStep.Nodes.{Node, Nodes, is_peer, greatest}
-use Rattle.pg_ports.specs.PgStep.State.{State}
-use Rattle.pg_ports.specs.PgStep.Turns.{NodeTurn}
+use Rattle.pg_node_ports.specs.PgNodeOpens.Opens.{Shows, names_of as opens_names}
+use Rattle.pg_node_ports.specs.PgStep.Attempts.{attempt}
+use Rattle.pg_node_ports.specs.PgStep.declared.answer.Reply.TheVariants as reply
+use Rattle.pg_node_ports.specs.PgStep.Nodes.{Node, Nodes, is_peer, greatest}
+use Rattle.pg_node_ports.specs.PgStep.State.{State}
+use Rattle.pg_node_ports.specs.PgStep.Turns.{NodeTurn}
 use Rattle.pg_node_state.specs.Ports.{merged_in}
-use Rattle.pg_ports.specs.Ports.{port_commands}
+use Rattle.pg_node_ports.specs.Ports.{port_commands}
 use Rattle.pg_node_state.specs.States.{names_of, live_of, kept_by}
-use Rattle.pg_sends.specs.Sent.{sends_in}
+use Rattle.pg_node_sends.specs.Sent.{sends_in}
 use Rattle.pg_node_state.proofs.Alone.{no_peers}
 use Rattle.pg_node_state.proofs.Attempted.{attempt_ends, lone_turn, lone_sends, lone_locks}
 use Rattle.pg_node_state.proofs.Counts.{few_changed}
 use Rattle.pg_node_state.proofs.First.{WaitsWith, waits_with, alone_given}
-use Rattle.pg_sends.proofs.Updates.{same_update}
+use Rattle.pg_node_sends.proofs.Updates.{same_update}
 use Rattle.pg_node_state.proofs.Given.{given_ports, waiting_came}
 use Rattle.pg_node_state.proofs.Kept.{shows, assembled, happens_as}
 use Rattle.pg_node_state.proofs.Steady.{peers_stay, own_stays, merged_stay, lost_stay, made_stay, given_stay}

@@ -1,5 +1,5 @@
 use Rattle.std.proofs.Common.{◌≤◌, ◌+◌, arith}
-use Rattle.pg_ports.specs.PgStep.Step.{CLOCK_LIMIT}
+use Rattle.pg_node_ports.specs.PgStep.Step.{CLOCK_LIMIT}
 use Rattle.pg_node_state.specs.Issued.{ports_of}
 use Rattle.pg_node_state.specs.States.{names_of, nodes_of, state_of, answers_of}
 use Rattle.pg_node_state.proofs.Coming.{stays_too}

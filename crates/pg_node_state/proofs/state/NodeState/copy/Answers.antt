@@ -1,7 +1,7 @@
 use Rattle.std.proofs.Common.{refl, sym}
 use Rattle.pg_node_state.proofs.Copied.{kept_too}
 use Rattle.pg_node_state.proofs.SameNodes.{alike_forth, same_of_alike}
-use Rattle.pg_ports.proofs.SamePorts.{same_of_copies}
+use Rattle.pg_node_ports.proofs.SamePorts.{same_of_copies}
 use Rattle.pg_node_state.proofs.state.NodeState.copy.Goals as goal
 
 pub invariant_of-result : goal.invariant_of-result

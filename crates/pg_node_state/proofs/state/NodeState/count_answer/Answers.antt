@@ -1,22 +1,22 @@
 use Rattle.std.proofs.Common.{◌≡◌, ◌∙◌, ◌+◌, ℕ, List, nat_eq, sym, ap, refl, subst}
 use Rattle.std.proofs.lemmas.Bool.{eq-eqb}
 use Rattle.pg_term.specs.Same.{same_atom}
-use Rattle.pg_ports.specs.PgGroup.Functions.{upd}
-use Rattle.pg_ports.proofs.PgGroup.Changes.{upd_at}
-use Rattle.pg_ports.specs.PgEnds.Processes.{node_of}
-use Rattle.pg_ports.specs.PgMachine.Clocked.{Timed}
-use Rattle.pg_ports.specs.PgOpens.declared.opens.Opens.{Opens}
-use Rattle.pg_ports.specs.PgOpens.Opens.{Shows, names_of as opens_names, live_of as live_in, uses_of}
-use Rattle.pg_ports.specs.PgOpens.Places.{name_at}
-use Rattle.pg_ports.specs.PgOpens.Readings.{gathering_of, is_locking}
-use Rattle.pg_ports.specs.PgStep.declared.command.OpId.{OpId}
-use Rattle.pg_ports.specs.PgStep.Nodes.{Node}
-use Rattle.pg_ports.specs.PgStep.State.{State, Status, Use}
-use Rattle.pg_ports.specs.PgStep.State.Status.{Asked}
-use Rattle.pg_ports.specs.PgStep.State.Use.{Locking}
-use Rattle.pg_ports.specs.PgStep.Attempts.{counted, count_answer, go_on, lock_status}
+use Rattle.pg_node_ports.specs.PgGroup.Functions.{upd}
+use Rattle.pg_node_ports.proofs.PgGroup.Changes.{upd_at}
+use Rattle.pg_node_ports.specs.PgEnds.Processes.{node_of}
+use Rattle.pg_node_ports.specs.PgStep.Machines.Clocked.{Timed}
+use Rattle.pg_node_ports.specs.PgNodeOpens.declared.opens.Opens.{Opens}
+use Rattle.pg_node_ports.specs.PgNodeOpens.Opens.{Shows, names_of as opens_names, live_of as live_in, uses_of}
+use Rattle.pg_node_ports.specs.PgNodeOpens.Places.{name_at}
+use Rattle.pg_node_ports.specs.PgNodeOpens.Readings.{gathering_of, is_locking}
+use Rattle.pg_node_ports.specs.PgStep.declared.command.OpId.{OpId}
+use Rattle.pg_node_ports.specs.PgStep.Nodes.{Node}
+use Rattle.pg_node_ports.specs.PgStep.State.{State, Status, Use}
+use Rattle.pg_node_ports.specs.PgStep.State.Status.{Asked}
+use Rattle.pg_node_ports.specs.PgStep.State.Use.{Locking}
+use Rattle.pg_node_ports.specs.PgStep.Attempts.{counted, count_answer, go_on, lock_status}
 use Rattle.pg_node_state.specs.Ports.{merged_in}
-use Rattle.pg_sends.specs.Sendable.{AreSendable}
+use Rattle.pg_node_sends.specs.Sendable.{AreSendable}
 use Rattle.pg_node_state.specs.States.{names_of, live_of, kept_by, state_of, answers_of}
 use Rattle.pg_node_state.proofs.Given.{given_use, of_lock, locking_came}
 use Rattle.pg_node_state.proofs.Alone.{at_time}

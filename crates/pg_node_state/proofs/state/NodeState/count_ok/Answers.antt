@@ -1,23 +1,23 @@
 use Rattle.std.proofs.Common.{◌≡◌, ◌∙◌, ◌+◌, ℕ, Bool, true, false, cond, List, nat_eq, sym, ap, refl, subst}
 use Rattle.std.proofs.lemmas.Bool.{eq-eqb}
 use Rattle.pg_term.specs.Same.{same_atom}
-use Rattle.pg_ports.specs.PgGroup.Functions.{upd}
-use Rattle.pg_ports.proofs.PgGroup.Changes.{upd_at}
-use Rattle.pg_ports.specs.PgEnds.Processes.{node_of}
-use Rattle.pg_ports.specs.PgMachine.Clocked.{Timed}
-use Rattle.pg_ports.specs.PgOpens.declared.opens.Opens.{Opens}
-use Rattle.pg_ports.specs.PgOpens.Opens.{Shows, names_of as opens_names, live_of as live_in, uses_of}
-use Rattle.pg_ports.specs.PgOpens.Places.{name_at}
-use Rattle.pg_ports.specs.PgOpens.Readings.{gathering_of, is_updating}
-use Rattle.pg_ports.specs.PgStep.declared.command.OpId.{OpId}
-use Rattle.pg_ports.specs.PgStep.Nodes.{Node, Nodes, every}
-use Rattle.pg_ports.specs.PgStep.State.{State, Use}
-use Rattle.pg_ports.specs.PgStep.State.Use.{Updating}
-use Rattle.pg_ports.specs.PgStep.Turns.{becomes}
-use Rattle.pg_ports.specs.PgStep.Attempts.{counted, count_ok, finish, is_complete}
-use Rattle.pg_ports.specs.PgOpens.TakenBack.{ok_taken_back}
+use Rattle.pg_node_ports.specs.PgGroup.Functions.{upd}
+use Rattle.pg_node_ports.proofs.PgGroup.Changes.{upd_at}
+use Rattle.pg_node_ports.specs.PgEnds.Processes.{node_of}
+use Rattle.pg_node_ports.specs.PgStep.Machines.Clocked.{Timed}
+use Rattle.pg_node_ports.specs.PgNodeOpens.declared.opens.Opens.{Opens}
+use Rattle.pg_node_ports.specs.PgNodeOpens.Opens.{Shows, names_of as opens_names, live_of as live_in, uses_of}
+use Rattle.pg_node_ports.specs.PgNodeOpens.Places.{name_at}
+use Rattle.pg_node_ports.specs.PgNodeOpens.Readings.{gathering_of, is_updating}
+use Rattle.pg_node_ports.specs.PgStep.declared.command.OpId.{OpId}
+use Rattle.pg_node_ports.specs.PgStep.Nodes.{Node, Nodes, every}
+use Rattle.pg_node_ports.specs.PgStep.State.{State, Use}
+use Rattle.pg_node_ports.specs.PgStep.State.Use.{Updating}
+use Rattle.pg_node_ports.specs.PgStep.Turns.{becomes}
+use Rattle.pg_node_ports.specs.PgStep.Attempts.{counted, count_ok, finish, is_complete}
+use Rattle.pg_node_ports.specs.PgNodeOpens.TakenBack.{ok_taken_back}
 use Rattle.pg_node_state.specs.Ports.{merged_in}
-use Rattle.pg_sends.specs.Sendable.{AreSendable}
+use Rattle.pg_node_sends.specs.Sendable.{AreSendable}
 use Rattle.pg_node_state.specs.States.{names_of, live_of, kept_by, state_of, answers_of}
 use Rattle.pg_node_state.proofs.Given.{given_use, of_update, updating_came}
 use Rattle.pg_node_state.proofs.Alone.{at_time}

@@ -1,18 +1,18 @@
 use Rattle.std.proofs.Common.{◌≡◌, ◌∙◌, ◌+◌, ℕ, true, false, ap, sym, refl, subst, arith}
-use Rattle.pg_ports.specs.PgMachine.Clocked.{stamped}
-use Rattle.pg_ports.specs.PgLock.Locks.{locks_of}
-use Rattle.pg_ports.specs.PgEnds.Processes.{node_of}
+use Rattle.pg_node_ports.specs.PgStep.Machines.Clocked.{stamped}
+use Rattle.pg_node_ports.specs.PgLock.Locks.{locks_of}
+use Rattle.pg_node_ports.specs.PgEnds.Processes.{node_of}
 use Rattle.pg_term.specs.Same.{same_atom}
-use Rattle.pg_ports.specs.PgOpens.Opens.{Shows, names_of as opens_names, live_of as live_in, uses_of}
-use Rattle.pg_ports.specs.PgOpens.Readings.{is_locking}
-use Rattle.pg_ports.specs.PgStep.Attempts.{attempt, give_up}
-use Rattle.pg_ports.specs.PgStep.Nodes.{Node, Nodes, is_peer, greatest}
-use Rattle.pg_ports.specs.PgStep.State.{State, Use}
-use Rattle.pg_ports.specs.PgStep.State.Use.{Locking, Spent}
-use Rattle.pg_ports.specs.PgStep.State.Stage.{Waiting}
+use Rattle.pg_node_ports.specs.PgNodeOpens.Opens.{Shows, names_of as opens_names, live_of as live_in, uses_of}
+use Rattle.pg_node_ports.specs.PgNodeOpens.Readings.{is_locking}
+use Rattle.pg_node_ports.specs.PgStep.Attempts.{attempt, give_up}
+use Rattle.pg_node_ports.specs.PgStep.Nodes.{Node, Nodes, is_peer, greatest}
+use Rattle.pg_node_ports.specs.PgStep.State.{State, Use}
+use Rattle.pg_node_ports.specs.PgStep.State.Use.{Locking, Spent}
+use Rattle.pg_node_ports.specs.PgStep.State.Stage.{Waiting}
 use Rattle.pg_node_state.specs.Ports.{merged_in}
 use Rattle.pg_node_state.specs.States.{names_of, live_of, kept_by}
-use Rattle.pg_sends.specs.Sent.{sends_in}
+use Rattle.pg_node_sends.specs.Sent.{sends_in}
 use Rattle.pg_node_state.proofs.Attempted.{statuses, attempt_denied, denied_turn, denied_sends, denied_locks}
 use Rattle.pg_node_state.proofs.First.{WaitsWith, waits_with, first_state, first_given, asked_under}
 use Rattle.pg_node_state.proofs.Given.{given_use, given_stage, of_none, waiting_came}

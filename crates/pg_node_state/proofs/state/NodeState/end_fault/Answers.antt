@@ -1,6 +1,6 @@
 use Rattle.std.proofs.Common.{◌≡◌, ◌∙◌, Bool, true, false, not, Err, sym, ap, refl}
-use Rattle.pg_ports.specs.PgOpens.Places.{name_at}
-use Rattle.pg_ports.specs.PgStep.Nodes.{Node}
+use Rattle.pg_node_ports.specs.PgNodeOpens.Places.{name_at}
+use Rattle.pg_node_ports.specs.PgStep.Nodes.{Node}
 use Rattle.pg_term.specs.Same.{same_atom}
 use Rattle.pg_node_state.specs.States.{names_of}
 use Rattle.pg_node_state.proofs.Commanded.{end_told, end_unformed, end_refused}

@@ -1,12 +1,12 @@
 use Rattle.std.proofs.Common.{◌≤◌, ◌+◌, ◌^◌, ◌∙◌, true, List, refl, sym, ap, subst, append-nil, arith}
 use Rattle.std.proofs.Math.Path.{fun_ext}
-use Rattle.pg_ports.specs.PgGroup.Table.{Table}
-use Rattle.pg_ports.specs.PgGroup.Value.{count_in}
-use Rattle.pg_ports.specs.PgMachine.Clocked.{stamped}
-use Rattle.pg_ports.specs.PgMessage.declared.message.Message.{Message}
-use Rattle.pg_ports.specs.PgMessage.declared.message.Message.TheVariants.{Down}
-use Rattle.pg_ports.specs.PgStep.declared.answer.Reply.TheVariants as reply
-use Rattle.pg_ports.specs.PgStep.Nodes.{to_peers}
+use Rattle.pg_node_ports.specs.PgGroup.Table.{Table}
+use Rattle.pg_node_ports.specs.PgGroup.Value.{count_in}
+use Rattle.pg_node_ports.specs.PgStep.Machines.Clocked.{stamped}
+use Rattle.pg_node_ports.specs.PgMessageTypes.declared.message.Message.{Message}
+use Rattle.pg_node_ports.specs.PgMessageTypes.declared.message.Message.TheVariants.{Down}
+use Rattle.pg_node_ports.specs.PgStep.declared.answer.Reply.TheVariants as reply
+use Rattle.pg_node_ports.specs.PgStep.Nodes.{to_peers}
 use Rattle.pg_node_state.specs.States.{live_of, kept_by}
 use Rattle.pg_node_state.proofs.Answered.{counts_within, given_later, given_still, counts_still}
 use Rattle.pg_node_state.proofs.Counts.{few_without}

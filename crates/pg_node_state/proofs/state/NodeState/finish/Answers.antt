@@ -1,22 +1,22 @@
 use Rattle.std.proofs.Common.{◌∙◌, ◌≤◌, ◌<◌, ◌++◌, ◌∷◌, [], nat_eq, ℕ, length, ap, sym, refl, arith, subst}
-use Rattle.pg_ports.specs.PgGroup.Functions.{upd}
-use Rattle.pg_ports.specs.PgGroup.Value.{name_of}
-use Rattle.pg_ports.specs.PgLock.Locks.{locks_of, given_up, is_holder}
-use Rattle.pg_ports.specs.PgEnds.Processes.{node_of}
-use Rattle.pg_ports.specs.PgOpens.Opens.{Shows, names_of as opens_names}
-use Rattle.pg_ports.specs.PgOpens.Readings.{update_of}
-use Rattle.pg_ports.specs.PgStep.State.{State}
+use Rattle.pg_node_ports.specs.PgGroup.Functions.{upd}
+use Rattle.pg_node_ports.specs.PgGroup.Value.{name_of}
+use Rattle.pg_node_ports.specs.PgLock.Locks.{locks_of, given_up, is_holder}
+use Rattle.pg_node_ports.specs.PgEnds.Processes.{node_of}
+use Rattle.pg_node_ports.specs.PgNodeOpens.Opens.{Shows, names_of as opens_names}
+use Rattle.pg_node_ports.specs.PgNodeOpens.Readings.{update_of}
+use Rattle.pg_node_ports.specs.PgStep.State.{State}
 use Rattle.pg_node_state.specs.Ports.{merged_in}
-use Rattle.pg_ports.specs.Ports.{port_commands}
+use Rattle.pg_node_ports.specs.Ports.{port_commands}
 use Rattle.pg_node_state.specs.States.{live_of, kept_by}
 use Rattle.pg_node_state.proofs.Kept.{shows, assembled}
 use Rattle.pg_node_state.proofs.Steady.{peers_stay, own_stays, merged_stay, lost_stay, made_stay, given_stay}
 use Rattle.pg_node_state.proofs.Turned.{Updates, updates_by}
-use Rattle.pg_sends.proofs.Updates.{update_is}
-use Rattle.pg_ports.specs.PgStep.Attempts.{finish}
-use Rattle.pg_ports.specs.PgStep.declared.answer.Reply.TheVariants as reply
-use Rattle.pg_ports.specs.PgStep.State.Use.{Spent}
-use Rattle.pg_ports.specs.PgStep.State.Stage.{Closed}
+use Rattle.pg_node_sends.proofs.Updates.{update_is}
+use Rattle.pg_node_ports.specs.PgStep.Attempts.{finish}
+use Rattle.pg_node_ports.specs.PgStep.declared.answer.Reply.TheVariants as reply
+use Rattle.pg_node_ports.specs.PgStep.State.Use.{Spent}
+use Rattle.pg_node_ports.specs.PgStep.State.Stage.{Closed}
 use Rattle.pg_node_state.proofs.Given.{given_use, of_any, given_stage, given_ports}
 use Rattle.pg_node_state.proofs.Given.{of_none, updating_came, gathered_named}
 use Rattle.pg_node_state.proofs.state.NodeState.finish.Goals as goal

@@ -1,10 +1,10 @@
 use Rattle.std.proofs.Common.{◌∙◌, ◌+◌, ◌*◌, ◌^◌, ◌≤◌, Bool, List, length, ap, sym, arith, subst}
-use Rattle.pg_ports.specs.PgEnds.Processes.{made_of}
-use Rattle.pg_ports.specs.PgOpens.Places.{name_at}
-use Rattle.pg_ports.specs.PgOpens.Opens as opens
-use Rattle.pg_ports.specs.PgStep.Nodes.{Node}
+use Rattle.pg_node_ports.specs.PgEnds.Processes.{made_of}
+use Rattle.pg_node_ports.specs.PgNodeOpens.Places.{name_at}
+use Rattle.pg_node_ports.specs.PgNodeOpens.Opens as opens
+use Rattle.pg_node_ports.specs.PgStep.Nodes.{Node}
 use Rattle.pg_node_state.specs.Ports.{merged_in}
-use Rattle.pg_ports.specs.Ports.{port_commands}
+use Rattle.pg_node_ports.specs.Ports.{port_commands}
 use Rattle.pg_node_state.specs.States.{names_of, kept_by}
 use Rattle.pg_node_state.proofs.Counts.{few_without_node}
 use Rattle.pg_node_state.proofs.Merged.{merged_set, marks_length, both_set}

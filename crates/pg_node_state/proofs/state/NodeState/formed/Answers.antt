@@ -1,5 +1,5 @@
 use Rattle.std.proofs.Common.{◌∙◌}
-use Rattle.pg_ports.specs.PgOpens.Opens.{lost_of}
+use Rattle.pg_node_ports.specs.PgNodeOpens.Opens.{lost_of}
 use Rattle.pg_node_state.specs.States.{names_of}
 use Rattle.pg_node_state.proofs.Formed.{formed_is}
 use Rattle.pg_node_state.proofs.state.NodeState.formed.Goals as goal

@@ -1,10 +1,10 @@
 use Rattle.std.proofs.Common.{◌∙◌, ℕ, sym, ap, subst}
 use Rattle.std.specs.Prelude.{IfOk}
-use Rattle.pg_ports.specs.PgOpens.Outlooks.{outlook_of}
-use Rattle.pg_ports.specs.PgOpens.declared.outlook.Outlook.TheVariants as outlook
-use Rattle.pg_ports.specs.PgStep.State.{Use}
-use Rattle.pg_ports.specs.PgStep.Step.{at_clock}
-use Rattle.pg_ports.specs.PgStep.Turns.{NodeTurn}
+use Rattle.pg_node_ports.specs.PgNodeOpens.Outlooks.{outlook_of}
+use Rattle.pg_node_ports.specs.PgNodeOpens.declared.outlook.Outlook.TheVariants as outlook
+use Rattle.pg_node_ports.specs.PgStep.State.{Use}
+use Rattle.pg_node_ports.specs.PgStep.Step.{at_clock}
+use Rattle.pg_node_ports.specs.PgStep.Turns.{NodeTurn}
 use Rattle.pg_node_state.specs.States.{names_of, live_of, kept_by, state_of, answers_of, Happens}
 use Rattle.pg_node_state.proofs.Chains.{begins_then}
 use Rattle.pg_node_state.proofs.Turned.{Locks as LockOf, locks_by, goes_on, own_apart}

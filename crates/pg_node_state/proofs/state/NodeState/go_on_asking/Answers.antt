@@ -1,7 +1,7 @@
 use Rattle.std.proofs.Common.{◌∙◌, sym, ap, subst}
-use Rattle.pg_ports.specs.PgOpens.Readings.{is_lock}
-use Rattle.pg_ports.specs.PgStep.Step.{at_clock}
-use Rattle.pg_ports.specs.PgStep.Turns.{NodeTurn}
+use Rattle.pg_node_ports.specs.PgNodeOpens.Readings.{is_lock}
+use Rattle.pg_node_ports.specs.PgStep.Step.{at_clock}
+use Rattle.pg_node_ports.specs.PgStep.Turns.{NodeTurn}
 use Rattle.pg_node_state.specs.States.{names_of, live_of, kept_by, state_of, answers_of, Happens}
 use Rattle.pg_node_state.proofs.Retried.{not_asking}
 use Rattle.pg_node_state.proofs.state.NodeState.go_on_asking.Goals as goal

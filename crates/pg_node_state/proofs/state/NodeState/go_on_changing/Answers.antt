@@ -1,8 +1,8 @@
 use Rattle.std.proofs.Common.{◌∙◌, sym, ap, subst}
 use Rattle.std.specs.Prelude.{IfOk}
-use Rattle.pg_ports.specs.PgOpens.Readings.{is_update}
-use Rattle.pg_ports.specs.PgStep.Step.{at_clock}
-use Rattle.pg_ports.specs.PgStep.Turns.{NodeTurn}
+use Rattle.pg_node_ports.specs.PgNodeOpens.Readings.{is_update}
+use Rattle.pg_node_ports.specs.PgStep.Step.{at_clock}
+use Rattle.pg_node_ports.specs.PgStep.Turns.{NodeTurn}
 use Rattle.pg_node_state.specs.States.{names_of, live_of, kept_by, state_of, answers_of, Happens}
 use Rattle.pg_node_state.proofs.Retried.{not_changing, not_all_in, all_in}
 use Rattle.pg_node_state.proofs.Turned.{Updates, updates_by}

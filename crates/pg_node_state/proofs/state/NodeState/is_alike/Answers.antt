@@ -1,6 +1,6 @@
 use Rattle.std.proofs.Common.{◌∙◌, sym}
 use Rattle.std.proofs.lemmas.Result.{IfOk-weaker}
-use Rattle.pg_ports.proofs.PgOpens.Named.{clash}
+use Rattle.pg_node_ports.proofs.PgNodeOpens.Named.{clash}
 use Rattle.pg_node_state.proofs.SameNodes.{alike_forth, alike_back, same_table}
 use Rattle.pg_node_state.proofs.state.NodeState.is_alike.Goals as goal
 

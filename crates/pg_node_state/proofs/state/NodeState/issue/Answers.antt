@@ -1,9 +1,9 @@
 use Rattle.std.proofs.Common.{◌∙◌, Option, sym, ap, subst}
 use Rattle.std.specs.Prelude.{IfOk}
-use Rattle.pg_ports.specs.PgStep.declared.answer.Reply.TheVariants.{Refused}
-use Rattle.pg_ports.specs.PgStep.declared.command_fault.CommandFault.{CommandFault}
-use Rattle.pg_ports.specs.PgStep.Commands.{command_by, refused}
-use Rattle.pg_ports.specs.PgStep.Step.{at_clock}
+use Rattle.pg_node_ports.specs.PgStep.declared.answer.Reply.TheVariants.{Refused}
+use Rattle.pg_node_ports.specs.PgStep.declared.command_fault.CommandFault.{CommandFault}
+use Rattle.pg_node_ports.specs.PgStep.Commands.{command_by, refused}
+use Rattle.pg_node_ports.specs.PgStep.Step.{at_clock}
 use Rattle.pg_node_state.specs.Issued.{op_issued}
 use Rattle.pg_node_state.specs.States.{names_of, live_of, kept_by, state_of, answers_of, Happens}
 use Rattle.pg_node_state.proofs.state.NodeState.issue.Goals as goal

@@ -1,6 +1,6 @@
 use Rattle.std.proofs.Common.{refl}
-use Rattle.pg_ports.specs.PgEnds.Processes.{node_of}
-use Rattle.pg_ports.specs.PgOpens.Opens.{Shows, names_of as opens_names}
+use Rattle.pg_node_ports.specs.PgEnds.Processes.{node_of}
+use Rattle.pg_node_ports.specs.PgNodeOpens.Opens.{Shows, names_of as opens_names}
 use Rattle.pg_node_state.specs.Ports.{merged_in}
 use Rattle.pg_node_state.specs.States.{kept_by}
 use Rattle.pg_node_state.proofs.Kept.{shows, assembled}

@@ -1,13 +1,13 @@
 use Rattle.std.proofs.Common.{◌∙◌, ◌+◌, ℕ, List, refl, ap, arith}
-use Rattle.pg_ports.specs.PgEnds.Numbers.{pid_of}
-use Rattle.pg_ports.specs.PgEnds.Processes.{made_of}
-use Rattle.pg_ports.specs.PgStep.declared.answer.Reply.TheVariants.{Made}
-use Rattle.pg_ports.specs.Ports.{counted_at}
-use Rattle.pg_ports.specs.Ports.{port_commands, answers_in}
+use Rattle.pg_node_ports.specs.PgEnds.Numbers.{pid_of}
+use Rattle.pg_node_ports.specs.PgEnds.Processes.{made_of}
+use Rattle.pg_node_ports.specs.PgStep.declared.answer.Reply.TheVariants.{Made}
+use Rattle.pg_node_ports.specs.Ports.{counted_at}
+use Rattle.pg_node_ports.specs.Ports.{port_commands, answers_in}
 use Rattle.pg_node_state.specs.States.{names_of, kept_by}
-use Rattle.pg_sends.specs.Sent.{sends_in}
+use Rattle.pg_node_sends.specs.Sent.{sends_in}
 use Rattle.pg_node_state.proofs.Answered.{counts_within, given_later, given_still, counts_still}
-use Rattle.pg_ports.proofs.Answered.{answered_on}
+use Rattle.pg_node_ports.proofs.Answered.{answered_on}
 use Rattle.pg_node_state.proofs.state.NodeState.make_process.Goals as goal
 
 pub invariant_of-self : goal.invariant_of-self

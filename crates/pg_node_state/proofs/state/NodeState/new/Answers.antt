@@ -1,11 +1,11 @@
 use Rattle.std.proofs.Common.{ap, subst}
-use Rattle.pg_ports.specs.PgGroup.Table.{Table}
-use Rattle.pg_ports.specs.PgMachine.Clocked.{Timed}
-use Rattle.pg_ports.specs.PgStep.Nodes.{Nodes}
-use Rattle.pg_ports.specs.PgStep.State.{State}
-use Rattle.pg_sends.specs.Opening.{Announces}
+use Rattle.pg_node_ports.specs.PgGroup.Table.{Table}
+use Rattle.pg_node_ports.specs.PgStep.Machines.Clocked.{Timed}
+use Rattle.pg_node_ports.specs.PgStep.Nodes.{Nodes}
+use Rattle.pg_node_ports.specs.PgStep.State.{State}
+use Rattle.pg_node_sends.specs.Opening.{Announces}
 use Rattle.pg_node_state.specs.States.{names_of, nodes_of}
-use Rattle.pg_sends.specs.Sent.{sends_in}
+use Rattle.pg_node_sends.specs.Sent.{sends_in}
 use Rattle.pg_node_state.proofs.Announced.{none_lost}
 use Rattle.pg_node_state.proofs.state.NodeState.new.Goals as goal
 

@@ -1,27 +1,27 @@
 use Rattle.std.proofs.Common.{◌≡◌, ◌∙◌, ◌+◌, ◌<◌, ◌≤◌, ◌^◌, ℕ, List, Some, length, nat_eq, refl, sym, ap, subst, arith}
-use Rattle.pg_ports.specs.PgEnds.Processes.{node_of}
-use Rattle.pg_ports.specs.PgGroup.declared.update.Update.{Update}
-use Rattle.pg_ports.specs.PgGroup.Table.{Table}
-use Rattle.pg_ports.specs.PgGroup.Value.{count_in}
-use Rattle.pg_ports.specs.PgMachine.Clocked.{Timed}
+use Rattle.pg_node_ports.specs.PgEnds.Processes.{node_of}
+use Rattle.pg_node_ports.specs.PgGroup.declared.update.Update.{Update}
+use Rattle.pg_node_ports.specs.PgGroup.Table.{Table}
+use Rattle.pg_node_ports.specs.PgGroup.Value.{count_in}
+use Rattle.pg_node_ports.specs.PgStep.Machines.Clocked.{Timed}
 use Rattle.std.proofs.lemmas.Bool.{eq-eqb}
-use Rattle.pg_ports.specs.PgOpens.declared.opens.Opens.{Opens}
-use Rattle.pg_ports.specs.PgOpens.Opens.{Shows, names_of as opens_names, live_of as live_in}
-use Rattle.pg_ports.specs.PgOpens.Opens.{lost_of, references_of, uses_of, opened_of, stages_of}
-use Rattle.pg_ports.specs.PgOpens.Readings.{stage_seen}
-use Rattle.pg_ports.specs.PgOpens.TakenBack.{command_taken_back}
-use Rattle.pg_ports.proofs.PgGroup.Changes.{upd_at}
-use Rattle.pg_ports.proofs.PgOpens.Followed.{op_same}
-use Rattle.pg_ports.specs.PgStep.declared.answer.Answer.{Answer}
-use Rattle.pg_ports.specs.PgStep.declared.command.OpId.{OpId}
-use Rattle.pg_ports.specs.PgStep.Attempts.{attempt, same_op}
-use Rattle.pg_ports.specs.PgStep.State.{State, Stage}
-use Rattle.pg_ports.specs.PgStep.State.Stage.{Waiting}
-use Rattle.pg_ports.specs.PgStep.Step.{at_clock}
-use Rattle.pg_ports.specs.PgStep.Turns.{NodeTurn}
-use Rattle.pg_ports.specs.Ports.{counted_at}
+use Rattle.pg_node_ports.specs.PgNodeOpens.declared.opens.Opens.{Opens}
+use Rattle.pg_node_ports.specs.PgNodeOpens.Opens.{Shows, names_of as opens_names, live_of as live_in}
+use Rattle.pg_node_ports.specs.PgNodeOpens.Opens.{lost_of, references_of, uses_of, opened_of, stages_of}
+use Rattle.pg_node_ports.specs.PgNodeOpens.Readings.{stage_seen}
+use Rattle.pg_node_ports.specs.PgNodeOpens.TakenBack.{command_taken_back}
+use Rattle.pg_node_ports.proofs.PgGroup.Changes.{upd_at}
+use Rattle.pg_node_ports.proofs.PgNodeOpens.Followed.{op_same}
+use Rattle.pg_node_ports.specs.PgStep.declared.answer.Answer.{Answer}
+use Rattle.pg_node_ports.specs.PgStep.declared.command.OpId.{OpId}
+use Rattle.pg_node_ports.specs.PgStep.Attempts.{attempt, same_op}
+use Rattle.pg_node_ports.specs.PgStep.State.{State, Stage}
+use Rattle.pg_node_ports.specs.PgStep.State.Stage.{Waiting}
+use Rattle.pg_node_ports.specs.PgStep.Step.{at_clock}
+use Rattle.pg_node_ports.specs.PgStep.Turns.{NodeTurn}
+use Rattle.pg_node_ports.specs.Ports.{counted_at}
 use Rattle.pg_node_state.specs.Ports.{merged_in, CameIn}
-use Rattle.pg_ports.specs.Ports.{port_commands, answers_in}
+use Rattle.pg_node_ports.specs.Ports.{port_commands, answers_in}
 use Rattle.pg_node_state.specs.States.{names_of, live_of, kept_by, state_of, answers_of, Happens}
 use Rattle.pg_node_state.proofs.Answered.{counts_within, given_later, next_came, next_closed}
 use Rattle.pg_node_state.proofs.Coming.{on_err}
@@ -30,7 +30,7 @@ use Rattle.pg_node_state.proofs.Kept.{shows, assembled, assembled_state, happens
 use Rattle.pg_node_state.proofs.Opened.{counted_state, opened_state, shows_counted, shows_undone}
 use Rattle.pg_node_state.proofs.Steady.{peers_stay, own_stays, merged_stay}
 use Rattle.pg_node_state.proofs.Steady.{lost_stay, made_stay, given_stay, live_stays}
-use Rattle.pg_sends.proofs.Updates.{update_is}
+use Rattle.pg_node_sends.proofs.Updates.{update_is}
 use Rattle.pg_node_state.proofs.state.NodeState.open.Goals as goal
 
 pub invariant_of-self : goal.invariant_of-self

@@ -1,7 +1,7 @@
 use Rattle.std.proofs.Common.{subst}
-use Rattle.pg_ports.specs.PgStep.Nodes.{Node}
-use Rattle.pg_ports.specs.PgStep.State.Response.{Read}
-use Rattle.pg_ports.specs.PgStep.Commands.{Reads}
+use Rattle.pg_node_ports.specs.PgStep.Nodes.{Node}
+use Rattle.pg_node_ports.specs.PgStep.State.Response.{Read}
+use Rattle.pg_node_ports.specs.PgStep.Commands.{Reads}
 use Rattle.pg_node_state.specs.States.{kept_by}
 use Rattle.pg_node_state.proofs.state.NodeState.read.Goals as goal
 

@@ -1,7 +1,7 @@
 use Rattle.std.proofs.Common.{◌∙◌, ◌+◌, ◌≤◌, refl, sym, subst, arith}
 use Rattle.std.specs.Prelude.{Ok, Err}
-use Rattle.pg_ports.specs.PgStep.Step.{CLOCK_LIMIT}
-use Rattle.pg_ports.specs.PgStep.declared.refusal.Refusal.TheVariants as refusal
+use Rattle.pg_node_ports.specs.PgStep.Step.{CLOCK_LIMIT}
+use Rattle.pg_node_ports.specs.PgStep.declared.refusal.Refusal.TheVariants as refusal
 use Rattle.pg_node_state.specs.declared.state.fault.NodeFault.TheVariants.{Refused, OutOfMemory}
 use Rattle.pg_node_state.specs.Issued.{ports_of}
 use Rattle.pg_node_state.specs.States.{names_of, nodes_of, kept_by, state_of, answers_of, Comes}

@@ -1,5 +1,5 @@
 use Rattle.std.proofs.Common.{◌∙◌, sym}
-use Rattle.pg_ports.proofs.PgOpens.Named.{clash}
+use Rattle.pg_node_ports.proofs.PgNodeOpens.Named.{clash}
 use Rattle.pg_node_state.proofs.state.NodeState.same_beside.Goals as goal
 use Rattle.pg_node_state.proofs.state.NodeState.same_beside.Goals.{then-same_processes, else-same_processes}
 

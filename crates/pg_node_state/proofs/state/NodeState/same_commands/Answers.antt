@@ -1,6 +1,6 @@
 use Rattle.std.proofs.Common.{◌∙◌, sym}
-use Rattle.pg_ports.proofs.PgOpens.Named.{clash}
-use Rattle.pg_ports.proofs.SamePorts.{ports_along}
+use Rattle.pg_node_ports.proofs.PgNodeOpens.Named.{clash}
+use Rattle.pg_node_ports.proofs.SamePorts.{ports_along}
 use Rattle.pg_node_state.proofs.state.NodeState.same_commands.Goals as goal
 
 pub returns-then-same : goal.returns-then-same

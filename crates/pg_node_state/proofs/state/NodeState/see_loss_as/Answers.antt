@@ -1,8 +1,8 @@
 use Rattle.std.proofs.Common.{◌≡◌, ◌≤◌, ◌+◌, ◌∙◌, ℕ, false, max, sym, arith}
-use Rattle.pg_ports.specs.PgOpens.Places.{name_at}
-use Rattle.pg_ports.specs.PgOpens.Opens.{lost_of}
-use Rattle.pg_ports.specs.PgStep.Nodes.{Node}
-use Rattle.pg_ports.specs.PgStep.Step.{CLOCK_LIMIT}
+use Rattle.pg_node_ports.specs.PgNodeOpens.Places.{name_at}
+use Rattle.pg_node_ports.specs.PgNodeOpens.Opens.{lost_of}
+use Rattle.pg_node_ports.specs.PgStep.Nodes.{Node}
+use Rattle.pg_node_ports.specs.PgStep.Step.{CLOCK_LIMIT}
 use Rattle.pg_node_state.specs.States.{names_of, state_of, answers_of}
 use Rattle.pg_node_state.proofs.Coming.{stays_too, loss_comes}
 use Rattle.pg_node_state.proofs.state.NodeState.see_loss_as.Goals as goal

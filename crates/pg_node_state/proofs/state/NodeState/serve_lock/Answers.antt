@@ -1,12 +1,12 @@
 use Rattle.std.proofs.Common.{ap, ◌∙◌, ◌+◌, Bool, List}
-use Rattle.pg_ports.specs.PgLock.Locks.{Locks, locks_of, grants, after_ask}
-use Rattle.pg_ports.specs.PgMachine.Clocked.{Stamped, stamped}
-use Rattle.pg_ports.specs.PgMessage.declared.message.Message.{Message}
-use Rattle.pg_ports.specs.PgMessage.declared.message.Message.TheVariants.{Reply}
-use Rattle.pg_ports.specs.PgOpens.Places.{name_at}
-use Rattle.pg_ports.specs.PgStep.Nodes.{Node, to_one}
-use Rattle.pg_ports.specs.PgStep.Peers.{verdict}
-use Rattle.pg_ports.specs.PgOpens.Opens.{lost_of}
+use Rattle.pg_node_ports.specs.PgLock.Locks.{Locks, locks_of, grants, after_ask}
+use Rattle.pg_node_ports.specs.PgStep.Machines.Clocked.{Stamped, stamped}
+use Rattle.pg_node_ports.specs.PgMessageTypes.declared.message.Message.{Message}
+use Rattle.pg_node_ports.specs.PgMessageTypes.declared.message.Message.TheVariants.{Reply}
+use Rattle.pg_node_ports.specs.PgNodeOpens.Places.{name_at}
+use Rattle.pg_node_ports.specs.PgStep.Nodes.{Node, to_one}
+use Rattle.pg_node_ports.specs.PgStep.Peers.{verdict}
+use Rattle.pg_node_ports.specs.PgNodeOpens.Opens.{lost_of}
 use Rattle.pg_node_state.specs.States.{names_of, kept_by}
 use Rattle.pg_node_state.proofs.Formed.{formed_is}
 use Rattle.pg_node_state.proofs.state.NodeState.serve_lock.Goals as goal

@@ -1,5 +1,5 @@
 use Rattle.std.proofs.Common.{◌+◌, ◌^◌, arith}
-use Rattle.pg_ports.specs.PgGroup.Ended.{ended_of}
+use Rattle.pg_node_ports.specs.PgGroup.Ended.{ended_of}
 use Rattle.pg_node_state.specs.States.{names_of}
 use Rattle.pg_node_state.proofs.Counts.{few_changed}
 use Rattle.pg_node_state.proofs.state.NodeState.serve_update.Goals as goal

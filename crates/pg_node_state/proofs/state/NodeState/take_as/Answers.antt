@@ -1,16 +1,16 @@
 use Rattle.std.proofs.Common.{◌≡◌, ◌≤◌, ◌+◌, ◌∙◌, ℕ, Bool, not, true, false, max, refl, sym, ap, subst, arith}
-use Rattle.pg_ports.specs.PgMessage.declared.message.Message.{Message}
-use Rattle.pg_ports.specs.PgMessage.declared.message.Message.TheVariants.{Call, Exchange}
-use Rattle.pg_ports.specs.PgExchange.GroupList.{GroupList}
-use Rattle.pg_ports.specs.PgOpens.Places.{name_at}
-use Rattle.pg_ports.specs.PgOpens.Opens.{lost_of}
-use Rattle.pg_ports.specs.PgStep.Nodes.{Node}
-use Rattle.pg_ports.specs.PgStep.Attempts.{reply_taken}
-use Rattle.pg_ports.specs.PgStep.Peers.{lock_request, update_request, lock_freed, process_end}
-use Rattle.pg_ports.specs.PgStep.Step.{CLOCK_LIMIT, taken}
+use Rattle.pg_node_ports.specs.PgMessageTypes.declared.message.Message.{Message}
+use Rattle.pg_node_ports.specs.PgMessageTypes.declared.message.Message.TheVariants.{Call, Exchange}
+use Rattle.pg_node_ports.specs.PgExchange.GroupList.{GroupList}
+use Rattle.pg_node_ports.specs.PgNodeOpens.Places.{name_at}
+use Rattle.pg_node_ports.specs.PgNodeOpens.Opens.{lost_of}
+use Rattle.pg_node_ports.specs.PgStep.Nodes.{Node}
+use Rattle.pg_node_ports.specs.PgStep.Attempts.{reply_taken}
+use Rattle.pg_node_ports.specs.PgStep.Peers.{lock_request, update_request, lock_freed, process_end}
+use Rattle.pg_node_ports.specs.PgStep.Step.{CLOCK_LIMIT, taken}
 use Rattle.pg_node_state.specs.States.{names_of, nodes_of, live_of, kept_by}
 use Rattle.pg_node_state.specs.States.{state_of, answers_of, takes_none}
-use Rattle.pg_sends.specs.Sent.{stamped_of}
+use Rattle.pg_node_sends.specs.Sent.{stamped_of}
 use Rattle.pg_node_state.proofs.Coming.{stays_too, comes, comes_at, groups_come}
 use Rattle.pg_node_state.proofs.state.NodeState.take_as.Goals as goal
 

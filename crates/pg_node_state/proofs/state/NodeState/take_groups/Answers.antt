@@ -1,7 +1,7 @@
 use Rattle.std.proofs.Common.{◌≡◌, ◌∙◌, ◌+◌, ◌^◌, Bool, List, not, length, Err, ap, sym, refl, arith, true, false}
-use Rattle.pg_ports.specs.PgGroup.Ended.{ended_of}
+use Rattle.pg_node_ports.specs.PgGroup.Ended.{ended_of}
 use Rattle.pg_term.specs.Same.{same_atom}
-use Rattle.pg_ports.specs.PgOpens.Places.{name_at}
+use Rattle.pg_node_ports.specs.PgNodeOpens.Places.{name_at}
 use Rattle.pg_node_state.specs.Ports.{merged_in}
 use Rattle.pg_node_state.specs.States.{names_of, kept_by}
 use Rattle.pg_node_state.proofs.Counts.{few_merged}

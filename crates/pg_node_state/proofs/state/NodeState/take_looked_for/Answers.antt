@@ -1,18 +1,18 @@
 use Rattle.std.proofs.Common.{◌∙◌, ◌+◌, ℕ, true, false, refl, Result, Ok, Err, sym, ap, subst, arith}
 use Rattle.pg_term.specs.RefParts.{RefParts}
-use Rattle.pg_ports.specs.PgRefs.Numbered.{numbered}
-use Rattle.pg_ports.specs.PgMulticall.declared.gather.Taken.TheVariants as taken
-use Rattle.pg_ports.specs.PgOpens.Places.{name_at}
-use Rattle.pg_ports.specs.PgStep.declared.refusal.Refusal.{Refusal}
-use Rattle.pg_ports.specs.PgStep.declared.refusal.Refusal.TheVariants.{NotAMessage}
-use Rattle.pg_ports.specs.PgMulticall.Gathered.{what_of}
-use Rattle.pg_ports.specs.PgStep.Attempts.{gathered}
-use Rattle.pg_ports.specs.PgStep.Nodes.{Node, Nodes}
-use Rattle.pg_ports.specs.PgStep.State.{Use}
-use Rattle.pg_ports.specs.PgStep.Turns.{NodeTurn}
+use Rattle.pg_node_ports.specs.PgRefs.Numbered.{numbered}
+use Rattle.pg_node_ports.specs.PgMulticall.declared.gather.Taken.TheVariants as taken
+use Rattle.pg_node_ports.specs.PgNodeOpens.Places.{name_at}
+use Rattle.pg_node_ports.specs.PgStep.declared.refusal.Refusal.{Refusal}
+use Rattle.pg_node_ports.specs.PgStep.declared.refusal.Refusal.TheVariants.{NotAMessage}
+use Rattle.pg_node_ports.specs.PgMulticall.Gathered.{what_of}
+use Rattle.pg_node_ports.specs.PgStep.Attempts.{gathered}
+use Rattle.pg_node_ports.specs.PgStep.Nodes.{Node, Nodes}
+use Rattle.pg_node_ports.specs.PgStep.State.{Use}
+use Rattle.pg_node_ports.specs.PgStep.Turns.{NodeTurn}
 use Rattle.pg_node_state.specs.declared.state.fault.NodeFault.TheVariants.{OutOfMemory, Refused}
 use Rattle.pg_node_state.specs.States.{names_of, live_of, kept_by, state_of, answers_of, is_counted, ComesAt}
-use Rattle.pg_ports.proofs.PgOpens.Named.{clash}
+use Rattle.pg_node_ports.proofs.PgNodeOpens.Named.{clash}
 use Rattle.pg_node_state.proofs.Replied.{read_numbered, leads, number_is, use_is}
 use Rattle.pg_node_state.proofs.state.NodeState.take_looked_for.Goals.{in-Double+else-kind, in-Counted+else-kind-2}
 use Rattle.pg_node_state.proofs.state.NodeState.take_looked_for.Goals as goal

@@ -1,12 +1,12 @@
 use Rattle.std.proofs.Common.{◌≡◌, ◌∙◌, ◌+◌, ℕ, List, true, ap, subst}
 use Rattle.std.specs.Prelude.{OnErr}
-use Rattle.pg_ports.specs.PgMachine.Clocked.{Timed}
-use Rattle.pg_ports.specs.PgMulticall.Gathered.{what_of}
-use Rattle.pg_ports.specs.PgOpens.Places.{name_at}
-use Rattle.pg_ports.specs.PgRefs.Numbered.{numbered}
-use Rattle.pg_ports.specs.PgStep.declared.answer.Answer.{Answer}
-use Rattle.pg_ports.specs.PgStep.Attempts.{gathered, use_of}
-use Rattle.pg_ports.specs.PgStep.State.{State}
+use Rattle.pg_node_ports.specs.PgStep.Machines.Clocked.{Timed}
+use Rattle.pg_node_ports.specs.PgMulticall.Gathered.{what_of}
+use Rattle.pg_node_ports.specs.PgNodeOpens.Places.{name_at}
+use Rattle.pg_node_ports.specs.PgRefs.Numbered.{numbered}
+use Rattle.pg_node_ports.specs.PgStep.declared.answer.Answer.{Answer}
+use Rattle.pg_node_ports.specs.PgStep.Attempts.{gathered, use_of}
+use Rattle.pg_node_ports.specs.PgStep.State.{State}
 use Rattle.pg_node_state.specs.States.{names_of, live_of, kept_by, state_of, answers_of, is_counted}
 use Rattle.pg_node_state.proofs.Replied.{comes_as}
 use Rattle.pg_node_state.proofs.state.NodeState.take_numbered.Goals as goal

@@ -1,12 +1,12 @@
 use Rattle.std.proofs.Common.{◌≡◌, ◌≤◌, ◌+◌, ◌∙◌, ℕ, Bool, not, true, false, max, refl, sym, arith}
 use Rattle.pg_term.specs.RefParts.{RefParts}
-use Rattle.pg_ports.specs.PgRefs.Numbered.{numbered}
-use Rattle.pg_ports.specs.PgMessage.declared.message.Message.TheVariants.{Reply}
-use Rattle.pg_ports.specs.PgOpens.Places.{name_at}
-use Rattle.pg_ports.specs.PgOpens.Opens.{lost_of}
-use Rattle.pg_ports.specs.PgStep.Nodes.{Node}
-use Rattle.pg_ports.specs.PgStep.Attempts.{reply_taken}
-use Rattle.pg_ports.specs.PgStep.Step.{CLOCK_LIMIT}
+use Rattle.pg_node_ports.specs.PgRefs.Numbered.{numbered}
+use Rattle.pg_node_ports.specs.PgMessageTypes.declared.message.Message.TheVariants.{Reply}
+use Rattle.pg_node_ports.specs.PgNodeOpens.Places.{name_at}
+use Rattle.pg_node_ports.specs.PgNodeOpens.Opens.{lost_of}
+use Rattle.pg_node_ports.specs.PgStep.Nodes.{Node}
+use Rattle.pg_node_ports.specs.PgStep.Attempts.{reply_taken}
+use Rattle.pg_node_ports.specs.PgStep.Step.{CLOCK_LIMIT}
 use Rattle.pg_node_state.specs.States.{names_of, nodes_of, live_of, kept_by, state_of, answers_of}
 use Rattle.pg_node_state.proofs.Coming.{comes_at}
 use Rattle.pg_node_state.proofs.state.NodeState.take_own_reply_as.Goals as goal

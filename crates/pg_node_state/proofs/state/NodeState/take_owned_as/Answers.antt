@@ -1,9 +1,9 @@
 use Rattle.std.proofs.Common.{◌≡◌, ◌+◌, ◌∙◌, ap, sym, subst}
-use Rattle.pg_ports.specs.PgMessage.declared.message.Message.{Message}
-use Rattle.pg_ports.specs.PgMessage.declared.message.Message.TheVariants.{Exchange}
-use Rattle.pg_ports.specs.PgExchange.GroupList.{GroupList}
-use Rattle.pg_ports.specs.PgOpens.Places.{name_at}
-use Rattle.pg_ports.specs.PgStep.Step.{step_take}
+use Rattle.pg_node_ports.specs.PgMessageTypes.declared.message.Message.{Message}
+use Rattle.pg_node_ports.specs.PgMessageTypes.declared.message.Message.TheVariants.{Exchange}
+use Rattle.pg_node_ports.specs.PgExchange.GroupList.{GroupList}
+use Rattle.pg_node_ports.specs.PgNodeOpens.Places.{name_at}
+use Rattle.pg_node_ports.specs.PgStep.Step.{step_take}
 use Rattle.pg_node_state.specs.States.{names_of, nodes_of, state_of, answers_of, Comes}
 use Rattle.pg_node_state.proofs.state.NodeState.take_owned_as.Goals as goal
 

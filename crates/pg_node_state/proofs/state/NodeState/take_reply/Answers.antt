@@ -1,13 +1,13 @@
 use Rattle.std.proofs.Common.{◌∙◌, ◌+◌, ◌^◌, ◌&&◌, ℕ, cond, nat_lt, Some, true, false}
 use Rattle.std.proofs.Common.{◌≡◌, ◌≢◌, None, Result, Ok, Err, sym, ap, subst, arith}
 use Rattle.pg_term.specs.RefParts.{RefParts, ref_eq}
-use Rattle.pg_ports.specs.PgRefs.Numbered.{numbered, number_in}
-use Rattle.pg_ports.specs.PgOpens.Places.{name_at}
-use Rattle.pg_ports.specs.PgStep.declared.refusal.Refusal.{Refusal}
-use Rattle.pg_ports.specs.PgMulticall.Gathered.{what_of}
-use Rattle.pg_ports.specs.PgStep.Attempts.{gathered, use_of, reply_taken}
-use Rattle.pg_ports.specs.PgStep.Nodes.{Node, Nodes}
-use Rattle.pg_ports.specs.PgStep.Turns.{NodeTurn}
+use Rattle.pg_node_ports.specs.PgRefs.Numbered.{numbered, number_in}
+use Rattle.pg_node_ports.specs.PgNodeOpens.Places.{name_at}
+use Rattle.pg_node_ports.specs.PgStep.declared.refusal.Refusal.{Refusal}
+use Rattle.pg_node_ports.specs.PgMulticall.Gathered.{what_of}
+use Rattle.pg_node_ports.specs.PgStep.Attempts.{gathered, use_of, reply_taken}
+use Rattle.pg_node_ports.specs.PgStep.Nodes.{Node, Nodes}
+use Rattle.pg_node_ports.specs.PgStep.Turns.{NodeTurn}
 use Rattle.pg_node_state.specs.declared.state.fault.NodeFault.TheVariants.{OutOfMemory}
 use Rattle.pg_node_state.specs.States.{names_of, live_of, kept_by, state_of, answers_of, is_counted, ComesAt}
 use Rattle.pg_node_state.proofs.Replied.{fresh_beyond, no_number, reference_is}

@@ -1,8 +1,8 @@
 use Rattle.std.proofs.Common.{◌∙◌, sym, subst, arith}
 use Rattle.std.specs.Prelude.{IfOk}
-use Rattle.pg_ports.specs.PgStep.Attempts.{tried_again}
-use Rattle.pg_ports.specs.PgStep.State.{Stage}
-use Rattle.pg_ports.specs.PgStep.Step.{at_clock}
+use Rattle.pg_node_ports.specs.PgStep.Attempts.{tried_again}
+use Rattle.pg_node_ports.specs.PgStep.State.{Stage}
+use Rattle.pg_node_ports.specs.PgStep.Step.{at_clock}
 use Rattle.pg_node_state.specs.States.{names_of, live_of, kept_by, state_of, answers_of, Happens}
 use Rattle.pg_node_state.proofs.First.{WaitsWith, waits_with}
 use Rattle.pg_node_state.proofs.Retried.{closed_is, asking_is, changing_is}

@@ -1,11 +1,11 @@
 use Rattle.std.proofs.Common.{◌≡◌, ◌∙◌, Bool, true, false, cond, nat_le, ap, sym, subst}
 use Rattle.std.specs.Prelude.{IfOk}
-use Rattle.pg_ports.specs.PgStep.Attempts.{attempt}
-use Rattle.pg_ports.specs.PgStep.Commands.{OPEN_LIMIT, answer, open_command, refused}
-use Rattle.pg_ports.specs.PgStep.declared.answer.Reply.TheVariants.{Refused}
-use Rattle.pg_ports.specs.PgStep.declared.command_fault.CommandFault.TheVariants.{Busy}
-use Rattle.pg_ports.specs.PgStep.Step.{at_clock}
-use Rattle.pg_ports.specs.PgStep.Turns.{and_then}
+use Rattle.pg_node_ports.specs.PgStep.Attempts.{attempt}
+use Rattle.pg_node_ports.specs.PgStep.Commands.{OPEN_LIMIT, answer, open_command, refused}
+use Rattle.pg_node_ports.specs.PgStep.declared.answer.Reply.TheVariants.{Refused}
+use Rattle.pg_node_ports.specs.PgStep.declared.command_fault.CommandFault.TheVariants.{Busy}
+use Rattle.pg_node_ports.specs.PgStep.Step.{at_clock}
+use Rattle.pg_node_ports.specs.PgStep.Turns.{and_then}
 use Rattle.pg_node_state.specs.Issued.{op_issued}
 use Rattle.pg_node_state.specs.States.{names_of, live_of, kept_by, state_of, answers_of, Happens}
 use Rattle.pg_node_state.proofs.state.NodeState.undertake.Goals as goal

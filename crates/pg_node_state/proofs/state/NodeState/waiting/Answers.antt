@@ -1,5 +1,5 @@
 use Rattle.std.proofs.Common.{◌++◌, ◌∷◌, [], List, sym, ap, subst, refl, ◌∙◌, arith, take_all}
-use Rattle.pg_ports.specs.PgStep.declared.command.OpId.{OpId}
+use Rattle.pg_node_ports.specs.PgStep.declared.command.OpId.{OpId}
 use Rattle.pg_node_state.specs.States.{live_of, kept_by}
 use Rattle.pg_node_state.specs.Waiting.{AreWaiting, waiting_among, ops_of}
 use Rattle.pg_node_state.proofs.Kept.{shows}

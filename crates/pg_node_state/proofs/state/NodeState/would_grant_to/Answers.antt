@@ -1,9 +1,9 @@
 use Rattle.std.proofs.Common.{◌∙◌, ap, sym}
-use Rattle.pg_ports.specs.PgGroup.Value.{name_of}
-use Rattle.pg_ports.specs.PgLock.Locks.{locks_of, grants}
-use Rattle.pg_ports.specs.PgOpens.Opens.{lost_of}
+use Rattle.pg_node_ports.specs.PgGroup.Value.{name_of}
+use Rattle.pg_node_ports.specs.PgLock.Locks.{locks_of, grants}
+use Rattle.pg_node_ports.specs.PgNodeOpens.Opens.{lost_of}
 use Rattle.pg_node_state.specs.States.{names_of}
-use Rattle.pg_sends.proofs.Updates.{same_update}
+use Rattle.pg_node_sends.proofs.Updates.{same_update}
 use Rattle.pg_node_state.proofs.Formed.{formed_is}
 use Rattle.pg_node_state.proofs.state.NodeState.would_grant_to.Goals as goal
 

@@ -1,20 +1,20 @@
 use Rattle.std.proofs.Common.{◌≡◌, ◌∙◌, ◌+◌, ℕ, Bool, List, length, nat_eq, refl, ap, sym, subst, arith}
 use Rattle.std.proofs.lemmas.Bool.Decides.{nat_tests}
 use Rattle.pg_term.specs.Same.{same_atom}
-use Rattle.pg_ports.specs.PgGroup.Value.{name_of}
-use Rattle.pg_ports.proofs.PgGroup.Changes.{upd_at}
+use Rattle.pg_node_ports.specs.PgGroup.Value.{name_of}
+use Rattle.pg_node_ports.proofs.PgGroup.Changes.{upd_at}
 use Rattle.std.proofs.lemmas.Bool.{eq-eqb}
-use Rattle.pg_ports.specs.PgMarks.declared.mark.Asked.TheVariants.{One}
-use Rattle.pg_ports.specs.PgOpens.Opens.{Shows, names_of, live_of, uses_of, stages_of, references_of}
-use Rattle.pg_ports.specs.PgOpens.Places.{name_at}
-use Rattle.pg_ports.specs.PgOpens.Named.{whom}
-use Rattle.pg_ports.specs.PgOpens.Readings.{is_locking}
-use Rattle.pg_ports.specs.PgStep.Attempts.{ask, new_attempt}
-use Rattle.pg_ports.specs.PgStep.Nodes.{Node, Nodes, greatest}
-use Rattle.pg_ports.specs.PgStep.Peers.{would_grant}
-use Rattle.pg_ports.specs.PgStep.State.{State, Use}
-use Rattle.pg_ports.specs.PgStep.State.Status.{Unasked}
-use Rattle.pg_ports.specs.PgStep.State.Use.{Locking}
+use Rattle.pg_node_ports.specs.PgNodeOpens.declared.mark.Asked.TheVariants.{One}
+use Rattle.pg_node_ports.specs.PgNodeOpens.Opens.{Shows, names_of, live_of, uses_of, stages_of, references_of}
+use Rattle.pg_node_ports.specs.PgNodeOpens.Places.{name_at}
+use Rattle.pg_node_ports.specs.PgNodeOpens.Named.{whom}
+use Rattle.pg_node_ports.specs.PgNodeOpens.Readings.{is_locking}
+use Rattle.pg_node_ports.specs.PgStep.Attempts.{ask, new_attempt}
+use Rattle.pg_node_ports.specs.PgStep.Nodes.{Node, Nodes, greatest}
+use Rattle.pg_node_ports.specs.PgStep.Peers.{would_grant}
+use Rattle.pg_node_ports.specs.PgStep.State.{State, Use}
+use Rattle.pg_node_ports.specs.PgStep.State.Status.{Unasked}
+use Rattle.pg_node_ports.specs.PgStep.State.Use.{Locking}
 use Rattle.pg_node_state.proofs.First.{WaitsWith, waits_with}
 use Rattle.pg_node_state.proofs.Kept.{shown, shows_it}
 use Rattle.pg_node_state.proofs.Steady.{live_stays}

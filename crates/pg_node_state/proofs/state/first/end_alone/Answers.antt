@@ -1,8 +1,8 @@
 use Rattle.std.proofs.Common.{◌∙◌, refl, ap, sym, subst, arith}
-use Rattle.pg_ports.specs.PgGroup.Value.{name_of}
-use Rattle.pg_ports.specs.PgOpens.Opens.{Shows, live_of, stages_of}
-use Rattle.pg_ports.specs.PgOpens.Readings.{is_locking, is_updating}
-use Rattle.pg_ports.specs.PgStep.Turns.{NodeTurn}
+use Rattle.pg_node_ports.specs.PgGroup.Value.{name_of}
+use Rattle.pg_node_ports.specs.PgNodeOpens.Opens.{Shows, live_of, stages_of}
+use Rattle.pg_node_ports.specs.PgNodeOpens.Readings.{is_locking, is_updating}
+use Rattle.pg_node_ports.specs.PgStep.Turns.{NodeTurn}
 use Rattle.pg_node_state.proofs.Alone.{no_peers}
 use Rattle.pg_node_state.proofs.Attempted.{attempt_ends, lone_turn}
 use Rattle.pg_node_state.proofs.First.{WaitsWith, waits_with, granting, shows_granting, granted_there}

@@ -1,9 +1,9 @@
 use Rattle.std.proofs.Common.{◌≡◌, ◌∷◌, ◌+◌, ◌*◌, ◌≤◌, ◌∙◌, ℕ, suc, Bool, List}
 use Rattle.std.proofs.Common.{length, sym, ap, arith, subst, true, false}
 use Rattle.std.proofs.Common.{replicate}
-use Rattle.pg_ports.specs.PgOpens.Places.{name_at}
-use Rattle.pg_ports.specs.PgOpens.Opens as opens
-use Rattle.pg_ports.specs.PgStep.Nodes.{Node}
+use Rattle.pg_node_ports.specs.PgNodeOpens.Places.{name_at}
+use Rattle.pg_node_ports.specs.PgNodeOpens.Opens as opens
+use Rattle.pg_node_ports.specs.PgStep.Nodes.{Node}
 use Rattle.pg_node_state.specs.Ports.{merged_in}
 use Rattle.pg_node_state.proofs.Given.{given_same, given_none}
 use Rattle.pg_node_state.proofs.Merged.{nobody_merged, nobody_length}

@@ -1,8 +1,8 @@
 use Rattle.std.proofs.Common.{◌<◌, ◌+◌, ◌^◌, ◌∙◌, ℕ, sym, ap, subst}
-use Rattle.pg_ports.specs.PgStep.declared.answer.Reply.TheVariants as reply
-use Rattle.pg_ports.specs.Ports.{counted_at}
-use Rattle.pg_ports.specs.Ports.{port_commands, answers_in}
-use Rattle.pg_ports.proofs.Answered.{answered_on}
+use Rattle.pg_node_ports.specs.PgStep.declared.answer.Reply.TheVariants as reply
+use Rattle.pg_node_ports.specs.Ports.{counted_at}
+use Rattle.pg_node_ports.specs.Ports.{port_commands, answers_in}
+use Rattle.pg_node_ports.proofs.Answered.{answered_on}
 use Rattle.pg_node_state.proofs.state.processes.end_at.Goals as goal
 
 pub give-requires-clause-few : goal.give-requires-clause-few

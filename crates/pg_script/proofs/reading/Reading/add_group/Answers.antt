@@ -1,5 +1,5 @@
 use Rattle.std.proofs.Common.{◌<◌, List, length, subst, sym}
-use Rattle.pg_trace.specs.PgStep.declared.start.Start.{Start}
+use Rattle.pg_script_trace.specs.PgStep.declared.start.Start.{Start}
 use Rattle.pg_script.proofs.Placing.{place_within}
 use Rattle.pg_script.proofs.reading.Reading.add_group.Goals as goal
 

@@ -1,5 +1,5 @@
 use Rattle.std.proofs.Common.{[], ◌++◌, Some, ap, refl, subst, sym, ◌∙◌, append-nil}
-use Rattle.pg_requests.specs.Layouts.{layout_of}
+use Rattle.pg_node_requests.specs.Layouts.{layout_of}
 use Rattle.pg_talk.specs.Readings.{AreRead}
 use Rattle.pg_talk.specs.Servings.{kept_in, view_of}
 use Rattle.pg_talk.proofs.ThreadReads.{moved}

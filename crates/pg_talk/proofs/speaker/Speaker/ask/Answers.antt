@@ -1,6 +1,6 @@
 use Rattle.std.proofs.Common.{◌≡◌, Bool, get_or, refl, sym, ap, subst, ◌∙◌}
 use Rattle.pg_cluster.specs.Running.{clients_in}
-use Rattle.pg_cluster.specs.PgRun.Ports.{polled_count}
+use Rattle.pg_cluster.specs.PgNodeRun.Ports.{polled_count}
 use Rattle.pg_talk.specs.Asking.{HasRest}
 use Rattle.pg_talk.specs.declared.speaker.Speaker.{Speaker}
 use Rattle.pg_talk.proofs.Asked.{asks, stays}

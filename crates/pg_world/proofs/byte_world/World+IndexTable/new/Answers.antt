@@ -1,10 +1,10 @@
 use Rattle.std.proofs.Common.{◌≤◌, length, ap, sym, subst}
-use Rattle.pg_frame_world.specs.PgStep.Config.{Config}
-use Rattle.pg_frame_world.specs.PgConfig.declared.config.Config.{Config as Given}
+use Rattle.pg_world_packets.specs.PgStep.Config.{Config}
+use Rattle.pg_world_packets.specs.PgWorldConfig.declared.config.Config.{Config as Given}
 use Rattle.pg_world.specs.BytesStart.{BytesBegin}
 use Rattle.pg_world.specs.Crossings.{crossing_of}
-use Rattle.pg_frame_world.specs.PgAccount.Histories.{account_of}
-use Rattle.pg_frame_world.specs.PgAccount.Losses.{lost_in}
+use Rattle.pg_world_packets.specs.PgWorldAccount.Histories.{account_of}
+use Rattle.pg_world_packets.specs.PgWorldAccount.Losses.{lost_in}
 use Rattle.pg_world.proofs.over_bytes.Leading.{bytes_begin}
 use Rattle.pg_world.proofs.byte_world.World+IndexTable.new.Goals as goal
 

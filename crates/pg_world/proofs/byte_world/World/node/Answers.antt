@@ -3,7 +3,7 @@ use Rattle.std.proofs.Props.{props}
 use mathlib.Core.Logic.{∥∥₁_elim}
 use Rattle.pg_node.specs.declared.node.Node.{Node}
 use Rattle.pg_node.specs.Nodes.{held_by, links_of}
-use Rattle.pg_frame_world.specs.PgNodeState.States.{names_of}
+use Rattle.pg_world_packets.specs.PgNodeState.States.{names_of}
 use Rattle.pg_world.specs.ByteWorlds.{account_of, crossing_of, given_of, lost_of}
 use Rattle.pg_world.specs.Crossings.{node_of}
 use Rattle.pg_world.proofs.over_bytes.Leading.{bytes_sound, each_there}

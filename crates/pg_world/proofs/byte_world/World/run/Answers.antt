@@ -10,10 +10,10 @@ use Rattle.pg_world.specs.BytesLosingRuns.{bytes_past_losses}
 use Rattle.pg_world.specs.Crossings.{Crossing}
 use Rattle.pg_world.specs.CrossingRuns.{AreLeft, Crosses}
 use Rattle.pg_world.proofs.over_bytes.Chained.{chain_all, chain_steps_more}
-use Rattle.pg_frame_world.proofs.LosingRunning.{losing_steps_more, all_made, losing_reached_on}
+use Rattle.pg_world_packets.proofs.LosingRunning.{losing_steps_more, all_made, losing_reached_on}
 use Rattle.pg_world.proofs.over_bytes.Leading.{bytes_run_on, bytes_run_grows}
-use Rattle.pg_frame_world.proofs.Running.{passes_at, steps_more, all_taken, reached_on}
-use Rattle.pg_frame_world.proofs.Sets.{update_set}
+use Rattle.pg_world_packets.proofs.Running.{passes_at, steps_more, all_taken, reached_on}
+use Rattle.pg_world_packets.proofs.Sets.{update_set}
 use Rattle.pg_world.proofs.byte_world.World.run.Goals as goal
 
 pub loop-place-preserved : goal.loop-place-preserved

@@ -1,17 +1,17 @@
 use Rattle.std.proofs.Common.{◌≡◌, take, length, []}
-use Rattle.pg_frame_world.specs.PgStep.Config.{Config}
+use Rattle.pg_world_packets.specs.PgStep.Config.{Config}
 use Rattle.pg_world.specs.Crossings.{ShowsBytes}
-use Rattle.pg_frame_world.specs.Worlds.{IsReached}
+use Rattle.pg_world_packets.specs.Worlds.{IsReached}
 use Rattle.pg_world.specs.ByteWorlds.{account_of, crossing_of, given_of, lost_of, room_of}
-use Rattle.pg_frame_world.specs.PgStep.LossLaws.{LosingFrameWorld}
+use Rattle.pg_world_packets.specs.PgStep.LossLaws.{LosingFrameWorld}
 use Rattle.pg_world.specs.BytesLosing.{ShowsLosingBytes}
-use Rattle.pg_frame_world.specs.Losing.{IsReachedLosing}
+use Rattle.pg_world_packets.specs.Losing.{IsReachedLosing}
 use Rattle.pg_world.specs.BytesLosingRuns.{bytes_past_losses}
 use Rattle.pg_world.specs.CrossingRuns.{AreLeft, CrossesAll}
-use Rattle.pg_frame_world.specs.LosingRuns.{LosingGoesTo}
-use Rattle.pg_frame_world.specs.Runs.{GoesTo}
+use Rattle.pg_world_packets.specs.LosingRuns.{LosingGoesTo}
+use Rattle.pg_world_packets.specs.Runs.{GoesTo}
 use Rattle.pg_world.specs.BytesRuns.{over_bytes, NobodyLost}
-use Rattle.pg_frame_world.specs.Worlds.{TimedFrameWorld}
+use Rattle.pg_world_packets.specs.Worlds.{TimedFrameWorld}
 use Rattle.pg_world.proofs.byte_world.World.run.Given as goal
 
 abbrev pub invariant-loop-place : goal.invariant-loop-place

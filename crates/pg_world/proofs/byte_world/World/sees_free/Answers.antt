@@ -4,13 +4,13 @@ use Rattle.std.specs.Option.{option_map_or}
 use Rattle.std.proofs.Props.{props}
 use Rattle.std.proofs.lemmas.List.{length-map}
 use mathlib.Core.Logic.{∥∥₁_elim}
-use Rattle.pg_frame_world.specs.PgNodeState.declared.state.NodeState.{NodeState}
-use Rattle.pg_frame_world.specs.PgNodeState.States.{state_of}
+use Rattle.pg_world_packets.specs.PgNodeState.declared.state.NodeState.{NodeState}
+use Rattle.pg_world_packets.specs.PgNodeState.States.{state_of}
 use Rattle.pg_world.specs.ByteWorlds.{account_of, crossing_of, given_of, lost_of}
 use Rattle.pg_world.specs.Crossings.{node_of}
-use Rattle.pg_frame_world.specs.PgStarts.Seen.{Seen}
+use Rattle.pg_world_packets.specs.PgWorldConfig.Seen.{Seen}
 use Rattle.pg_world.proofs.Linked.{seen_there}
-use Rattle.pg_frame_world.proofs.Viewing.{none_held, none_is}
+use Rattle.pg_world_packets.proofs.Viewing.{none_held, none_is}
 use Rattle.pg_world.proofs.over_bytes.Leading.{bytes_applied_all}
 use Rattle.pg_world.proofs.byte_world.World.sees_free.Goals as goal
 

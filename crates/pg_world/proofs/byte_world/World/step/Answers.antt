@@ -2,10 +2,10 @@ use Rattle.std.proofs.Props.{props}
 use mathlib.Core.Logic.{∥∥₁_elim, ∥∥₁_map}
 use Rattle.pg_world.specs.ByteWorlds.{account_of, crossing_of, given_of, lost_of}
 use Rattle.pg_world.specs.Crossings as nodes
-use Rattle.pg_frame_world.specs.PgAccount.Histories as kept
-use Rattle.pg_frame_world.specs.PgAccount.Losses.{lost_in}
+use Rattle.pg_world_packets.specs.PgWorldAccount.Histories as kept
+use Rattle.pg_world_packets.specs.PgWorldAccount.Losses.{lost_in}
 use Rattle.pg_world.proofs.over_bytes.Leading.{bytes_go_on, bytes_past, bytes_step_grows}
-use Rattle.pg_frame_world.proofs.Sets.{update_set}
+use Rattle.pg_world_packets.proofs.Sets.{update_set}
 use Rattle.pg_world.proofs.byte_world.World.step.Goals as goal
 
 pub invariant_of-self : goal.invariant_of-self

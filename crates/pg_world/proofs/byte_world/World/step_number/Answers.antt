@@ -1,12 +1,12 @@
 use Rattle.std.proofs.Common.{◌≡◌, ◌∙◌, [], ap, sym, subst}
 use Rattle.pg_world.specs.Crossings.{ShowsBytes}
 use Rattle.pg_world.specs.ByteWorlds.{account_of, crossing_of, lost_of, room_of}
-use Rattle.pg_frame_world.specs.Runs.{StepsTo}
+use Rattle.pg_world_packets.specs.Runs.{StepsTo}
 use Rattle.pg_world.specs.BytesRuns.{over_bytes}
 use Rattle.pg_world.specs.BytesLosing.{ShowsLosingBytes}
 use Rattle.pg_world.specs.BytesLosingRuns.{bytes_past_losses}
 use Rattle.pg_world.specs.CrossingRuns.{number_of}
-use Rattle.pg_frame_world.specs.LosingRuns.{LosingStepsTo}
+use Rattle.pg_world_packets.specs.LosingRuns.{LosingStepsTo}
 use Rattle.pg_world.proofs.over_bytes.Chained.{crosses_so}
 use Rattle.pg_world.proofs.over_bytes.Running.{left_ok, left_err}
 use Rattle.pg_world.specs.Bars.{bytes_lost_after}

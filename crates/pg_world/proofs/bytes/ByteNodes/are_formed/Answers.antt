@@ -1,11 +1,11 @@
 use Rattle.std.proofs.Common.{◌≡◌, ◌<◌, ◌+◌, ◌&&◌, ◌∷◌, ℕ, suc, List, Bool, true, drop, get_or, length, map, sym, ap, subst, ◌∙◌, arith, drop-cons}
 use Rattle.std.specs.List.{list_all}
-use Rattle.pg_frame_world.specs.PgGroup.declared.table.GroupTable.{Ghosts}
+use Rattle.pg_world_packets.specs.PgGroup.declared.table.GroupTable.{Ghosts}
 use Rattle.pg_node.specs.declared.node.Node.{Node}
-use Rattle.pg_frame_world.specs.PgNodeState.declared.state.NodeState.{NodeState}
-use Rattle.pg_frame_world.specs.PgNodeState.States.{kept_by, live_of}
-use Rattle.pg_frame_world.specs.PgStep.State.{formed}
-use Rattle.pg_frame_world.specs.Losing.{is_formed}
+use Rattle.pg_world_packets.specs.PgNodeState.declared.state.NodeState.{NodeState}
+use Rattle.pg_world_packets.specs.PgNodeState.States.{kept_by, live_of}
+use Rattle.pg_world_packets.specs.PgStep.State.{formed}
+use Rattle.pg_world_packets.specs.Losing.{is_formed}
 use Rattle.pg_world.specs.Crossings.{node_of}
 use Rattle.pg_world.proofs.bytes.ByteNodes.are_formed.Goals as goal
 

@@ -1,6 +1,6 @@
 use Rattle.std.proofs.Common.{◌≡◌, drop, map}
 use Rattle.std.specs.List.{list_all}
-use Rattle.pg_frame_world.specs.Losing.{is_formed}
+use Rattle.pg_world_packets.specs.Losing.{is_formed}
 use Rattle.pg_world.specs.Crossings.{node_of}
 use Rattle.pg_world.proofs.bytes.ByteNodes.are_formed.Given as goal
 

@@ -1,13 +1,13 @@
 use Rattle.std.proofs.Common.{refl, sym, subst}
-use Rattle.pg_frame_world.specs.PgStep.Step.{Issue}
+use Rattle.pg_world_packets.specs.PgStep.Step.{Issue}
 use Rattle.pg_node.specs.Nodes.{held_by}
-use Rattle.pg_frame_world.specs.PgNodeState.States.{state_of, answers_of}
+use Rattle.pg_world_packets.specs.PgNodeState.States.{state_of, answers_of}
 use Rattle.pg_world.specs.Crossings.{Crossing, crossing_of, node_of, written_of, ShowsBytesPast}
-use Rattle.pg_frame_world.specs.PgAccount.Histories.{account_of}
-use Rattle.pg_frame_world.specs.PgSends.Framed.{listed_of}
+use Rattle.pg_world_packets.specs.PgWorldAccount.Histories.{account_of}
+use Rattle.pg_world_packets.specs.PgNodeSends.Framed.{listed_of}
 use Rattle.pg_world.proofs.Linked.{alone, port_place, seen_there, nodes_set, seen_kept, own_acts, node_same, nodes_kept}
 use Rattle.pg_world.proofs.Passing.{own_shown, own_err}
-use Rattle.pg_frame_world.proofs.Recording.{grew_own}
+use Rattle.pg_world_packets.proofs.Recording.{grew_own}
 use Rattle.pg_world.proofs.bytes.ByteNodes.command.Goals as goal
 
 pub returns-in-Ok : goal.returns-in-Ok

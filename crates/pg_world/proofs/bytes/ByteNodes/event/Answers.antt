@@ -1,24 +1,24 @@
 use Rattle.std.proofs.Common.{◌≡◌, ◌∙◌, ℕ, List, Bool, [], length, true, false, refl, sym, ap, subst}
 use Rattle.std.specs.Prelude.{IfErr}
-use Rattle.pg_frame_world.specs.PgMachine.Places.{is_pair}
-use Rattle.pg_frame_world.proofs.PgHistory.steps.Lossless.{nobody_timed}
-use Rattle.pg_frame_world.specs.PgLoss.Reached.{LosingReaches}
-use Rattle.pg_frame_world.specs.PgStep.Config.{name_at}
-use Rattle.pg_frame_world.specs.PgStep.Nodes.{Node}
-use Rattle.pg_frame_world.specs.PgStep.Step.{Issue, Retry}
-use Rattle.pg_frame_world.specs.declared.step.FrameStep.{FrameStep}
+use Rattle.pg_world_packets.specs.PgStep.Machines.Places.{is_pair}
+use Rattle.pg_world_packets.proofs.PgLaws.steps.Lossless.{nobody_timed}
+use Rattle.pg_world_packets.specs.PgLawsLosses.Reached.{LosingReaches}
+use Rattle.pg_world_packets.specs.PgStep.Config.{name_at}
+use Rattle.pg_world_packets.specs.PgStep.Nodes.{Node}
+use Rattle.pg_world_packets.specs.PgStep.Step.{Issue, Retry}
+use Rattle.pg_world_packets.specs.declared.step.FrameStep.{FrameStep}
 use Rattle.pg_world.specs.BytesLosing.{ShowsLosingBytes, EventLeaves}
 use Rattle.pg_world.specs.Bars.{IsFaultOf, loss_bar}
 use Rattle.pg_world.specs.Crossings.{Crossing, crossing_of, ShowsBytes, FrameComesTo}
-use Rattle.pg_frame_world.specs.PgAccount.Histories.{account_of}
-use Rattle.pg_frame_world.specs.Losing.{losing_of, is_barred, is_cut_off}
-use Rattle.pg_frame_world.specs.PgAccount.Losses.{lost_in, is_lost}
-use Rattle.pg_frame_world.specs.PgAccount.Histories.{Account}
-use Rattle.pg_frame_world.specs.Worlds.{has_places}
-use Rattle.pg_frame_world.proofs.Barred.{either_stays, either_unseen, take_cut}
+use Rattle.pg_world_packets.specs.PgWorldAccount.Histories.{account_of}
+use Rattle.pg_world_packets.specs.Losing.{losing_of, is_barred, is_cut_off}
+use Rattle.pg_world_packets.specs.PgWorldAccount.Losses.{lost_in, is_lost}
+use Rattle.pg_world_packets.specs.PgWorldAccount.Histories.{Account}
+use Rattle.pg_world_packets.specs.Worlds.{has_places}
+use Rattle.pg_world_packets.proofs.Barred.{either_stays, either_unseen, take_cut}
 use Rattle.pg_world.proofs.over_bytes.Past.{bytes_with, loss_came, take_past, own_past, unplaced_past, barred_past, starved_past}
 use Rattle.pg_world.proofs.Harmless.{welcome_there, welcome_left}
-use Rattle.pg_frame_world.proofs.Turning.{pair_there}
+use Rattle.pg_world_packets.proofs.Turning.{pair_there}
 use Rattle.pg_world.proofs.over_bytes.Unplaced.{unplaced_event}
 use Rattle.pg_world.proofs.bytes.ByteNodes.event.Goals as goal
 

@@ -2,9 +2,9 @@ use Rattle.std.proofs.Common.{◌≡◌, Some, None, false, Option, map, ap, ap�
 use Rattle.std.specs.Prelude.{option_map, slice_get}
 use Rattle.std.specs.Option.{option_map_or}
 use Rattle.std.proofs.lemmas.Option.{slice_get-map, slice_get-get_or, slice_get_past}
-use Rattle.pg_frame_world.specs.PgNodeState.Issued.{ports_of}
+use Rattle.pg_world_packets.specs.PgNodeState.Issued.{ports_of}
 use Rattle.pg_world.specs.Crossings.{node_of}
-use Rattle.pg_frame_world.specs.PgStarts.Seen.{Seen}
+use Rattle.pg_world_packets.specs.PgWorldConfig.Seen.{Seen}
 use Rattle.pg_world.proofs.bytes.ByteNodes.has_port.Goals as goal
 
 pub returns-in-Some : goal.returns-in-Some

@@ -1,9 +1,9 @@
 use Rattle.std.proofs.Common.{◌+◌, ◌∙◌, false, sym, ap}
 use Rattle.std.specs.Option.{option_map_or}
-use Rattle.pg_frame_world.specs.PgOpens.Places.{name_at}
-use Rattle.pg_frame_world.specs.PgNodeState.States.{names_of, state_of}
-use Rattle.pg_frame_world.specs.PgStarts.Seen.{Seen}
-use Rattle.pg_frame_world.specs.Views.{peer_place}
+use Rattle.pg_world_packets.specs.PgNodeOpens.Places.{name_at}
+use Rattle.pg_world_packets.specs.PgNodeState.States.{names_of, state_of}
+use Rattle.pg_world_packets.specs.PgWorldConfig.Seen.{Seen}
+use Rattle.pg_world_packets.specs.Views.{peer_place}
 use Rattle.pg_world.proofs.Linked.{first_there, seen_there}
 use Rattle.pg_world.proofs.bytes.ByteNodes.has_seen.Goals as goal
 

@@ -1,10 +1,10 @@
 use Rattle.std.proofs.Common.{[], ◌∷◌, ◌++◌, ◌<◌, ◌∙◌, ap, arith, length, map, sym, take_all}
 use Rattle.std.proofs.lemmas.List.{length-map, map-append}
 use Rattle.pg_world.specs.Crossings.{node_of}
-use Rattle.pg_frame_world.specs.PgAccount.Losses.{lost_in}
-use Rattle.pg_frame_world.specs.Pending.{live_from, lent_as}
-use Rattle.pg_frame_world.specs.PgStarts.Seen.{seen_of}
-use Rattle.pg_frame_world.proofs.Listed.{next_left, next_lost}
+use Rattle.pg_world_packets.specs.PgWorldAccount.Losses.{lost_in}
+use Rattle.pg_world_packets.specs.Pending.{live_from, lent_as}
+use Rattle.pg_world_packets.specs.PgWorldConfig.Seen.{seen_of}
+use Rattle.pg_world_packets.proofs.Listed.{next_left, next_lost}
 use Rattle.pg_world.proofs.bytes.ByteNodes.live_states.Goals as goal
 use Rattle.pg_world.proofs.bytes.ByteNodes.live_states.Goals.{then-not-has+in_ok-push, else-not-has}
 

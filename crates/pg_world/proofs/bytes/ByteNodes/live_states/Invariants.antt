@@ -1,7 +1,7 @@
 use Rattle.std.proofs.Common.{◌≡◌, take}
 use Rattle.pg_world.specs.Crossings.{crossing_of}
-use Rattle.pg_frame_world.specs.PgAccount.Losses.{lost_in}
-use Rattle.pg_frame_world.specs.Pending.{live_from, lent_as}
+use Rattle.pg_world_packets.specs.PgWorldAccount.Losses.{lost_in}
+use Rattle.pg_world_packets.specs.Pending.{live_from, lent_as}
 use Rattle.pg_world.proofs.bytes.ByteNodes.live_states.Given as goal
 
 -- the live of the nodes so far

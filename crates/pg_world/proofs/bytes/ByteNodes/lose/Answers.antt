@@ -2,11 +2,11 @@ use Rattle.std.proofs.Common.{◌<◌, ◌≤◌, ◌∙◌, length, ap, sym, ar
 use Rattle.std.proofs.lemmas.Bool.{lt-ltb}
 use Rattle.std.proofs.lemmas.List.{length-map}
 use Rattle.pg_world.specs.Crossings.{crossing_of, node_of, written_of}
-use Rattle.pg_frame_world.specs.PgAccount.Histories.{account_formed, account_of}
-use Rattle.pg_frame_world.specs.PgAccount.Losses.{lost_in}
+use Rattle.pg_world_packets.specs.PgWorldAccount.Histories.{account_formed, account_of}
+use Rattle.pg_world_packets.specs.PgWorldAccount.Losses.{lost_in}
 use Rattle.pg_world.proofs.over_bytes.Lost.{lost_bytes}
 use Rattle.pg_world.proofs.over_bytes.Past.{gone_unplaced, gone_before, lost_with}
-use Rattle.pg_frame_world.proofs.Peering.{lt_false}
+use Rattle.pg_world_packets.proofs.Peering.{lt_false}
 use Rattle.pg_world.proofs.bytes.ByteNodes.lose.Goals as goal
 
 pub returns-then-node-len-clause-losing : goal.returns-then-node-len-clause-losing

@@ -1,12 +1,12 @@
 use Rattle.std.proofs.Common.{◌≡◌, ◌∙◌, ◌∷◌, [], not, None, Some, sym}
-use Rattle.pg_frame_world.specs.PgStep.declared.refusal.Refusal.TheVariants.{NoSuchPlace, NodeLost}
-use Rattle.pg_frame_world.specs.PgStep.Faults.{first_that_holds}
+use Rattle.pg_world_packets.specs.PgStep.declared.refusal.Refusal.TheVariants.{NoSuchPlace, NodeLost}
+use Rattle.pg_world_packets.specs.PgStep.Faults.{first_that_holds}
 use Rattle.pg_world.specs.Bars.{pull_bar}
 use Rattle.pg_world.specs.Crossings.{crossing_of}
-use Rattle.pg_frame_world.specs.Losing.{is_cut_off}
-use Rattle.pg_frame_world.specs.PgAccount.Losses.{lost_in, is_lost}
-use Rattle.pg_frame_world.proofs.Barred.{take_cut, either_unseen}
-use Rattle.pg_frame_world.proofs.Turning.{pair_turned}
+use Rattle.pg_world_packets.specs.Losing.{is_cut_off}
+use Rattle.pg_world_packets.specs.PgWorldAccount.Losses.{lost_in, is_lost}
+use Rattle.pg_world_packets.proofs.Barred.{take_cut, either_unseen}
+use Rattle.pg_world_packets.proofs.Turning.{pair_turned}
 use Rattle.pg_world.proofs.over_bytes.Past.{move_mapped}
 use Rattle.pg_world.proofs.bytes.ByteNodes.pull.Goals as goal
 

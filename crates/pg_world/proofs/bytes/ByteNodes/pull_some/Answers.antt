@@ -1,18 +1,18 @@
 use Rattle.std.proofs.Common.{◌≡◌, ◌∙◌, ℕ, true, false, get_or, length, ap, subst, sym, refl}
 use Rattle.std.specs.Prelude.{slice_set}
-use Rattle.pg_frame_world.specs.PgMachine.Places.{is_pair}
-use Rattle.pg_frame_world.specs.PgFrame.Pieces.{pull}
+use Rattle.pg_world_packets.specs.PgStep.Machines.Places.{is_pair}
+use Rattle.pg_world_packets.specs.PgFrame.Pieces.{pull}
 use Rattle.pg_node.specs.Links.{Link, at_link, with_fed}
 use Rattle.pg_node.specs.Nodes.{held_by, links_of, has_lost}
 use Rattle.pg_world.specs.Crossings.{written_of}
-use Rattle.pg_frame_world.specs.Views.{peer_place}
-use Rattle.pg_frame_world.specs.PgAccount.Losses.{is_lost}
+use Rattle.pg_world_packets.specs.Views.{peer_place}
+use Rattle.pg_world_packets.specs.PgWorldAccount.Losses.{is_lost}
 use Rattle.pg_world.proofs.Crossed.{moved_shown, same_shown}
-use Rattle.pg_frame_world.proofs.Barred.{unseen_by}
+use Rattle.pg_world_packets.proofs.Barred.{unseen_by}
 use Rattle.pg_world.proofs.Linked.{pull_many, pulled_as, second_there, row_there, ring_there}
 use Rattle.pg_world.proofs.Linked.{seen_there, links_here, pull_moves, ring_kept, pull_err}
 use Rattle.pg_world.proofs.Past.{way_pulled}
-use Rattle.pg_frame_world.proofs.Turning.{pair_turned}
+use Rattle.pg_world_packets.proofs.Turning.{pair_turned}
 use Rattle.pg_world.proofs.bytes.ByteNodes.pull_some.Goals as goal
 
 pub returns-in-Ok : goal.returns-in-Ok

@@ -1,11 +1,11 @@
 use Rattle.std.proofs.Common.{◌≡◌, ◌∙◌, ◌∷◌, [], not, None, Some, sym, subst}
-use Rattle.pg_frame_world.specs.PgStep.declared.refusal.Refusal.TheVariants.{NoSuchPlace, NodeLost}
-use Rattle.pg_frame_world.specs.PgStep.Faults.{first_that_holds}
+use Rattle.pg_world_packets.specs.PgStep.declared.refusal.Refusal.TheVariants.{NoSuchPlace, NodeLost}
+use Rattle.pg_world_packets.specs.PgStep.Faults.{first_that_holds}
 use Rattle.pg_world.specs.Bars.{put_bar}
 use Rattle.pg_world.specs.Crossings.{crossing_of}
-use Rattle.pg_frame_world.specs.PgAccount.Losses.{lost_in, is_lost}
-use Rattle.pg_frame_world.specs.PgAccount.Histories.{Account}
-use Rattle.pg_frame_world.specs.Worlds.{ShowsUpdates}
+use Rattle.pg_world_packets.specs.PgWorldAccount.Losses.{lost_in, is_lost}
+use Rattle.pg_world_packets.specs.PgWorldAccount.Histories.{Account}
+use Rattle.pg_world_packets.specs.Worlds.{ShowsUpdates}
 use Rattle.pg_world.proofs.bytes.ByteNodes.put.Goals as goal
 
 pub returns-then-not-has_pair-clause-came : goal.returns-then-not-has_pair-clause-came

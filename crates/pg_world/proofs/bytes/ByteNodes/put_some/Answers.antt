@@ -1,12 +1,12 @@
 use Rattle.std.proofs.Common.{◌≡◌, ◌∙◌, get_or, take, length, ap, subst}
 use Rattle.std.specs.Prelude.{slice_set, min}
-use Rattle.pg_frame_world.specs.PgRing.MemRing.{Grows, HasRoomFor}
-use Rattle.pg_frame_world.specs.PgFrame.Pieces.{ring_put}
+use Rattle.pg_world_packets.specs.PgRing.MemRing.{Grows, HasRoomFor}
+use Rattle.pg_world_packets.specs.PgFrame.Pieces.{ring_put}
 use Rattle.pg_node.specs.Links.{at_link, without_front}
 use Rattle.pg_node.specs.Nodes.{links_of}
 use Rattle.pg_world.specs.Crossings.{written_of}
-use Rattle.pg_frame_world.specs.Views.{peer_place}
-use Rattle.pg_frame_world.specs.PgAccount.Losses.{is_lost}
+use Rattle.pg_world_packets.specs.Views.{peer_place}
+use Rattle.pg_world_packets.specs.PgWorldAccount.Losses.{is_lost}
 use Rattle.pg_world.proofs.Crossed.{moved_shown}
 use Rattle.pg_world.proofs.Linked.{ring_there, put_moves, put_many}
 use Rattle.pg_world.proofs.Past.{way_put}

@@ -1,24 +1,24 @@
 use Rattle.std.proofs.Common.{◌≡◌, ◌∙◌, ◌∷◌, [], Option, None, not, Ok, Err, length, refl, sym, ap, subst}
-use Rattle.pg_frame_world.specs.PgStep.declared.refusal.Refusal.{Refusal}
-use Rattle.pg_frame_world.specs.PgStep.declared.refusal.Refusal.TheVariants.{NoSuchPlace, NodeLost, NotLost, NotDrained}
-use Rattle.pg_frame_world.specs.PgStep.Faults.{first_that_holds}
-use Rattle.pg_frame_world.specs.declared.step.Stepped.TheVariants.{Happened}
+use Rattle.pg_world_packets.specs.PgStep.declared.refusal.Refusal.{Refusal}
+use Rattle.pg_world_packets.specs.PgStep.declared.refusal.Refusal.TheVariants.{NoSuchPlace, NodeLost, NotLost, NotDrained}
+use Rattle.pg_world_packets.specs.PgStep.Faults.{first_that_holds}
+use Rattle.pg_world_packets.specs.declared.step.Stepped.TheVariants.{Happened}
 use Rattle.pg_world.specs.Bars.{RefusesBarred, sight_bar}
 use Rattle.pg_world.specs.Crossings.{crossing_of, link_at, node_of, written_of}
-use Rattle.pg_frame_world.specs.PgAccount.Losses.{lost_in}
+use Rattle.pg_world_packets.specs.PgWorldAccount.Losses.{lost_in}
 use Rattle.pg_node.specs.Bytes.{closed}
 use Rattle.pg_node.specs.Links.{Link, at_link}
 use Rattle.pg_node.specs.Nodes.{held_by, links_of}
-use Rattle.pg_frame_world.specs.PgNodeState.States.{names_of, state_of, answers_of}
-use Rattle.pg_frame_world.specs.PgAccount.Histories.{account_of}
-use Rattle.pg_frame_world.specs.Views.{peer_place}
-use Rattle.pg_frame_world.specs.PgNodeState.declared.state.fault.NodeFault.TheVariants.{Refused}
+use Rattle.pg_world_packets.specs.PgNodeState.States.{names_of, state_of, answers_of}
+use Rattle.pg_world_packets.specs.PgWorldAccount.Histories.{account_of}
+use Rattle.pg_world_packets.specs.Views.{peer_place}
+use Rattle.pg_world_packets.specs.PgNodeState.declared.state.fault.NodeFault.TheVariants.{Refused}
 use Rattle.pg_world.proofs.over_bytes.Drained.{bytes_there, left_there, undrained_told}
 use Rattle.pg_world.proofs.over_bytes.Lost.{sight_not_lost, sight_made, sight_held}
 use Rattle.pg_world.proofs.over_bytes.Seen.{peer_clock, closed_bytes, step_there}
 use Rattle.pg_world.proofs.Linked.{alone, first_there, second_there, node_same, seen_kept}
 use Rattle.pg_world.proofs.Linked.{seen_there, nodes_set, links_here, part_kept}
-use Rattle.pg_frame_world.proofs.Turning.{pair_is}
+use Rattle.pg_world_packets.proofs.Turning.{pair_is}
 use Rattle.pg_world.proofs.bytes.ByteNodes.see_loss.Goals as goal
 
 pub returns-in-Ok-clause-changes : goal.returns-in-Ok-clause-changes

@@ -1,4 +1,4 @@
-use Rattle.pg_frame_world.proofs.SeenLosses.{SeenSoFar}
+use Rattle.pg_world_packets.proofs.SeenLosses.{SeenSoFar}
 use Rattle.pg_world.specs.Crossings.{crossing_of}
 use Rattle.pg_world.proofs.bytes.ByteNodes.seen_by.Given as goal
 

@@ -1,14 +1,14 @@
 use Rattle.std.proofs.Common.{◌≡◌, ◌∙◌, List, ℕ, Bool, length, true, false, [], sym, ap, subst}
 use Rattle.std.specs.Prelude.{IfErr}
-use Rattle.pg_frame_world.proofs.PgHistory.steps.Lossless.{nobody_timed}
-use Rattle.pg_frame_world.specs.PgStep.Config.{name_at}
-use Rattle.pg_frame_world.specs.PgStep.Nodes.{Node}
+use Rattle.pg_world_packets.proofs.PgLaws.steps.Lossless.{nobody_timed}
+use Rattle.pg_world_packets.specs.PgStep.Config.{name_at}
+use Rattle.pg_world_packets.specs.PgStep.Nodes.{Node}
 use Rattle.pg_world.specs.declared.step.Step.{Step}
 use Rattle.pg_world.specs.BytesLosing.{ShowsLosingBytes, StepLeaves}
 use Rattle.pg_world.specs.Crossings.{Crossing, crossing_of, ShowsBytes, ShowsBytesPast, StepComesTo}
-use Rattle.pg_frame_world.specs.PgAccount.Histories.{Account, account_of}
-use Rattle.pg_frame_world.specs.Losing.{SeenAreLost}
-use Rattle.pg_frame_world.specs.PgAccount.Losses.{lost_in}
+use Rattle.pg_world_packets.specs.PgWorldAccount.Histories.{Account, account_of}
+use Rattle.pg_world_packets.specs.Losing.{SeenAreLost}
+use Rattle.pg_world_packets.specs.PgWorldAccount.Losses.{lost_in}
 use Rattle.pg_world.specs.Bars.{IsFaultOf, loss_bar, put_bar, pull_bar}
 use Rattle.pg_world.specs.BytesLosing.{MoveLeaves}
 use Rattle.pg_world.proofs.over_bytes.Past.{bytes_with, loss_came, move_came, put_in, pull_in}

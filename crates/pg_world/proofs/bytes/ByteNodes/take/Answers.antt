@@ -1,20 +1,20 @@
 use Rattle.std.proofs.Common.{◌≡◌, ◌∙◌, ℕ, Ok, Err, refl, sym, ap, subst}
-use Rattle.pg_frame_world.specs.PgMachine.Machine.{Take}
-use Rattle.pg_frame_world.specs.PgNodeState.declared.state.fault.NodeFault.{NodeFault}
-use Rattle.pg_frame_world.specs.PgNodeState.declared.state.fault.NodeFault.TheVariants.{OutOfMemory}
+use Rattle.pg_world_packets.specs.PgStep.Machines.Machine.{Take}
+use Rattle.pg_world_packets.specs.PgNodeState.declared.state.fault.NodeFault.{NodeFault}
+use Rattle.pg_world_packets.specs.PgNodeState.declared.state.fault.NodeFault.TheVariants.{OutOfMemory}
 use Rattle.pg_node.specs.Bytes.{ReadsNext, next_packet, marked}
 use Rattle.pg_node.specs.Links.{Link, at_link}
 use Rattle.pg_node.specs.Nodes.{held_by, links_of, has_lost, read_next}
 use Rattle.pg_world.specs.Crossings.{Crossing, crossing_of, written_of, ShowsBytesPast}
-use Rattle.pg_frame_world.specs.PgAccount.Histories.{account_of}
-use Rattle.pg_frame_world.specs.PgStarts.Seen.{seen_of}
-use Rattle.pg_frame_world.specs.Views.{peer_place}
+use Rattle.pg_world_packets.specs.PgWorldAccount.Histories.{account_of}
+use Rattle.pg_world_packets.specs.PgWorldConfig.Seen.{seen_of}
+use Rattle.pg_world_packets.specs.Views.{peer_place}
 use Rattle.pg_world.specs.Changes.{EventChanges}
-use Rattle.pg_frame_world.proofs.Barred.{unseen_by}
+use Rattle.pg_world_packets.proofs.Barred.{unseen_by}
 use Rattle.pg_world.proofs.Linked.{alone, first_there, seen_there, links_here, links_now, node_same, nodes_kept}
 use Rattle.pg_world.proofs.Passing.{read_ok, readable, only_memory, unread_err, unmarked}
 use Rattle.pg_world.proofs.Past.{reads_first, reads_lawful}
-use Rattle.pg_frame_world.proofs.Turning.{pair_there}
+use Rattle.pg_world_packets.proofs.Turning.{pair_there}
 use Rattle.pg_world.proofs.bytes.ByteNodes.take.Goals as goal
 
 pub take_next-taken-requires-clause-front : goal.take_next-taken-requires-clause-front

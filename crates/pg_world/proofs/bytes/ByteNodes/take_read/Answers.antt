@@ -1,23 +1,23 @@
 use Rattle.std.proofs.Common.{◌≡◌, ◌∙◌, ◌+◌, ℕ, Ok, Err, refl, sym, ap, subst}
 use Rattle.std.specs.Prelude.{slice_set}
-use Rattle.pg_frame_world.specs.PgOpens.Places.{name_at}
-use Rattle.pg_frame_world.specs.PgStep.Step.{step_take}
+use Rattle.pg_world_packets.specs.PgNodeOpens.Places.{name_at}
+use Rattle.pg_world_packets.specs.PgStep.Step.{step_take}
 use Rattle.pg_node.specs.Bytes.{next_packet, passed}
 use Rattle.pg_node.specs.Links.{Link, at_link}
 use Rattle.pg_node.specs.Nodes.{held_by, links_of, sent_out, ComesInRoom}
-use Rattle.pg_frame_world.specs.PgNodeState.States.{names_of, nodes_of, state_of, answers_of}
-use Rattle.pg_frame_world.specs.PgSends.Sent.{stamped_of}
+use Rattle.pg_world_packets.specs.PgNodeState.States.{names_of, nodes_of, state_of, answers_of}
+use Rattle.pg_world_packets.specs.PgNodeSends.Sent.{stamped_of}
 use Rattle.pg_world.specs.Crossings.{Crossing, crossing_in, crossing_of, node_of, written_of, ShowsBytesPast}
-use Rattle.pg_frame_world.specs.PgAccount.Histories.{account_of, update_asked_by}
-use Rattle.pg_frame_world.specs.Views.{peer_place}
-use Rattle.pg_frame_world.specs.PgAccount.Histories.{Account}
-use Rattle.pg_frame_world.specs.PgSends.Framed.{listed_of}
+use Rattle.pg_world_packets.specs.PgWorldAccount.Histories.{account_of, update_asked_by}
+use Rattle.pg_world_packets.specs.Views.{peer_place}
+use Rattle.pg_world_packets.specs.PgWorldAccount.Histories.{Account}
+use Rattle.pg_world_packets.specs.PgNodeSends.Framed.{listed_of}
 use Rattle.pg_world.proofs.Linked.{alone, first_there, seen_there, links_here, nodes_set}
 use Rattle.pg_world.proofs.Linked.{seen_kept, take_acts, node_same, nodes_kept}
 use Rattle.pg_world.proofs.Passing.{first_read, taken_shown, take_err, unmarked}
 use Rattle.pg_world.proofs.Past.{reads_first}
-use Rattle.pg_frame_world.proofs.Recording.{grew_taken}
-use Rattle.pg_frame_world.proofs.Turning.{pair_is}
+use Rattle.pg_world_packets.proofs.Recording.{grew_taken}
+use Rattle.pg_world_packets.proofs.Turning.{pair_is}
 use Rattle.pg_world.proofs.bytes.ByteNodes.take_read.Goals as goal
 
 pub take_read-requires-clause-next : goal.take_read-requires-clause-next

@@ -1,13 +1,13 @@
 use Rattle.std.proofs.Common.{◌≡◌, ◌<◌, ◌+◌, ◌-◌, ℕ, length, ap, sym, ◌∙◌, arith, subst}
-use Rattle.pg_frame_world.specs.PgOpens.Places.{name_at}
+use Rattle.pg_world_packets.specs.PgNodeOpens.Places.{name_at}
 use Rattle.pg_node.specs.Begun.{CantBegin}
 use Rattle.pg_node.specs.Nodes.{links_of}
-use Rattle.pg_frame_world.specs.PgNodeState.States.{names_of}
+use Rattle.pg_world_packets.specs.PgNodeState.States.{names_of}
 use Rattle.pg_world.specs.BytesStart.{OpensLinks}
-use Rattle.pg_frame_world.specs.Openings.{CantOpen}
-use Rattle.pg_frame_world.specs.PgStarts.Firsts.{seen_first}
-use Rattle.pg_frame_world.specs.PgStarts.Seen.{Seen, seen_of}
-use Rattle.pg_frame_world.proofs.Peering.{known}
+use Rattle.pg_world_packets.specs.Openings.{CantOpen}
+use Rattle.pg_world_packets.specs.PgWorldConfig.Firsts.{seen_first}
+use Rattle.pg_world_packets.specs.PgWorldConfig.Seen.{Seen, seen_of}
+use Rattle.pg_world_packets.proofs.Peering.{known}
 use Rattle.pg_world.proofs.over_bytes.Opened.{cant_open_so, named_first}
 use Rattle.pg_world.proofs.bytes.begun.opened_node.Goals as goal
 

@@ -4,9 +4,9 @@ use Rattle.pg_node.specs.Links.{Link}
 use Rattle.pg_node.specs.Nodes.{links_of}
 use Rattle.pg_world.specs.BytesStart.{OpensLinks}
 use Rattle.pg_world.specs.Crossings.{node_of, no_links}
-use Rattle.pg_frame_world.specs.PgStarts.Firsts.{seen_first}
+use Rattle.pg_world_packets.specs.PgWorldConfig.Firsts.{seen_first}
 use Rattle.pg_world.proofs.over_bytes.Opened.{node_more, each_more, cant_start_at}
-use Rattle.pg_frame_world.proofs.PgStarts.Starting.{firsts_length}
+use Rattle.pg_world_packets.proofs.PgWorldConfig.Starting.{firsts_length}
 use Rattle.pg_world.proofs.bytes.begun.opened_nodes.Goals as goal
 
 pub loop-place-preserved : goal.loop-place-preserved

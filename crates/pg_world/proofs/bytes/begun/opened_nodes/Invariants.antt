@@ -2,7 +2,7 @@ use Rattle.std.proofs.Common.{◌≡◌, ◌<◌, ◌-◌, ℕ, length, map, get
 use Rattle.pg_node.specs.Nodes.{links_of}
 use Rattle.pg_world.specs.BytesStart.{OpensLinks}
 use Rattle.pg_world.specs.Crossings.{node_of, no_links}
-use Rattle.pg_frame_world.specs.PgStarts.Firsts.{seen_first, firsts}
+use Rattle.pg_world_packets.specs.PgWorldConfig.Firsts.{seen_first, firsts}
 use Rattle.pg_world.proofs.bytes.begun.opened_nodes.Given as goal
 
 abbrev pub invariant-loop-place : goal.invariant-loop-place

@@ -1,7 +1,7 @@
 use Rattle.std.proofs.Common.{sym, subst}
-use Rattle.pg_frame_world.specs.Openings.{AreReady}
+use Rattle.pg_world_packets.specs.Openings.{AreReady}
 use Rattle.pg_world.proofs.over_bytes.Opened.{made_begin, made_count, made_fit}
-use Rattle.pg_frame_world.proofs.Opened.{of_ok, good_fault}
+use Rattle.pg_world_packets.proofs.Opened.{of_ok, good_fault}
 use Rattle.pg_world.proofs.bytes.begun.starting_nodes.Goals as goal
 
 pub opened_nodes-requires : goal.opened_nodes-requires

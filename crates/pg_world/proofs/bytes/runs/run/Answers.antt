@@ -1,14 +1,14 @@
 use Rattle.std.proofs.Common.{◌∙◌, List, ℕ, [], refl, sym, subst}
-use Rattle.pg_frame_world.specs.PgStep.Config.{Config}
-use Rattle.pg_frame_world.specs.PgStep.FrameMachine.{frame_machine}
-use Rattle.pg_frame_world.specs.PgMachine.Machine.{start_of}
+use Rattle.pg_world_packets.specs.PgStep.Config.{Config}
+use Rattle.pg_world_packets.specs.PgStep.FrameMachine.{frame_machine}
+use Rattle.pg_world_packets.specs.PgStep.Machines.Machine.{start_of}
 use Rattle.pg_world.specs.Crossings.{ShowsBytes}
 use Rattle.pg_world.specs.ByteWorlds.{account_of, crossing_of, lost_of, room_of}
 use Rattle.pg_world.specs.BytesRuns.{over_bytes}
 use Rattle.pg_world.specs.BytesLosing.{ShowsLosingBytes}
 use Rattle.pg_world.proofs.over_bytes.Chained.{ran_crossing_so}
 use Rattle.pg_world.proofs.over_bytes.Running.{ran_bytes_so}
-use Rattle.pg_frame_world.proofs.Running.{ran_so}
+use Rattle.pg_world_packets.proofs.Running.{ran_so}
 use Rattle.pg_world.proofs.bytes.runs.run.Goals as goal
 
 pub returns-in-Ok-clause-ran : goal.returns-in-Ok-clause-ran

@@ -1,6 +1,6 @@
 use Rattle.std.proofs.Common.{◌≡◌, [], map, replicate}
 use Rattle.std.specs.List.{All}
-use Rattle.pg_frame_world.specs.PgRing.MemRing.{RingBytes}
+use Rattle.pg_world_packets.specs.PgRing.MemRing.{RingBytes}
 use Rattle.pg_world.proofs.rings.Rings.new.Given as goal
 
 abbrev pub invariant-loop : goal.invariant-loop

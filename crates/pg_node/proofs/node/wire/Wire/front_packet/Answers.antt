@@ -1,7 +1,7 @@
 use Rattle.std.proofs.Common.{◌^◌, length, Ok, sym, ap, ◌∙◌, arith}
 use Rattle.std.specs.Option.{option_copied}
-use Rattle.pg_replica.proofs.PgFrame.Readings.{front_is_frame}
-use Rattle.pg_replica.proofs.PgNodeState.Counts.{short}
+use Rattle.pg_node_state.proofs.PgFrame.Readings.{front_is_frame}
+use Rattle.pg_node_state.proofs.Counts.{short}
 use Rattle.pg_node.proofs.node.wire.Wire.front_packet.Goals as goal
 
 pub returns-in-Ok-clause-few : goal.returns-in-Ok-clause-few

@@ -1,6 +1,6 @@
 use Rattle.std.proofs.Common.{sym, ◌∙◌}
-use Rattle.pg_term.specs.PgFaults.declared.TheConstants.{TRUNCATED}
-use Rattle.pg_requests.specs.declared.input.Input.TheVariants as forms
+use Rattle.pg_term.specs.declared.faults.TheConstants.{TRUNCATED}
+use Rattle.pg_node_requests.specs.declared.input.Input.TheVariants as forms
 use Rattle.pg_talk.proofs.BodiesRead.{ends_cut, ends_whole}
 use Rattle.pg_talk.proofs.ThreadReads.{ends_by}
 use Rattle.pg_talk.proofs.service.reading.Reading.end_of_input.Goals as goal

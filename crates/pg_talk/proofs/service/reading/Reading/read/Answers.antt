@@ -1,7 +1,7 @@
 use Rattle.std.proofs.Common.{[], refl, subst, sym, take, append-nil}
 use Rattle.std.specs.Io.KnownBytes.{Consumes}
-use Rattle.pg_term.specs.PgFaults.declared.TheConstants.{OUT_OF_MEMORY, READ_FAULT}
-use Rattle.pg_requests.specs.declared.input.Input.TheVariants as forms
+use Rattle.pg_term.specs.declared.faults.TheConstants.{OUT_OF_MEMORY, READ_FAULT}
+use Rattle.pg_node_requests.specs.declared.input.Input.TheVariants as forms
 use Rattle.pg_talk.proofs.BodiesRead.{ends_failed, ends_short, ends_wanted}
 use Rattle.pg_talk.proofs.ThreadReads.{ends_by, ends_then, goes_fed, waiting_front}
 use Rattle.pg_talk.proofs.service.reading.Reading.read.Goals as goal

@@ -1,6 +1,6 @@
 use Rattle.std.proofs.Common.{[], ◌∷◌, ◌++◌, ap, subst, sym}
 use Rattle.std.specs.Prelude.{Err}
-use Rattle.pg_requests.specs.declared.input.Input.TheVariants.{Lose}
+use Rattle.pg_node_requests.specs.declared.input.Input.TheVariants.{Lose}
 use Rattle.pg_cluster.specs.Running.{losses_in}
 use Rattle.pg_talk.specs.Servings.{Serves, ServesOne, view_of}
 use Rattle.pg_talk.proofs.Spoken.{loss_of_nobody, node_loss_served, nodes_there}

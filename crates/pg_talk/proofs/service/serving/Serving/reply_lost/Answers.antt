@@ -1,5 +1,5 @@
 use Rattle.std.proofs.Common.{ap, ◌∙◌}
-use Rattle.pg_requests.specs.Replies.{node_lost_term}
+use Rattle.pg_node_requests.specs.Replies.{node_lost_term}
 use Rattle.pg_talk.specs.Servings.{RepliesLost, RepliesNext}
 use Rattle.pg_talk.proofs.Turns.{lost_by, on_ok}
 use Rattle.pg_talk.proofs.service.serving.Serving.reply_lost.Goals as goal

@@ -1,6 +1,6 @@
 use Rattle.std.proofs.Common.{[], ◌∷◌, ◌++◌, Some, None, refl, subst, sym}
 use Rattle.std.specs.Prelude.{OnOk}
-use Rattle.pg_requests.specs.declared.input.Input.TheVariants.{Bad, Broken, End}
+use Rattle.pg_node_requests.specs.declared.input.Input.TheVariants.{Bad, Broken, End}
 use Rattle.pg_talk.specs.Servings.{Serves, ServesOne, view_of}
 use Rattle.pg_talk.proofs.Spoken.{bad_served, end_served}
 use Rattle.pg_talk.proofs.Turns.{on_ok}

@@ -1,5 +1,5 @@
 use Rattle.std.proofs.Common.{arith, [], ◌∷◌, ◌++◌, refl, subst, sym}
-use Rattle.pg_requests.specs.declared.input.Input.TheVariants.{Ask}
+use Rattle.pg_node_requests.specs.declared.input.Input.TheVariants.{Ask}
 use Rattle.pg_talk.specs.Servings.{Serves, ServesOne, view_of}
 use Rattle.pg_talk.proofs.Spoken.{request_served, request_to_nobody}
 use Rattle.pg_talk.proofs.Turns.{on_ok}

@@ -1,6 +1,6 @@
 use Rattle.std.proofs.Common.{sym, subst}
-use Rattle.pg_frame_world.specs.Openings.{AreReady}
-use Rattle.pg_frame_world.proofs.Opened.{of_ok, good_fits, good_fault}
+use Rattle.pg_world_packets.specs.Openings.{AreReady}
+use Rattle.pg_world_packets.proofs.Opened.{of_ok, good_fits, good_fault}
 use Rattle.pg_world.proofs.bytes.begun.ByteNodes+IndexTable.new.Goals as goal
 
 pub begun-requires : goal.begun-requires

@@ -1,7 +1,0 @@
-use Rattle.std.proofs.Common.{◌≡◌, map, take}
-use Rattle.pg_account.specs.Histories.{as_entry}
-use Rattle.pg_account.proofs.entry.same_entries.Given as goal
-
--- those so far are the same
-abbrev pub invariant-loop-place : goal.invariant-loop-place
-invariant-loop-place l = take l.place (map as_entry l.entries) ≡ take l.place (map as_entry l.others)

@@ -1,5 +1,0 @@
-use Rattle.std.proofs.Common.{◌∙◌}
-use Rattle.pg_account.proofs.histories.Histories.settle.Goals as goal
-
-pub returns-clause-account : goal.returns-clause-account
-returns-clause-account c = c.put_last.ensures.account ∙ c.make_room_for_last.ensures.account

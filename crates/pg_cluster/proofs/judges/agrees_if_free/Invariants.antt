@@ -1,8 +1,0 @@
-use Rattle.std.proofs.Common.{take}
-use Rattle.std.specs.List.{All}
-use Rattle.pg_cluster.specs.Judges.{HasAs}
-use Rattle.pg_cluster.proofs.judges.agrees_if_free.Given as goal
-
--- of the nodes so far
-abbrev pub invariant-loop-other : goal.invariant-loop-other
-invariant-loop-other l = All (HasAs l.node l.name) (take l.other-index l.nodes)

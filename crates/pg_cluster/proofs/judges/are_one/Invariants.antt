@@ -1,8 +1,0 @@
-use Rattle.std.proofs.Common.{◌≡◌, true, take}
-use Rattle.std.specs.List.{All}
-use Rattle.pg_cluster.specs.Judges.{AgreesWith, formed_in}
-use Rattle.pg_cluster.proofs.judges.are_one.Given as goal
-
--- of the nodes so far
-abbrev pub invariant-loop-node : goal.invariant-loop-node
-invariant-loop-node l = All (λ x. formed_in x ≡ true → AgreesWith l.nodes x) (take l.node-index l.nodes)

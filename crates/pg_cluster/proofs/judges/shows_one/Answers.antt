@@ -1,9 +1,0 @@
-use Rattle.std.proofs.Common.{IfOk, subst}
-use Rattle.pg_joining.specs.PgNodeState.Same.{AreSameNodes}
-use Rattle.std.specs.Prelude.{◌↔◌, IsTrue}
-use Rattle.pg_cluster.proofs.Judging.{shown_one}
-use Rattle.pg_cluster.proofs.judges.shows_one.Goals as goal
-
-pub returns-in-Some : goal.returns-in-Some
-returns-in-Some c =
-    shown_one c.same.result _ c.in-Some.other.now _ c.in-Some.ensures (subst (λ one. IfOk c.same.result (λ same. IsTrue same ↔ AreSameNodes one c.in-Some.other.now)) c.state.ensures c.same.ensures)

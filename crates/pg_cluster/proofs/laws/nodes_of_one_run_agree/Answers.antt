@@ -1,5 +1,0 @@
-use Rattle.pg_cluster.proofs.Agreed.{agreed}
-use Rattle.pg_cluster.proofs.laws.nodes_of_one_run_agree.Goals as goal
-
-pub returns : goal.returns
-returns c = agreed c.ended_processes_were_finished.ensures c.no_loss_is_seen.ensures

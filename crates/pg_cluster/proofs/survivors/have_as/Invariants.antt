@@ -1,8 +1,0 @@
-use Rattle.std.proofs.Common.{◌≡◌, ◌<◌, ℕ, get_or}
-use Rattle.std.specs.Prelude.{false}
-use Rattle.pg_cluster.specs.Judges.{HasAs}
-use Rattle.pg_cluster.specs.Survivors.{was_lost}
-use Rattle.pg_cluster.proofs.survivors.have_as.Given as goal
-
-abbrev pub invariant-loop-place : goal.invariant-loop-place
-invariant-loop-place l = (k : ℕ) (d : _) → k < l.place → was_lost l.lost k ≡ false → HasAs l.node l.name (get_or l.nodes k d)

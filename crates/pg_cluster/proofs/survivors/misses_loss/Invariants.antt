@@ -1,9 +1,0 @@
-use Rattle.std.proofs.Common.{◌≡◌, ◌<◌, ℕ}
-use Rattle.std.specs.Prelude.{false, ◌&&◌, not}
-use Rattle.pg_joining.specs.PgFrameWorld.Views.{peer_place}
-use Rattle.pg_cluster.specs.Survivors.{has_event, is_loss_of}
-use Rattle.pg_cluster.specs.Survivors.{log_at, was_lost}
-use Rattle.pg_cluster.proofs.survivors.misses_loss.Given as goal
-
-abbrev pub invariant-loop-place : goal.invariant-loop-place
-invariant-loop-place l = (k : ℕ) → k < l.place → (not (was_lost l.lost k) && not (has_event (is_loss_of (peer_place k l.node)) (log_at l.logs k))) ≡ false

@@ -1,0 +1,35 @@
+pub mod Apart
+pub mod ApartWithLosses
+pub mod Closed
+pub mod Joined
+pub mod Judges
+pub mod Logs
+pub mod Losses
+pub mod Merge
+pub mod NodeOf
+pub mod Replay
+pub mod Schedule
+pub mod Survivors
+pub mod Together
+pub mod Told
+pub use Rattle.pg_world.specs.PgEnds
+pub use Rattle.pg_world.specs.PgExchange
+pub use Rattle.pg_world.specs.PgFrame
+pub use Rattle.pg_world.specs.PgGroup
+pub use Rattle.pg_world.specs.PgIndex
+pub use Rattle.pg_world.specs.PgLaws
+pub use Rattle.pg_world.specs.PgLawsLosses
+pub use Rattle.pg_world.specs.PgLock
+pub use Rattle.pg_world.specs.PgMessageTypes
+pub use Rattle.pg_world.specs.PgNode
+pub use Rattle.pg_world.specs.PgNodeOpens
+pub use Rattle.pg_node_run.specs as PgNodeRun
+pub use Rattle.pg_world.specs.PgNodeSends
+pub use Rattle.pg_world.specs.PgNodeState
+pub use Rattle.pg_world.specs.PgQuery
+pub use Rattle.pg_world.specs.PgStep
+pub use Rattle.pg_world.specs.PgTermIo
+pub use Rattle.pg_world.specs as PgWorld
+pub use Rattle.pg_world.specs.PgWorldAccount
+pub use Rattle.pg_world.specs.PgWorldConfig
+pub use Rattle.pg_world.specs.PgWorldPackets

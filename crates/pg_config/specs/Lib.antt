@@ -1,2 +1,0 @@
-pub mod Configs
-pub mod Faults

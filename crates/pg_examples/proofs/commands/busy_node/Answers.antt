@@ -1,5 +1,0 @@
-use Rattle.pg_examples.proofs.Refused.{busy_node_refuses}
-use Rattle.pg_examples.proofs.commands.busy_node.Goals as goal
-
-pub returns : goal.returns
-returns c = busy_node_refuses

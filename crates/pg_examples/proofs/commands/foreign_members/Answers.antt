@@ -1,5 +1,0 @@
-use Rattle.pg_examples.proofs.Refused.{foreign_members as shown}
-use Rattle.pg_examples.proofs.commands.foreign_members.Goals as goal
-
-pub returns : goal.returns
-returns c = shown

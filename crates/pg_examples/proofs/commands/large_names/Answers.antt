@@ -1,5 +1,0 @@
-use Rattle.pg_examples.proofs.Refused.{large_names as shown}
-use Rattle.pg_examples.proofs.commands.large_names.Goals as goal
-
-pub returns : goal.returns
-returns c = shown

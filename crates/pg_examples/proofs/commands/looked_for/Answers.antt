@@ -1,5 +1,0 @@
-use Rattle.pg_examples.proofs.Refused.{looked_for}
-use Rattle.pg_examples.proofs.commands.looked_for.Goals as goal
-
-pub returns : goal.returns
-returns c = looked_for

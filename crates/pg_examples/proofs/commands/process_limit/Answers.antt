@@ -1,5 +1,0 @@
-use Rattle.pg_examples.proofs.Refused.{process_limit as shown}
-use Rattle.pg_examples.proofs.commands.process_limit.Goals as goal
-
-pub returns : goal.returns
-returns c = shown

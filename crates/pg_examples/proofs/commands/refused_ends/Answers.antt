@@ -1,5 +1,0 @@
-use Rattle.pg_examples.proofs.Refused.{refused_ends as shown}
-use Rattle.pg_examples.proofs.commands.refused_ends.Goals as goal
-
-pub returns : goal.returns
-returns c = shown

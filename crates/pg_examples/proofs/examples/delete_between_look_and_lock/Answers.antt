@@ -1,9 +1,0 @@
-use Rattle.pg_examples.proofs.Trace.{same_to_itself}
-use Rattle.pg_examples.proofs.DeleteBetween.{happen, outcome}
-use Rattle.pg_examples.proofs.examples.delete_between_look_and_lock.Goals as goal
-
-pub returns-clause-happen : goal.returns-clause-happen
-returns-clause-happen c = λ g named. happen g named (same_to_itself g)
-
-pub returns-clause-outcome : goal.returns-clause-outcome
-returns-clause-outcome c = λ g named. outcome g named (same_to_itself g)

@@ -1,6 +1,0 @@
-use Rattle.pg_examples.proofs.Trace.{same_to_itself}
-use Rattle.pg_examples.proofs.DrainedFirst.{outcome}
-use Rattle.pg_examples.proofs.losses.drained.Goals as goal
-
-pub returns : goal.returns
-returns c = λ g named. outcome g named (same_to_itself g)

@@ -1,5 +1,0 @@
-use Rattle.pg_examples.proofs.LossTimed.{outcome}
-use Rattle.pg_examples.proofs.losses.loss_with_clocks.Goals as goal
-
-pub returns : goal.returns
-returns c = outcome

@@ -1,6 +1,0 @@
-use Rattle.pg_examples.proofs.Trace.{same_to_itself}
-use Rattle.pg_examples.proofs.MembersOfLost.{outcome}
-use Rattle.pg_examples.proofs.losses.members_of_the_lost.Goals as goal
-
-pub returns : goal.returns
-returns c = λ g named. outcome g named (same_to_itself g)

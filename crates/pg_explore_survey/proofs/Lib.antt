@@ -1,0 +1,9 @@
+pub mod Backing
+pub mod Entries
+pub mod Joining
+pub mod Leading
+pub mod Looking
+pub mod Marking
+pub mod Naming
+pub mod Planning
+pub mod Sections

@@ -1,0 +1,7 @@
+use Rattle.std.proofs.Common.{take}
+use Rattle.pg_explore_survey.specs.Texts.{AreCounted, answer_text, texts_at}
+use Rattle.pg_explore_survey.proofs.answers.answer_section.Given as goal
+
+-- those of the first ends
+abbrev pub invariant-loop-end : goal.invariant-loop-end
+invariant-loop-end l = AreCounted (texts_at (answer_text l.node l.place) l.mets (take l.end-index l.ends)) l.counts.rows.items

@@ -1,0 +1,8 @@
+use Rattle.pg_script.specs.PgWorldPackets.FrameWorlds.{lost_of, traffic_of}
+use Rattle.pg_explore_survey.specs.Differing.{SeesAt}
+use Rattle.pg_explore_survey.proofs.Looking.{NoPlace}
+use Rattle.pg_explore_survey.proofs.differing.sees.Given as goal
+
+-- none of the first nodes
+abbrev pub invariant-loop-place : goal.invariant-loop-place
+invariant-loop-place l = NoPlace (SeesAt (traffic_of l.world).nodes (lost_of l.world) l.held l.name) l.place

@@ -1,9 +1,0 @@
-use mathlib.Core.Logic.{∥∥₁_map}
-use Rattle.pg_frame_world.specs.FrameWorlds.{view_of, lost_of, given_of}
-use Rattle.pg_frame_world.proofs.Leading.{frames_formed}
-use Rattle.pg_frame_world.proofs.frame_world.FrameWorld.formed_at_first_loss.Goals as goal
-
-pub returns-clause-run : goal.returns-clause-run
-returns-clause-run g c =
-    let world = c.args.self.now in
-    ∥∥₁_map world.past (frames_formed (given_of world) (view_of world) (lost_of world) c.formed_at_first_loss.result c.formed_at_first_loss.ensures)

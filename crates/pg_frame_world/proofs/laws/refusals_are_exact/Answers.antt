@@ -1,5 +1,0 @@
-use Rattle.pg_frame_world.proofs.OrderedOnce.{only_memory}
-use Rattle.pg_frame_world.proofs.laws.refusals_are_exact.Goals as goal
-
-pub returns : goal.returns
-returns c = only_memory c.configs_are_decided.ensures

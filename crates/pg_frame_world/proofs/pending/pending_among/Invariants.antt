@@ -1,7 +1,0 @@
-use Rattle.std.proofs.Common.{◌≡◌, take}
-use Rattle.pg_frame_world.specs.Pending.{lent_as, pending_among}
-use Rattle.pg_frame_world.proofs.pending.pending_among.Given as goal
-
--- those of the nodes so far
-abbrev pub invariant-loop-place : goal.invariant-loop-place
-invariant-loop-place g l = l.pids.items ≡ pending_among (lent_as l.left) (take l.place (lent_as l.left))

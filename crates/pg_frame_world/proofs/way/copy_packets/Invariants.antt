@@ -1,6 +1,0 @@
-use Rattle.std.proofs.Common.{◌≡◌, take}
-use Rattle.pg_frame_world.proofs.way.copy_packets.Given as goal
-
--- the packets so far
-abbrev pub invariant-loop-place : goal.invariant-loop-place
-invariant-loop-place l = l.copies.items ≡ take l.place l.packets.items

@@ -1,7 +1,0 @@
-use Rattle.pg_frame_world.specs.Worlds.{traffic_of}
-use Rattle.pg_frame_world.proofs.SeenLosses.{SeenSoFar}
-use Rattle.pg_frame_world.proofs.world.FrameNodes.seen_by.Given as goal
-
--- those of the nodes so far
-abbrev pub invariant-loop-peer : goal.invariant-loop-peer
-invariant-loop-peer g l = SeenSoFar (traffic_of l.self).nodes l.node l.seen.items l.peer

@@ -1,5 +1,0 @@
-use Rattle.pg_history.proofs.commands.AtOnce.{refused_exactly_of}
-use Rattle.pg_history.proofs.events.commands_are_refused_exactly.Goals as goal
-
-pub returns : goal.returns
-returns c = refused_exactly_of

@@ -1,5 +1,0 @@
-use Rattle.pg_history.proofs.steps.Lasting.{stay_taken}
-use Rattle.pg_history.proofs.lasting.ends_stay_taken.Goals as goal
-
-pub returns : goal.returns
-returns c = stay_taken

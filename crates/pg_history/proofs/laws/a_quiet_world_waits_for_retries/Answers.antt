@@ -1,7 +1,0 @@
-use Rattle.pg_step.specs.PgMachine.Clocked.{plain}
-use Rattle.pg_history.proofs.quiet.Rest.{nothing_under_way}
-use Rattle.pg_history.proofs.quiet.Runs.{rested_timed}
-use Rattle.pg_history.proofs.laws.a_quiet_world_waits_for_retries.Goals as goal
-
-pub returns : goal.returns
-returns c = λ config w events i apart l quiet here. nothing_under_way config apart (plain w) (rested_timed config apart events w l) quiet i here

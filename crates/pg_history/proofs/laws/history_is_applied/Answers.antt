@@ -1,6 +1,0 @@
-use Rattle.pg_step.specs.PgMachine.Clocked.{plain}
-use Rattle.pg_history.proofs.places.Clauses.{bridge, applies}
-use Rattle.pg_history.proofs.laws.history_is_applied.Goals as goal
-
-pub returns : goal.returns
-returns c = λ config w events apart l. applies config apart (plain w) (bridge config apart events w l)

@@ -1,5 +1,0 @@
-use Rattle.pg_history.proofs.places.Clauses.{tables}
-use Rattle.pg_history.proofs.laws.tables_are_replayed.Goals as goal
-
-pub returns : goal.returns
-returns c = λ config w events apart l. tables config apart events w l

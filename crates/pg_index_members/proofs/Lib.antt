@@ -1,0 +1,11 @@
+pub mod Alike
+pub mod Asked
+pub mod Counts
+pub mod Cut
+pub mod Flat
+pub mod Kept
+pub mod Last
+pub mod Nodes
+pub mod Order
+pub mod Parts
+pub mod Places

@@ -1,6 +1,0 @@
--- The proof is that over the definitions.
-use Rattle.pg_joining.proofs.Joining.{joined}
-use Rattle.pg_joining.proofs.laws.logs_join.Goals as goal
-
-pub returns : goal.returns
-returns g c = joined

@@ -1,6 +1,0 @@
--- The proof is that over the definitions.
-use Rattle.pg_joining.proofs.Losing.{losing_joined}
-use Rattle.pg_joining.proofs.laws.losing_logs_join.Goals as goal
-
-pub returns : goal.returns
-returns g c = losing_joined

@@ -1,6 +1,0 @@
--- The proof is that over the definitions.
-use Rattle.pg_joining.proofs.Once.{one_order}
-use Rattle.pg_joining.proofs.laws.merge_is_one.Goals as goal
-
-pub returns : goal.returns
-returns c = λ size clocks order others. one_order size clocks (λ i. 0) order others

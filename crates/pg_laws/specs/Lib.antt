@@ -1,0 +1,20 @@
+pub mod Counted
+pub mod Exclusive
+pub mod Fresh
+pub mod Headline
+pub mod History
+pub mod Lasting
+pub mod Quiet
+pub mod Reached
+pub mod RealTime
+pub mod ReferencesFit
+pub mod Sent
+pub mod WithLosses
+pub use Rattle.pg_step.specs.PgEnds
+pub use Rattle.pg_step.specs.PgExchange
+pub use Rattle.pg_step.specs.PgGroup
+pub use Rattle.pg_step.specs.PgLock
+pub use Rattle.pg_step.specs.PgMessageTypes
+pub use Rattle.pg_step.specs.PgMulticall
+pub use Rattle.pg_step.specs.PgRefs
+pub use Rattle.pg_step.specs as PgStep

@@ -1,0 +1,12 @@
+pub mod Agreed
+pub mod Along
+pub mod Applied
+pub mod Bringing
+pub mod Empty
+pub mod Finishing
+pub mod Heads
+pub mod Knowing
+pub mod Missing
+pub mod Passing
+pub mod Turning
+pub mod Unlocked

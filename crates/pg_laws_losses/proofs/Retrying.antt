@@ -1,0 +1,11 @@
+pub mod Alone
+pub mod Answered
+pub mod Counted
+pub mod Everyone
+pub mod Finding
+pub mod Freeing
+pub mod Hearing
+pub mod Peers
+pub mod Reaching
+pub mod Served
+pub mod Settling

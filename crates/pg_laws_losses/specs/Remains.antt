@@ -1,0 +1,3 @@
+pub mod Agreed
+pub mod Heard
+pub mod Missed

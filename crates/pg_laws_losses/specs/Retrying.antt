@@ -1,0 +1,2 @@
+pub mod Retried
+pub mod Survived

@@ -1,5 +1,0 @@
-use Rattle.pg_left.proofs.Knowing.{made_of}
-use Rattle.pg_left.proofs.laws.tables_are_made_of_what_was_taken.Goals as goal
-
-pub returns : goal.returns
-returns c = λ config w events i apart l here. made_of c.each_world_keeps_past_losses.ensures config apart i here events w l

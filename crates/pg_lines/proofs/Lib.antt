@@ -1,4 +1,0 @@
-pub mod Walks
-pub mod Adds
-pub mod Lists
-pub mod PidsSaid

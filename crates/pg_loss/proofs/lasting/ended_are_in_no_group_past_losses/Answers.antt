@@ -1,5 +1,0 @@
-use Rattle.pg_loss.proofs.Counting.{ended_in_no_group}
-use Rattle.pg_loss.proofs.lasting.ended_are_in_no_group_past_losses.Goals as goal
-
-pub returns : goal.returns
-returns c = λ config w events i name l. ended_in_no_group config events w i name l

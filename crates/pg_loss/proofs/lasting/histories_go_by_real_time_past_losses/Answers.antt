@@ -1,5 +1,0 @@
-use Rattle.pg_loss.proofs.RealTime.{order}
-use Rattle.pg_loss.proofs.lasting.histories_go_by_real_time_past_losses.Goals as goal
-
-pub returns : goal.returns
-returns c = λ config w m events first last l is reached. order config w m events first last l is reached

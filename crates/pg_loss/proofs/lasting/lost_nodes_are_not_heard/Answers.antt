@@ -1,5 +1,0 @@
-use Rattle.pg_loss.proofs.Lasts.{unheard_later}
-use Rattle.pg_loss.proofs.lasting.lost_nodes_are_not_heard.Goals as goal
-
-pub returns : goal.returns
-returns c = unheard_later

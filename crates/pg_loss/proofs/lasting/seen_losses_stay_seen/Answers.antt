@@ -1,5 +1,0 @@
-use Rattle.pg_loss.proofs.Lasts.{seen_later}
-use Rattle.pg_loss.proofs.lasting.seen_losses_stay_seen.Goals as goal
-
-pub returns : goal.returns
-returns c = λ config w v events i peer l. seen_later config w v events i l peer

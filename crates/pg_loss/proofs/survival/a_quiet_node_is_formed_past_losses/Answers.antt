@@ -1,5 +1,0 @@
-use Rattle.pg_loss.proofs.Formation.{is_formed_live}
-use Rattle.pg_loss.proofs.survival.a_quiet_node_is_formed_past_losses.Goals as goal
-
-pub returns : goal.returns
-returns c = λ config w events i apart l quiet here lives. is_formed_live config apart events w l quiet i here lives

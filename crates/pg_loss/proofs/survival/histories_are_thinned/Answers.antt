@@ -1,5 +1,0 @@
-use Rattle.pg_loss.proofs.Survives.{applies_thinned}
-use Rattle.pg_loss.proofs.survival.histories_are_thinned.Goals as goal
-
-pub returns : goal.returns
-returns c = λ config w events i name apart l here lives. applies_thinned config apart events w l i name here lives

@@ -1,5 +1,0 @@
-use Rattle.pg_loss.proofs.Unheld.{no_lock_of_lost}
-use Rattle.pg_loss.proofs.survival.no_lock_of_the_lost.Goals as goal
-
-pub returns : goal.returns
-returns c = λ config w events i apart l there. no_lock_of_lost config apart events w i l there

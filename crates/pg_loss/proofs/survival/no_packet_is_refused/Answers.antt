@@ -1,5 +1,0 @@
-use Rattle.pg_loss.proofs.Survives.{packets_heard}
-use Rattle.pg_loss.proofs.survival.no_packet_is_refused.Goals as goal
-
-pub returns : goal.returns
-returns c = λ config w events i p packet rest apart l pair lives known first. packets_heard config apart events w l i p packet rest pair lives known first

@@ -1,8 +1,0 @@
-pub mod Clocked
-pub mod Happened
-pub mod Losing
-pub mod Machine
-pub mod Places
-pub mod Runs
-pub mod Timely
-pub use Rattle.pg_group.specs.Functions

@@ -1,7 +1,0 @@
-use Rattle.std.proofs.Common.{◌≡◌, get_or}
-use Rattle.pg_marks.specs.declared.mark.Mark.TheVariants.{Unasked}
-use Rattle.pg_marks.specs.Marks.{has_yes, all_below, same_test}
-use Rattle.pg_marks.proofs.marks.Marks.agree_on_replies.Given as goal
-
-abbrev pub invariant-loop-place : goal.invariant-loop-place
-invariant-loop-place l = l.all ≡ all_below l.place (λ k. same_test (has_yes (get_or l.self k Unasked)) (has_yes (get_or l.other k Unasked)))

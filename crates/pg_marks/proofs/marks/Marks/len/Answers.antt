@@ -1,7 +1,0 @@
-use Rattle.std.proofs.Common.{◌∙◌, List, length, ap, sym}
-use Rattle.pg_marks.specs.declared.mark.Mark.{Mark}
-use Rattle.pg_marks.proofs.Kept.{kept_len}
-use Rattle.pg_marks.proofs.marks.Marks.len.Goals as goal
-
-pub returns-clause-len : goal.returns-clause-len
-returns-clause-len c = sym (kept_len c.self.inside) ∙ ap (λ (ms : List Mark). length ms) c.self.view_is

@@ -1,6 +1,0 @@
-use Rattle.std.proofs.Common.{sym, ◌∙◌}
-use Rattle.pg_message.proofs.Ascents.{ascending_once}
-use Rattle.pg_message.proofs.groups.are_named_once.Goals as goal
-
-pub returns-then-do_ascend : goal.returns-then-do_ascend
-returns-then-do_ascend c = c.if-do_ascend.true ∙ sym (ascending_once c.args.groups.now (sym c.do_ascend.ensures ∙ c.if-do_ascend.true))

@@ -1,0 +1,6 @@
+pub mod AnyOwn
+pub mod Bodies
+pub mod Outcomes
+pub mod Served
+pub mod Streams
+pub mod Taken

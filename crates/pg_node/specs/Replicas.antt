@@ -1,0 +1,4 @@
+pub mod Causes
+pub mod Fault
+pub mod Progress
+pub mod Replica

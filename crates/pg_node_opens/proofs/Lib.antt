@@ -1,0 +1,25 @@
+pub mod Added
+pub mod Alike
+pub mod Asking
+pub mod Copied
+pub mod Followed
+pub mod Forgotten
+pub mod Found
+pub mod Going
+pub mod Greatest
+pub mod Kept
+pub mod Layered
+pub mod Listed
+pub mod Named
+pub mod Placed
+pub mod Requested
+pub mod Rest
+pub mod Sameness
+pub mod Twins
+pub mod Uses
+pub use Rattle.pg_step.proofs.PgExchange
+pub use Rattle.pg_step.proofs.PgGroup
+pub use Rattle.pg_step.proofs.PgMessageTypes
+pub use Rattle.pg_step.proofs.PgQuery
+pub use Rattle.pg_step.proofs as PgStep
+pub use Rattle.pg_step.proofs.PgTermIo

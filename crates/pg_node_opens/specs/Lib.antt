@@ -1,0 +1,21 @@
+pub mod Commands
+pub mod Kept
+pub mod Layers
+pub mod Marks
+pub mod Named
+pub mod Opens
+pub mod Outlooks
+pub mod Places
+pub mod Readings
+pub mod TakenBack
+pub mod Twins
+pub use Rattle.pg_step.specs.PgEnds
+pub use Rattle.pg_step.specs.PgExchange
+pub use Rattle.pg_step.specs.PgGroup
+pub use Rattle.pg_step.specs.PgLock
+pub use Rattle.pg_step.specs.PgMessageTypes
+pub use Rattle.pg_step.specs.PgMulticall
+pub use Rattle.pg_step.specs.PgQuery
+pub use Rattle.pg_step.specs.PgRefs
+pub use Rattle.pg_step.specs as PgStep
+pub use Rattle.pg_step.specs.PgTermIo

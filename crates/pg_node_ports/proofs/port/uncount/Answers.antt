@@ -1,0 +1,17 @@
+use Rattle.std.proofs.Common.{refl, arith}
+use Rattle.pg_node_ports.proofs.Answered.{count_there, one_less, none_answered, rooms_kept}
+use Rattle.pg_node_ports.proofs.port.uncount.Goals as goal
+
+pub overflow_sub-entry : goal.overflow_sub-entry
+overflow_sub-entry c =
+    let here = count_there c.args.ports.now.items c.args.port c.from.result c.index_mut-entry.result.now c.index_mut-entry.result.now c.from.ensures c.requires.place c.index_mut-entry.ensures.value in
+    omega (arith, here, c.requires.some)
+
+pub returns-clause-counts : goal.returns-clause-counts
+returns-clause-counts c = λ counts counted. one_less c.args.ports.now.items c.args.port c.from.result c.index_mut-entry.result.now _ c.from.ensures c.requires.place c.index_mut-entry.ensures.value counts counted refl
+
+pub returns-clause-answers : goal.returns-clause-answers
+returns-clause-answers c = none_answered c.args.ports.now.items c.args.port c.from.result c.index_mut-entry.result.now _ c.from.ensures c.requires.place c.index_mut-entry.ensures.value refl
+
+pub returns-clause-rooms : goal.returns-clause-rooms
+returns-clause-rooms c = rooms_kept c.args.ports.now.items c.args.port c.from.result c.index_mut-entry.result.now _ c.from.ensures c.requires.place c.index_mut-entry.ensures.value (λ room. room)

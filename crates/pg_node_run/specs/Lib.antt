@@ -1,0 +1,12 @@
+pub mod Acts
+pub mod Events
+pub mod Follows
+pub mod Logs
+pub mod Notices
+pub mod Pauses
+pub mod Ports
+pub mod Runs
+pub mod Served
+pub mod Still
+pub mod Tries
+pub mod Turns

@@ -1,0 +1,60 @@
+//! The loop of a node's thread.
+
+ghost use Rattle.std.specs.Prelude.{◌≤◌};
+ghost use Rattle.pg_node_run.specs.Runs.{Runs, RanBy, Ended, stop_of};
+
+use crate::run::{NodeRun, Turned};
+use pg_node::{GroupTable, Inlet, Link};
+use rand_core::Rng;
+use std::thread;
+
+/// What a node passes at the start of each turn.
+pub trait Gate {
+    /// Lets the node at this place into this turn, counted from 0.
+    fn pass(&self, node: usize, turn: u64);
+}
+
+/// A node that has run.
+#[derive(Drop)]
+pub struct Ran<T: GroupTable, L: Drop, I: Drop, K: Drop> {
+    /// The node.
+    pub run: NodeRun<T, L, I, K>,
+    /// How many turns it made; that in which it was stopped counts not.
+    pub turns: u64,
+    /// How many of them were short.
+    pub short: u64,
+}
+
+/// Runs the node at a place until the stop byte comes, or for `limit` turns. A node that found nothing to do yields
+/// the processor.
+///
+/// Cost: that of the turns.
+pub fn run_node<T: GroupTable + Drop, L: Link + Drop, I: Inlet + Drop, K: Rng + Drop, G: Gate>(
+    place: usize,
+    run: NodeRun<T, L, I, K>,
+    gate: &G,
+    limit: u64,
+) -> Ran<T, L, I, K>
+    ensures runs { Runs L.accepts I.gives run result.run }
+    ensures turns { result.turns ≤ limit }
+    ensures short { result.short ≤ result.turns }
+    ensures made { RanBy L.accepts I.gives L.moves I.moves run result }
+    ensures ended { Ended I.gives (stop_of run) (stop_of result.run) limit result.turns }
+{
+    let mut run = run;
+    let mut turns = 0;
+    let mut short = 0;
+    for turn in 0..limit {
+        gate.pass(place, turn);
+        match run.turn() {
+            Turned::Stopped => break,
+            Turned::Whole => {}
+            Turned::Short => short += 1,
+        }
+        turns = turn + 1;
+        if !run.is_busy() {
+            thread::yield_now();
+        }
+    }
+    Ran { run, turns, short }
+}

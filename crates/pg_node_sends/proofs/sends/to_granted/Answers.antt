@@ -1,0 +1,22 @@
+use Rattle.std.proofs.Common.{◌≡◌, ◌∙◌, ◌∷◌, [], cond}
+use Rattle.std.proofs.lemmas.Result.{IfOk-weaker}
+use Rattle.pg_node_opens.specs.PgStep.Machines.Clocked.{stamped}
+use Rattle.pg_node_opens.specs.Opens.{names_of, live_of}
+use Rattle.pg_node_opens.specs.PgStep.Nodes.{to_peers}
+use Rattle.pg_node_opens.specs.PgStep.Attempts.{is_yes}
+use Rattle.pg_node_sends.specs.Marked.{is_marked, marks_of}
+use Rattle.pg_node_sends.specs.Orders.{message_of}
+use Rattle.pg_node_sends.specs.Sent.{sends_in}
+use Rattle.pg_node_sends.proofs.sends.to_granted.Goals as goal
+
+pub returns-clause-sends : goal.returns-clause-sends
+returns-clause-sends g c = λ op update first st is.
+    let names = names_of c.args.opens.now in
+    let clock = c.args.clock in
+    let message = message_of c.args.order in
+    let peers = c.peer_count.result in
+    let goes = c.granted_peers-goes.result in
+    IfOk-weaker c.send_marked.result (λ sends. sends_in names (g.S.Outgoing.listed sends) ≡ (λ q. stamped clock (cond (is_marked names (marks_of goes peers) q) (message ∷ []) [])))
+    (λ sends. sends_in names (g.S.Outgoing.listed sends) ≡ (λ q. stamped clock (to_peers (live_of c.args.opens.now) (λ q. is_yes (st q)) message q)))
+    (λ sends e. e ∙ (λ i q. stamped clock (cond (c.granted_peers-goes.ensures op update first st is peers c.peer_count.ensures q i) (message ∷ []) [])))
+    (c.send_marked.ensures.sends names c.args.opens.now.apart c.peer_count.ensures)

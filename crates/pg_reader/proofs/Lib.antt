@@ -1,7 +1,0 @@
-pub mod Collected
-pub mod Ends
-pub mod Members
-pub mod OwnReplies
-pub mod Rows
-pub mod Spelled
-pub mod Standing

@@ -1,6 +1,0 @@
-use Rattle.pg_ready.proofs.Retried.{retried_others}
-use Rattle.pg_ready.proofs.laws.a_retry_leaves_the_others.Goals as goal
-
-pub returns : goal.returns
-returns c = λ config w v events i j op other l happens differ.
-    retried_others config events w v l i op happens j other differ

@@ -1,5 +1,0 @@
-use Rattle.pg_ready.proofs.Retried.{fewer_ready}
-use Rattle.pg_ready.proofs.laws.retries_leave_fewer_ready.Goals as goal
-
-pub returns : goal.returns
-returns c = λ config w v events steps i op apart l seen more ready. fewer_ready config apart i op steps events w v l seen more ready

@@ -1,5 +1,0 @@
-use Rattle.pg_rounds.proofs.Still.{nothing_to_do}
-use Rattle.pg_rounds.proofs.laws.a_still_turn_has_nothing_to_do.Goals as goal
-
-pub returns : goal.returns
-returns g c = λ a b peer still counts. nothing_to_do a b still peer counts

@@ -1,0 +1,4 @@
+pub mod Adds
+pub mod Lists
+pub mod PidsSaid
+pub mod Walks

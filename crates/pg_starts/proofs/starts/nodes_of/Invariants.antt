@@ -1,7 +1,0 @@
-use Rattle.std.proofs.Common.{◌≡◌, map}
-use Rattle.pg_starts.specs.Seen.{seen_of}
-use Rattle.pg_starts.specs.Firsts.{firsts}
-use Rattle.pg_starts.proofs.starts.nodes_of.Given as goal
-
-abbrev pub invariant-loop-place : goal.invariant-loop-place
-invariant-loop-place l = map seen_of l.nodes.items ≡ firsts l.starts l.place

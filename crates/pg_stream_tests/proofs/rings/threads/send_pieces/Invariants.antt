@@ -1,5 +1,0 @@
-use Rattle.pg_ring.specs.Ends.{SameRingOut}
-use Rattle.pg_stream_tests.proofs.rings.threads.send_pieces.Given as goal
-
-abbrev pub invariant-loop : goal.invariant-loop
-invariant-loop g l = SameRingOut l.initial.out l.out

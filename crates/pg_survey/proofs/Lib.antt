@@ -1,9 +1,0 @@
-pub mod Backing
-pub mod Joining
-pub mod Looking
-pub mod Marking
-pub mod Naming
-pub mod Planning
-pub mod Sections
-pub mod Leading
-pub mod Entries

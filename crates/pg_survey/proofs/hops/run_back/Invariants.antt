@@ -1,6 +1,0 @@
-use Rattle.pg_survey.specs.Runs.{AreBack}
-use Rattle.pg_survey.proofs.hops.run_back.Given as goal
-
--- those so far lead to where it is
-abbrev pub invariant-loop : goal.invariant-loop
-invariant-loop l = AreBack l.mets l.place l.strides.items l.reached

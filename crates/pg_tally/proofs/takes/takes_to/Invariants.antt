@@ -1,5 +1,0 @@
-use Rattle.pg_tally.specs.Takes.{AreKept}
-use Rattle.pg_tally.proofs.takes.takes_to.Given as goal
-
-abbrev pub invariant-loop : goal.invariant-loop
-invariant-loop l = AreKept l.worlds l.takes.items

@@ -1,0 +1,4 @@
+pub mod Configs
+pub mod Faults
+pub mod Firsts
+pub mod Seen

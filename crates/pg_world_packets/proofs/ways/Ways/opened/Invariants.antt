@@ -1,0 +1,7 @@
+use Rattle.std.proofs.Common.{◌≡◌, [], ◌∷◌, map, replicate}
+use Rattle.pg_node_state.specs.PgNodeSends.Sent.{stamped_of}
+use Rattle.pg_world_packets.specs.Views.{packets_of}
+use Rattle.pg_world_packets.proofs.ways.Ways.opened.Given as goal
+
+abbrev pub invariant-loop : goal.invariant-loop
+invariant-loop l = map packets_of l.ways.items ≡ replicate l.counter (stamped_of l.packet ∷ [])

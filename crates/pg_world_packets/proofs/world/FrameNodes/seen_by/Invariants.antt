@@ -1,0 +1,7 @@
+use Rattle.pg_world_packets.specs.Worlds.{traffic_of}
+use Rattle.pg_world_packets.proofs.SeenLosses.{SeenSoFar}
+use Rattle.pg_world_packets.proofs.world.FrameNodes.seen_by.Given as goal
+
+-- those of the nodes so far
+abbrev pub invariant-loop-peer : goal.invariant-loop-peer
+invariant-loop-peer g l = SeenSoFar (traffic_of l.self).nodes l.node l.seen.items l.peer

@@ -1,7 +1,0 @@
-use Rattle.std.proofs.Common.{map, take}
-use Rattle.pg_message.specs.Writing.{group_term}
-use Rattle.pg_writer.specs.Puts.{PutsAll}
-use Rattle.pg_writer.proofs.parts.put_all_groups.Given as goal
-
-abbrev pub invariant-loop-group : goal.invariant-loop-group
-invariant-loop-group l = PutsAll l.fn.out l.out (take l.group-index (map group_term l.groups))
