@@ -8,8 +8,13 @@ ROOT = os.path.dirname(os.path.dirname(os.path.abspath(__file__)))
 
 
 def uses_of(root):
-    """The crates of crates.txt, each with those of them that its line names."""
-    with open(f"{root}/crates.txt", encoding="utf-8") as it:
+    """The crates of a repository's crates.txt, each with those of them that its line names."""
+    return uses_in(f"{root}/crates.txt")
+
+
+def uses_in(path):
+    """The crates of such a file, each with those of them that its line names."""
+    with open(path, encoding="utf-8") as it:
         rows = [row.partition("#")[0].partition(":") for row in it]
     named = {head.split()[0]: re.split(r"[\s,]+", rest) for head, _, rest in rows if head.strip()}
     return {crate: [low for low in lows if low in named] for crate, lows in named.items()}
