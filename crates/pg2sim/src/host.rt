@@ -6,13 +6,13 @@ ghost use Rattle.pg_talk.specs.declared.conversation.Outcome.{Outcome};
 ghost use Rattle.pg_cluster.specs.declared.fault.StartFault.{StartFault};
 
 use crate::progress::Progress;
-use pg_cluster::StartFault;
+use pg_cluster::{StartFault, WorldFault};
 use pg_program::System;
 use pg_streams::{AnyReader, Sink};
 use pg_talk::{
     Conversation, Onlooker, Outcome, Served, Service, ServiceFault, run_threads, serve_cluster,
 };
-use std::alloc::Global;
+use std::alloc::{AllocError, Global};
 use std::io::Write;
 use std::thread::Threads;
 use std::time::{Clock, Instant};
@@ -51,7 +51,11 @@ impl<R: Threads, T: Write> System for HostSystem<'_, R, T> {
     }
 
     fn converse(&mut self, asked: Conversation) -> Result<Outcome, StartFault> {
-        let told = run_threads(self.threads, self.alloc, asked, &mut self.progress);
+        let clock: Result<HostRuntime, AllocError> = self.rt.clone();
+        let Ok(clock) = clock else {
+            return Err(StartFault::World(WorldFault::OutOfMemory));
+        };
+        let told = run_threads(self.threads, self.alloc, clock, asked, &mut self.progress);
         self.progress.0.end();
         told
     }
@@ -64,7 +68,11 @@ impl<R: Threads, T: Write> System for HostSystem<'_, R, T> {
         let source = AnyReader {
             reader: self.rt.stdin(),
         };
-        serve_cluster(self.threads, self.alloc, service, source, writer)
+        let clock: Result<HostRuntime, AllocError> = self.rt.clone();
+        match clock {
+            Ok(clock) => serve_cluster(self.threads, self.alloc, clock, service, source, writer),
+            Err(_) => Err(ServiceFault::OutOfMemory),
+        }
     }
 
     fn look(&mut self, explored: u64, limit: u64) {

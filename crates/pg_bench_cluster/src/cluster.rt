@@ -127,11 +127,18 @@ fn measure_talkers<R: Clock + Eprint>(
     }
 }
 
-fn run_setting<R: Threads + Clock + Eprint + AllocGlobal>(rt: &R, setting: Setting) -> bool {
+fn run_setting<R: Threads + Clock + Clone + Drop + Send + Eprint + AllocGlobal + 'static>(
+    rt: &R,
+    setting: Setting,
+) -> bool {
+    let clock: Result<R, AllocError> = rt.clone();
+    let Ok(clock) = clock else {
+        return false;
+    };
     let Ok(config) = config(rt.alloc(), setting.nodes, setting.clients) else {
         return false;
     };
-    match Running::start(rt, rt.alloc(), config) {
+    match Running::start(rt, rt.alloc(), config, clock) {
         Some(mut running) => {
             let is_done = measure_talkers(rt, rt.alloc(), &mut running, setting);
             running.close(rt);
@@ -143,7 +150,10 @@ fn run_setting<R: Threads + Clock + Eprint + AllocGlobal>(rt: &R, setting: Setti
 
 /// The words after `cluster`: `one`, where all clients change one group, or `own`, where each has its own; how many nodes (3),
 /// clients of each (2) and rounds of a join and a leave (1,000). Whether it could.
-pub fn run<R: Threads + Clock + Eprint + AllocGlobal>(rt: &R, words: &[String]) -> bool {
+pub fn run<R: Threads + Clock + Clone + Drop + Send + Eprint + AllocGlobal + 'static>(
+    rt: &R,
+    words: &[String],
+) -> bool {
     match Setting::of(words) {
         Some(setting) => run_setting(rt, setting),
         None => false,

@@ -29,6 +29,7 @@ use rand_core::Rng;
 use std::alloc::{AllocError, Global};
 use std::sync::Arc;
 use std::thread::Threads;
+use std::time::Clock;
 
 /// The nodes of a configuration, each in a thread of its own until it is lost.
 #[derive(Drop)]
@@ -101,7 +102,8 @@ impl<K: Rng + Drop + Send + 'static> Cluster<K> {
 
     /// Starts a thread for each node of a configuration, with rings of so many bytes between them: the cluster, and a
     /// client for each port, those of the first node first. `generators`: of the pauses, one for each node. `gate`:
-    /// what each node passes at the start of each turn. `limit`: how many turns a node makes at most. It may wait for
+    /// what each node passes at the start of each turn. `clock`: that by which a node sleeps which finds nothing to do,
+    /// as `Rest` of pg_node_run says; each thread has its own. `limit`: how many turns a node makes at most. It may wait for
     /// threads.
     ///
     /// Errors: `World`, exactly as `World::new` gives them; `NoThread`, where a thread can't be started: those that
@@ -109,12 +111,17 @@ impl<K: Rng + Drop + Send + 'static> Cluster<K> {
     ///
     /// Cost: that of `starting_nodes` of pg_world, of two rings for each two nodes, of two rings of 64 places for
     /// each port, and of a thread for each node.
-    pub fn start<G: Gate + Drop + Send + Sync + 'static, R: Threads>(
+    pub fn start<
+        G: Gate + Drop + Send + Sync + 'static,
+        C: Clock + Clone + Drop + Send + 'static,
+        R: Threads,
+    >(
         rt: &R,
         alloc: Global,
         config: &Config,
         generators: Vec<K>,
         gate: G,
+        clock: C,
         limit: u64,
     ) -> Result<(Cluster<K>, Vec<Client>), StartFault>
         requires generators { length generators.items ≡ length config.now.starts.items }
@@ -140,7 +147,7 @@ impl<K: Rng + Drop + Send + 'static> Cluster<K> {
             }
         };
         let mut stops = made.stops;
-        match start_all(rt, alloc, made.runs, &mut stops, &gate, limit) {
+        match start_all(rt, alloc, made.runs, &mut stops, &gate, &clock, limit) {
             Ok(members) => {
                 let cluster = Cluster {
                     members,

@@ -15,6 +15,7 @@ use pg_cluster_judges::{
 use rand_pcg::Pcg32;
 use std::alloc::{AllocError, Global};
 use std::thread::Threads;
+use std::time::Clock;
 
 /// The stream of the generators of pauses.
 const STREAM: u64 = 2;
@@ -63,17 +64,23 @@ impl Running {
 
     /// Starts a thread for each node of a configuration, and a client for each port. `seed`: of the pauses of the
     /// first node; that of each further node is one more, and wraps. `gate`: what each node passes at the start of
-    /// each turn. `limit`: how many turns a node makes at most. It may wait for threads.
+    /// each turn. `clock`: that by which a node sleeps which finds nothing to do, as `Rest` says; each thread has its
+    /// own. `limit`: how many turns a node makes at most. It may wait for threads.
     ///
     /// Errors: those of `Cluster::start`.
     ///
     /// Cost: that of `Cluster::start`, and one allocation.
-    pub fn start<G: Gate + Drop + Send + Sync + 'static, R: Threads>(
+    pub fn start<
+        G: Gate + Drop + Send + Sync + 'static,
+        C: Clock + Clone + Drop + Send + 'static,
+        R: Threads,
+    >(
         rt: &R,
         alloc: Global,
         config: Config,
         seed: u64,
         gate: G,
+        clock: C,
         limit: u64,
     ) -> Result<Running, StartFault>
         ensures config { IfOk result (λ running. config_in running ≡ config) }
@@ -87,9 +94,10 @@ impl Running {
         let Ok(generators) = generators(alloc, config.starts.len(), seed) else {
             drop(config);
             drop(gate);
+            drop(clock);
             return Err(StartFault::World(WorldFault::OutOfMemory));
         };
-        match Cluster::start(rt, alloc, &config, generators, gate, limit) {
+        match Cluster::start(rt, alloc, &config, generators, gate, clock, limit) {
             Ok((cluster, clients)) => Ok(Running {
                 cluster,
                 clients,

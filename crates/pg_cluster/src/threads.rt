@@ -14,11 +14,12 @@ use crate::runs::Run;
 use pg_cluster_judges::{Gate, WorldFault, run_node};
 use pg_ring::{Link, RingOut};
 use rand_core::Rng;
-use std::alloc::Global;
+use std::alloc::{AllocError, Global};
 use std::snapshot::Snapshot;
 use std::sync::Arc;
 use std::thread;
 use std::thread::Threads;
+use std::time::Clock;
 
 /// Writes the stop byte of each thread.
 pub(crate) fn stop_all(stops: &mut Vec<RingOut>) {
@@ -50,12 +51,13 @@ fn give_up<K: Rng + Drop + Send + 'static, R: Threads>(
     Err(fault)
 }
 
-/// Starts a thread for each node. Where one can't be started, those that run are stopped and joined.
+/// Starts a thread for each node, which rests by a clock of its own. Where one can't be started, those that run are stopped and joined.
 ///
 /// Errors: `NoThread`; `World` of `OutOfMemory`.
 pub(crate) fn start_all<
     K: Rng + Drop + Send + 'static,
     G: Gate + Drop + Send + Sync + 'static,
+    C: Clock + Clone + Drop + Send + 'static,
     R: Threads,
 >(
     rt: &R,
@@ -63,6 +65,7 @@ pub(crate) fn start_all<
     runs: Vec<Run<K>>,
     stops: &mut Vec<RingOut>,
     gate: &Arc<G, Global>,
+    clock: &C,
     limit: u64,
 ) -> Result<Vec<Member<K>>, StartFault>
     ensures started { IfOk result (λ members. StartedWith runs.items limit (threads_in members.items)) }
@@ -71,7 +74,7 @@ pub(crate) fn start_all<
 {
     let mut members: Vec<Member<K>> = Vec::with_capacity(alloc, runs.len())?;
     for run in runs {
-        match start_one(rt, run, members.len(), gate, limit) {
+        match start_one(rt, run, members.len(), gate, clock, limit) {
             Ok(member) => members.push_reserved(member),
             Err(fault) => return give_up(rt, members, stops, fault),
         }
@@ -82,11 +85,17 @@ pub(crate) fn start_all<
 /// Starts the thread of the node at a place.
 ///
 /// Errors: `NoThread`; `World` of `OutOfMemory`.
-fn start_one<K: Rng + Drop + Send + 'static, G: Gate + Drop + Send + Sync + 'static, R: Threads>(
+fn start_one<
+    K: Rng + Drop + Send + 'static,
+    G: Gate + Drop + Send + Sync + 'static,
+    C: Clock + Clone + Drop + Send + 'static,
+    R: Threads,
+>(
     rt: &R,
     run: Run<K>,
     place: usize,
     gate: &Arc<G, Global>,
+    clock: &C,
     limit: u64,
 ) -> Result<Member<K>, StartFault>
     ensures begun { IfOk result (λ member. begun_by (thread_of member) ≡ run) }
@@ -98,6 +107,12 @@ fn start_one<K: Rng + Drop + Send + 'static, G: Gate + Drop + Send + Sync + 'sta
         drop(run);
         return Err(StartFault::World(WorldFault::OutOfMemory));
     };
+    let clock: Result<C, AllocError> = clock.clone();
+    let Ok(clock) = clock else {
+        drop(run);
+        drop(gate);
+        return Err(StartFault::World(WorldFault::OutOfMemory));
+    };
     let promise = RanFrom {
         run: Snapshot::of(&run),
         limit,
@@ -107,7 +122,7 @@ fn start_one<K: Rng + Drop + Send + 'static, G: Gate + Drop + Send + Sync + 'sta
         promise,
         move || -> NodeRan<K>
             ensures { RanAs run limit result }
-        { run_node(place, run, &*gate, limit) },
+        { run_node(place, run, &*gate, &clock, limit) },
     ) {
         Ok(thread) => Ok(Member::new(thread)),
         Err(_) => Err(StartFault::NoThread),

@@ -23,7 +23,7 @@ pub use laws::{
 pub use order::order_of_logs;
 pub use pg_node_run::{
     Client, Gate, Held, LinkedNode, LogEntry, NOTICE_PLACES, NodeEvent, NodeRun, Notice, Peer,
-    Port, Ran, Turned, port_pair, ports_together, run_node,
+    Port, Ran, Rest, Sleepless, Turned, port_pair, ports_together, run_node,
 };
 pub use pg_world::{
     Answer, Command, Config, Deframer, Done, Entry, FrameFault, FrameStep, FrameWorld, Framed,

@@ -5,6 +5,7 @@ pub mod Logs
 pub mod Notices
 pub mod Pauses
 pub mod Ports
+pub mod Rests
 pub mod Runs
 pub mod Served
 pub mod Still

@@ -1,6 +1,7 @@
 -- What a clause sees of the pauses of commands that wait.
 use Rattle.std.specs.Prelude.{◌≡◌, ◌⊎◌, ℕ, ◌-◌, ◌≤◌, ◌||◌, Bool, true, false}
 use Rattle.std.specs.Prelude.{cond, nat_le, List, [], ◌∷◌, Option, Some, None}
+use Rattle.std.specs.List.{list_any}
 use Rattle.pg_node_run.specs.declared.pauses.Pause.{Pause}
 use Rattle.pg_node_run.specs.declared.pauses.Pauses.{Pauses}
 use Rattle.pg_node_run.specs.declared.pauses.Wait.{Wait}
@@ -22,6 +23,19 @@ is_over (Some (Turns left)) = nat_le left 1
 is_over (Some Due) = true
 is_over (Some Tried) = false
 is_over None = false
+
+-- turns are to pass until the command is tried
+abbrev pub counts : Wait → Bool
+counts (Turns left) = true
+counts Due = true
+counts Tried = false
+
+abbrev pub counts_turns : Pause → Bool
+counts_turns pause = counts pause.wait
+
+-- that is so of a command
+abbrev pub is_pausing : Pauses → Bool
+is_pausing pauses = list_any counts_turns pauses.entries.items
 
 -- a turn tries a command of which all has come that it gathers, and one whose pause is over by it
 abbrev pub is_due : Bool → Option Wait → Bool

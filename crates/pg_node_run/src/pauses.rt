@@ -4,7 +4,7 @@ ghost use Rattle.std.specs.Prelude.{◌≡◌, ◌≢◌, ◌<◌, ◌≤◌, �
 ghost use Rattle.std.specs.Prelude.{Some, None, IsOk, IfOk, IfSome, IfNone, OnErr};
 ghost use Rattle.pg_node_run.specs.declared.pauses.Pause.{Pause};
 ghost use Rattle.pg_node_run.specs.declared.pauses.Wait.TheVariants.{Tried};
-ghost use Rattle.pg_node_run.specs.Pauses.{Passed, wait_of};
+ghost use Rattle.pg_node_run.specs.Pauses.{Passed, counts_turns, is_pausing, wait_of};
 ghost use Rattle.pg_node.specs.PgStep.declared.command.OpId.{OpId};
 ghost use Rattle.pg_node.specs.PgStep.Attempts.{same_op};
 
@@ -124,6 +124,15 @@ impl Pauses {
         self.entries.retain(|pause| is_of_another(pause, op));
     }
 
+    /// Whether a pause is not over, or its command is due and was not tried yet.
+    ///
+    /// Cost: no memory; O(n) in the commands that have a pause.
+    pub fn are_running(&self) -> bool
+        ensures { result ≡ is_pausing self.now }
+    {
+        self.entries.iter().any(|pause| pause.is_running())
+    }
+
     /// The place of the pause of a command, if it has one.
     fn place_of(&self, op: OpId) -> Option<usize>
         ensures within { IfSome result (λ place. place < length self.now.entries.items) }
@@ -141,6 +150,18 @@ impl Pauses {
 }
 
 impl Pause {
+    /// Whether turns are to pass until the command is tried.
+    ///
+    /// Cost: no memory.
+    fn is_running(&self) -> bool
+        ensures { result ≡ counts_turns self.now }
+    {
+        match self.wait {
+            Wait::Turns(_) | Wait::Due => true,
+            Wait::Tried => false,
+        }
+    }
+
     /// A turn passes; whether the command is due.
     ///
     /// Cost: no memory.

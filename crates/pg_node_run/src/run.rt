@@ -58,7 +58,7 @@ pub struct NodeRun<T: GroupTable, L: Drop, I: Drop, K: Drop> {
 impl<T: GroupTable + Drop, L: Link + Drop, I: Inlet + Drop, K: Rng + Drop> NodeRun<T, L, I, K> {
     ghost use Rattle.std.specs.Prelude.{[], false, None};
     ghost use Rattle.pg_node_run.specs.Notices.{kept_of};
-    ghost use Rattle.pg_node_run.specs.Pauses.{wait_of};
+    ghost use Rattle.pg_node_run.specs.Pauses.{is_pausing, wait_of};
     ghost use Rattle.pg_node_run.specs.Tries.{RetriedBy, TurnDid};
     ghost use Rattle.pg_node_run.specs.Runs.{linked_of, ports_at, stop_of, notices_at};
     ghost use Rattle.pg_node_run.specs.Runs.{notices_of, generator_of, busy_of, pauses_of, Runs, TurnedTo};
@@ -113,6 +113,15 @@ impl<T: GroupTable + Drop, L: Link + Drop, I: Inlet + Drop, K: Rng + Drop> NodeR
         ensures { result ≡ busy_of self.now }
     {
         self.busy
+    }
+
+    /// Whether a command is in a pause, of which each turn takes one off.
+    ///
+    /// Cost: no memory; O(n) in the commands that have a pause.
+    pub fn is_pausing(&self) -> bool
+        ensures { result ≡ is_pausing (pauses_of self.now) }
+    {
+        self.pauses.are_running()
     }
 
     /// The node with its links and its log, its ports, and where the stop byte and the notices come.

@@ -92,7 +92,8 @@ pub(crate) const ROUNDS_HELP: &str = "how often each client joins and leaves, at
 
 pub(crate) const SEED_HELP: &str = "the seed of the first node's pauses";
 
-pub(crate) const TURNS_HELP: &str = "how many turns each node makes at most";
+pub(crate) const TURNS_HELP: &str =
+    "how many turns each node makes at most: some microseconds each where it is busy, up to 4 milliseconds where it is idle";
 
 pub(crate) const JSON_HELP: &str =
     "print the same as one line of JSON, with the time in microseconds";
@@ -111,12 +112,12 @@ Its reply is {Node, Port, Number, Reply}; Number counts the requests of the port
 handed over one after another, each once the one before it was replied to. Reply is
   ok, a pid, a list, {error, {no_such_group, Name}}, {error, {no_process, Name}} or {refused, N}.
 {lose, Node} loses a node for good, and is answered {lost, Node}. Requests at a lost node are answered
-{Node, Port, Number, {error, {node_lost, Node}}}. Any other body is answered {error, {bad_request, N}}, N being its place
-among all bodies. Once the input is over and all is answered the nodes are stopped, and standard error has two lines:
+{Node, Port, Number, {error, {node_lost, Node}}}. Any other body, also one that is no term, is answered
+{error, {bad_request, N}}, N being its place among all bodies. Once the input is over and all is answered the nodes are stopped, and standard error has two lines:
   agree yes              nodes have the same members where they see the lock of a group free
   replay yes             the logs of the nodes, joined to one run, lead to the nodes as they ended
 
-Status 0: both say yes; else 1. A broken frame or term ends the input, and `refused N` follows, status 1.";
+Status 0: both say yes; else 1. A broken frame ends the input, and `refused N` follows, status 1.";
 
 /// The options of `serve`.
 pub(crate) const PORTS_HELP: &str = "how many ports each node has, 1 to 64";

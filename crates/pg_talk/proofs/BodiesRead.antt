@@ -11,7 +11,6 @@ use Rattle.pg_cluster.proofs.PgFrame.Readings.{front_is_first, front_is_frame, p
 use Rattle.pg_cluster.proofs.PgFrame.Readings.{taking_leaves_others, written_is_read}
 use Rattle.pg_cluster.specs.PgFrame.declared.fault.TooLong.{TooLong}
 use Rattle.pg_cluster.specs.PgFrame.Frames.{after_front, bodies_of, front_of, rest_of}
-use Rattle.pg_term.specs.Fault.{number_of}
 use Rattle.pg_term.specs.declared.fault.TermFault.{TermFault}
 use Rattle.pg_term.specs.declared.term.Term.{Term}
 use Rattle.pg_cluster.specs.PgTermIo.Reading.{term_of}
@@ -19,24 +18,18 @@ use Rattle.pg_node_requests.specs.declared.input.Input.{Input}
 use Rattle.pg_node_requests.specs.declared.input.Input.TheVariants as forms
 use Rattle.pg_node_requests.specs.declared.layout.NodePorts.{NodePorts}
 use Rattle.pg_node_requests.specs.Requests.{input_of}
-use Rattle.pg_talk.specs.ReadingThread.{asked_by, breaks, ReadsOn, TakesFront}
-use Rattle.pg_talk.specs.Readings.{AreAll, AreReadOn, requests_in, cut_by, stream_ending}
-use Rattle.pg_talk.specs.Readings.{FailsAfter, input_then, inputs_in, inputs_of}
+use Rattle.pg_talk.specs.ReadingThread.{breaks, ReadsOn, TakesFront}
+use Rattle.pg_talk.specs.Readings.{AreAll, AreReadOn, asked_by, body_input, requests_in, cut_by}
+use Rattle.pg_talk.specs.Readings.{FailsAfter, inputs_in, inputs_of, stream_ending}
 
 -- ---- the inputs of bodies
 
 module _ (nodes : List NodePorts) where
-  -- a body that spells a term
-  pub first_input : (wanted : ℕ) (body : List ℕ) (others : List (List ℕ)) (last : Input) (term : Term) → wanted ≢ 0 → term_of body ≡ Ok term
-      → inputs_of nodes wanted (body ∷ others) last ≡ input_of nodes term ∷ inputs_of nodes (wanted - requests_in (input_of nodes term)) others last
-  first_input zero body others last term some e = absurd (some refl)
-  first_input (suc n) body others last term some e = ap (λ (read : Result Term TermFault). input_then nodes read (λ count. inputs_of nodes (suc n - count) others last)) e
-
-  -- and one that spells none
-  pub broken_input : (wanted : ℕ) (body : List ℕ) (others : List (List ℕ)) (last : Input) (fault : TermFault) → wanted ≢ 0 → term_of body ≡ Err fault
-      → inputs_of nodes wanted (body ∷ others) last ≡ forms.Broken (number_of fault) ∷ []
-  broken_input zero body others last fault some e = absurd (some refl)
-  broken_input (suc n) body others last fault some e = ap (λ (read : Result Term TermFault). input_then nodes read (λ count. inputs_of nodes (suc n - count) others last)) e
+  -- the first body
+  pub first_input : (wanted : ℕ) (body : List ℕ) (others : List (List ℕ)) (last : Input) → wanted ≢ 0
+      → inputs_of nodes wanted (body ∷ others) last ≡ body_input nodes body ∷ inputs_of nodes (wanted - requests_in (body_input nodes body)) others last
+  first_input zero body others last some = absurd (some refl)
+  first_input (suc n) body others last some = refl
 
   pub last_input : (wanted : ℕ) (last : Input) → wanted ≢ 0 → inputs_of nodes wanted [] last ≡ last ∷ []
   last_input zero last some = absurd (some refl)
@@ -100,17 +93,17 @@ module _ (nodes : List NodePorts) where
       follows further = sym (append_assoc unread piece further) ∙ ap (λ (bytes : List ℕ). bytes ++ further) (sym is)
 
   -- a frame was taken out, and what it asks for was given on
-  pub reads_frame : (x : Option (List ℕ)) (unread unread2 body : List ℕ) (wanted wanted2 : ℕ) (gave gave2 : List Input) (term : Term) → front_of unread ≡ Ok (Some body) → unread2 ≡ after_front unread
-      → term_of body ≡ Ok term → wanted ≢ 0 → wanted2 ≡ wanted - requests_in (input_of nodes term) → gave2 ≡ gave ++ input_of nodes term ∷ []
+  pub reads_frame : (x : Option (List ℕ)) (unread unread2 body : List ℕ) (wanted wanted2 : ℕ) (gave gave2 : List Input) → front_of unread ≡ Ok (Some body) → unread2 ≡ after_front unread
+      → wanted ≢ 0 → wanted2 ≡ wanted - requests_in (body_input nodes body) → gave2 ≡ gave ++ body_input nodes body ∷ []
       → ReadsOn nodes x x unread unread2 wanted wanted2 gave gave2
-  reads_frame x unread unread2 body wanted wanted2 gave gave2 term front after spelled some fewer more = record {
+  reads_frame x unread unread2 body wanted wanted2 gave gave2 front after some fewer more = record {
     bytes = [];
     consumed = Consumes-nil x;
     taken = body ∷ [];
     bodies = λ further. first_body unread further body front ∙ ap (λ (bytes : List ℕ). body ∷ bodies_of (bytes ++ further)) (sym after);
     rest = λ further. same_rest unread further body front ∙ ap (λ (bytes : List ℕ). rest_of (bytes ++ further)) (sym after);
-    inputs = input_of nodes term ∷ [];
-    asked = λ others last. first_input nodes wanted body others last term some spelled ∙ ap (λ n. input_of nodes term ∷ inputs_of nodes n others last) (sym fewer);
+    inputs = body_input nodes body ∷ [];
+    asked = λ others last. first_input nodes wanted body others last some ∙ ap (λ n. body_input nodes body ∷ inputs_of nodes n others last) (sym fewer);
     more = more;
   }
 
@@ -252,20 +245,6 @@ module _ {S : Type 0} (remaining : S → Option (List ℕ)) (fails : S → S →
               ∙ (ap (inputs_of nodes wanted []) (long_ending bytes _ long) ∙ last_input nodes wanted (forms.Broken TOO_LONG) some))),
         )
 
-    -- a body spells no term
-    pub ends_broken : wanted ≢ 0 → (body : List ℕ) (fault : TermFault) → front_of unread ≡ Ok (Some body) → term_of body ≡ Err fault
-        → AreReadOn remaining fails nodes wanted source unread (forms.Broken (number_of fault) ∷ [])
-    ends_broken some body fault front spelled =
-        let bytes = unread ++ or_none source in
-        let end = stream_ending (rest_of bytes) in
-        inl (
-          or_none source,
-          all_of source,
-          sym (
-              ap (λ (bodies : List (List ℕ)). inputs_of nodes wanted bodies end) (first_body unread (or_none source) body front)
-              ∙ broken_input nodes wanted body (bodies_of (after_front unread ++ or_none source)) end fault some spelled),
-        )
-
     -- memory ran out
     pub ends_short : wanted ≢ 0 → AreReadOn remaining fails nodes wanted source unread (forms.Broken OUT_OF_MEMORY ∷ [])
     ends_short some = inr (inl (or_none source, all_of source, (0, sym (last_input nodes wanted (forms.Broken OUT_OF_MEMORY) some))))
@@ -313,14 +292,19 @@ ended_whole (x ∷ []) (y ∷ ys) ended has = never_true (sym (ap (λ (end : Boo
 ended_whole (x ∷ next ∷ xs) ys ended has = ended_whole (next ∷ xs) ys ended.1 (sym (ap (λ (end : Bool). end || has_end (next ∷ xs)) ended.0) ∙ has)
 
 module _ (nodes : List NodePorts) (on : (term : Term) → ends (input_of nodes term) ≡ false) where
-  ended_then : (read : Result Term TermFault) (later : ℕ → List Input) → ((count : ℕ) → IsEnded (later count)) → IsEnded (input_then nodes read later)
-  ended_then (Ok term) later all = ended_more (input_of nodes term) (later (requests_in (input_of nodes term))) (on term) (all (requests_in (input_of nodes term)))
-  ended_then (Err fault) later all = tt
+  -- no body ends the input
+  asked_on : (read : Result Term TermFault) → ends (asked_by nodes read) ≡ false
+  asked_on (Ok term) = on term
+  asked_on (Err fault) = refl
+
+  body_on : (body : List ℕ) → ends (body_input nodes body) ≡ false
+  body_on body = asked_on (term_of body)
 
   ended_of : (wanted : ℕ) (bodies : List (List ℕ)) (last : Input) → IsEnded (inputs_of nodes wanted bodies last)
   ended_of zero bodies last = tt
   ended_of (suc wanted) [] last = tt
-  ended_of (suc wanted) (body ∷ bodies) last = ended_then (term_of body) (λ count. inputs_of nodes (suc wanted - count) bodies last) (λ count. ended_of (suc wanted - count) bodies last)
+  ended_of (suc wanted) (body ∷ bodies) last =
+      let left = suc wanted - requests_in (body_input nodes body) in ended_more (body_input nodes body) (inputs_of nodes left bodies last) (body_on body) (ended_of left bodies last)
 
   whole_of : (wanted : ℕ) (bodies : List (List ℕ)) (last : Input) (xs ys : List Input) → xs ++ ys ≡ inputs_of nodes wanted bodies last → has_end xs ≡ true → ys ≡ []
   whole_of wanted bodies last xs ys e has = ended_whole xs ys (subst IsEnded (sym e) (ended_of wanted bodies last)) has
@@ -351,13 +335,8 @@ module _ (nodes : List NodePorts) (on : (term : Term) → ends (input_of nodes t
       → wanted ≢ 0 → wanted2 ≡ wanted - requests_in input → gave2 ≡ gave ++ input ∷ [] → ReadsOn nodes x x unread unread2 wanted wanted2 gave gave2
   front_goes x unread unread2 wanted wanted2 gave gave2 input (inr (fault, front, is)) whole some fewer more = never_true (sym whole ∙ ap breaks is)
   front_goes x unread unread2 wanted wanted2 gave gave2 input (inl (body, front, after, inr is)) whole some fewer more = never_true (sym whole ∙ ap breaks is)
-  front_goes x unread unread2 wanted wanted2 gave gave2 input (inl (body, front, after, inl is)) whole some fewer more = by_term (term_of body) refl
-    where
-      by_term : (read : Result Term TermFault) → term_of body ≡ read → ReadsOn nodes x x unread unread2 wanted wanted2 gave gave2
-      by_term (Err fault) e = never_true (sym whole ∙ ap breaks (is ∙ ap (asked_by nodes) e))
-      by_term (Ok term) e =
-          let same : input ≡ input_of nodes term = is ∙ ap (asked_by nodes) e in
-          reads_frame nodes x unread unread2 body wanted wanted2 gave gave2 term front after e some (fewer ∙ ap (λ (one : Input). wanted - requests_in one) same) (more ∙ ap (λ (one : Input). gave ++ one ∷ []) same)
+  front_goes x unread unread2 wanted wanted2 gave gave2 input (inl (body, front, after, inl is)) whole some fewer more =
+      reads_frame nodes x unread unread2 body wanted wanted2 gave gave2 front after some (fewer ∙ ap (λ (one : Input). wanted - requests_in one) is) (more ∙ ap (λ (one : Input). gave ++ one ∷ []) is)
 
   module _ {S : Type 0} (remaining : S → Option (List ℕ)) (fails : S → S → Type 0) where
     -- or it is broken there
@@ -367,10 +346,5 @@ module _ (nodes : List NodePorts) (on : (term : Term) → ends (input_of nodes t
         subst (λ (one : Input). AreReadOn remaining fails nodes wanted source unread (one ∷ [])) (sym is) (ends_long remaining fails nodes source unread wanted some fault front)
     front_ends source unread unread2 wanted input (inl (body, front, after, inr is)) broken some =
         subst (λ (one : Input). AreReadOn remaining fails nodes wanted source unread (one ∷ [])) (sym is) (ends_short remaining fails nodes source unread wanted some)
-    front_ends source unread unread2 wanted input (inl (body, front, after, inl is)) broken some = by_term (term_of body) refl
-      where
-        by_term : (read : Result Term TermFault) → term_of body ≡ read → AreReadOn remaining fails nodes wanted source unread (input ∷ [])
-        by_term (Err fault) e =
-            subst (λ (one : Input). AreReadOn remaining fails nodes wanted source unread (one ∷ [])) (sym (is ∙ ap (asked_by nodes) e))
-            (ends_broken remaining fails nodes source unread wanted some body fault front e)
-        by_term (Ok term) e = never_true (sym (on_breaks (input_of nodes term) (on term)) ∙ (ap breaks (sym (is ∙ ap (asked_by nodes) e)) ∙ broken))
+    front_ends source unread unread2 wanted input (inl (body, front, after, inl is)) broken some =
+        never_true (sym (on_breaks (body_input nodes body) (body_on body)) ∙ (ap breaks (sym is) ∙ broken))

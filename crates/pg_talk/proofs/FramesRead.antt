@@ -1,11 +1,12 @@
 -- The law of src/laws.rt.
-use Rattle.std.proofs.Common.{◌≡◌, ◌<◌, ◌-◌, ℕ, List, [], ◌∷◌, ◌++◌, None, Ok, map, sym, ap, ◌∙◌, arith, append-nil}
+use Rattle.std.proofs.Common.{◌≡◌, ◌<◌, ◌-◌, ℕ, List, [], ◌∷◌, ◌++◌, None, Ok, Result, map, sym, ap, ◌∙◌, arith, append-nil}
 use Rattle.std.specs.List.{AllByRecursion, flat_map}
 use Rattle.std.proofs.lemmas.List.Folds.{flat_map-map}
 use Rattle.std.proofs.lemmas.List.Sums.{sum_by-cons}
 use Rattle.pg_cluster.proofs.PgFrame.Fronts.{front_of-open}
 use Rattle.pg_cluster.proofs.PgFrame.Readings.{front_is_first, front_is_frame, written_is_read}
 use Rattle.pg_cluster.specs.PgFrame.Frames.{IsBody, bodies_of, frame, front_of, rest_of}
+use Rattle.pg_term.specs.declared.fault.TermFault.{TermFault}
 use Rattle.pg_term.specs.declared.term.Term.{Term}
 use Rattle.pg_cluster.specs.PgTermIo.Writing.{written}
 use Rattle.pg_node_requests.specs.declared.input.Input.{Input}
@@ -14,7 +15,7 @@ use Rattle.pg_node_requests.specs.Requests.{input_of}
 use Rattle.pg_talk.proofs.BodiesRead.{cut_ending, first_input, last_input}
 use Rattle.pg_talk.specs.Frames.{framed}
 use Rattle.pg_talk.specs.ReadingLaws.{FramesAreRead, IsFramed, inputs_said, requests_said}
-use Rattle.pg_talk.specs.Readings.{requests_in, stream_ending, inputs_in, inputs_of}
+use Rattle.pg_talk.specs.Readings.{asked_by, requests_in, stream_ending, inputs_in, inputs_of}
 
 are_bodies : (terms : List Term) → AllByRecursion IsFramed terms → AllByRecursion IsBody (map written terms)
 are_bodies [] all = tt
@@ -27,8 +28,9 @@ module _ (nodes : List NodePorts) where
   bodies_read wanted [] last all some = last_input nodes wanted last (λ e. omega (arith, some, e))
   bodies_read wanted (term ∷ terms) last all some =
       let count = sum_by-cons (λ (term : Term). requests_in (input_of nodes term)) term terms in
-      first_input nodes wanted (written term) (map written terms) last term (λ e. omega (arith, some, e)) all.0.back
-      ∙ ap (λ (inputs : List Input). input_of nodes term ∷ inputs) (bodies_read (wanted - requests_in (input_of nodes term)) terms last all.1 (omega (arith, some, count)))
+      first_input nodes wanted (written term) (map written terms) last (λ e. omega (arith, some, e))
+      ∙ (ap (λ (read : Result Term TermFault). asked_by nodes read ∷ inputs_of nodes (wanted - requests_in (asked_by nodes read)) (map written terms) last) all.0.back
+      ∙ ap (λ (inputs : List Input). input_of nodes term ∷ inputs) (bodies_read (wanted - requests_in (input_of nodes term)) terms last all.1 (omega (arith, some, count))))
 
   frames_read : (wanted : ℕ) (terms : List Term) (rest : List ℕ) → AllByRecursion IsFramed terms → requests_said nodes terms < wanted → front_of rest ≡ Ok None
       → inputs_in nodes wanted (flat_map framed terms ++ rest) ≡ inputs_said nodes terms ++ stream_ending rest ∷ []

@@ -1,20 +1,15 @@
 -- The thread that reads, and what it gave on so far.
-use Rattle.std.specs.Prelude.{◌≡◌, ◌⊎◌, ℕ, Bool, true, false, List, ◌++◌, Option, Some, None, Result, Ok, Err}
+use Rattle.std.specs.Prelude.{◌≡◌, ◌⊎◌, ℕ, Bool, true, false, List, ◌++◌, Option, Some, None, Ok, Err}
 use Rattle.std.specs.Io.KnownBytes.{Consumes}
 use Rattle.pg_term.specs.declared.faults.TheConstants.{OUT_OF_MEMORY, TOO_LONG}
 use Rattle.pg_cluster.specs.PgFrame.declared.fault.TooLong.{TooLong}
 use Rattle.pg_cluster.specs.PgFrame.Frames.{after_front, bodies_of, front_of, rest_of}
 use Rattle.pg_cluster.specs.PgRing.Slots.{SameSlotOut, given}
-use Rattle.pg_term.specs.Fault.{number_of}
-use Rattle.pg_term.specs.declared.fault.TermFault.{TermFault}
-use Rattle.pg_term.specs.declared.term.Term.{Term}
-use Rattle.pg_cluster.specs.PgTermIo.Reading.{term_of}
 use Rattle.pg_node_requests.specs.declared.input.Input.{Input}
 use Rattle.pg_node_requests.specs.declared.input.Input.TheVariants as forms
 use Rattle.pg_node_requests.specs.declared.layout.NodePorts.{NodePorts}
-use Rattle.pg_node_requests.specs.Requests.{input_of}
 use Rattle.pg_talk.specs.declared.service.reading.Reading.{Reading}
-use Rattle.pg_talk.specs.Readings.{AreReadOn, inputs_of}
+use Rattle.pg_talk.specs.Readings.{AreReadOn, body_input, inputs_of}
 
 -- whether an input is broken
 abbrev pub breaks : Input → Bool
@@ -24,14 +19,9 @@ breaks forms.Bad = false
 breaks forms.End = false
 breaks (forms.Broken number) = true
 
--- the input of the term that is spelled, or that it is broken where none is
-abbrev pub asked_by : List NodePorts → Result Term TermFault → Input
-asked_by nodes (Ok term) = input_of nodes term
-asked_by nodes (Err fault) = forms.Broken (number_of fault)
-
 -- what a body is, unless memory runs out
 abbrev pub IsAsked : List NodePorts → List ℕ → Input → Type 0
-IsAsked nodes body input = (input ≡ asked_by nodes (term_of body)) ⊎ (input ≡ forms.Broken OUT_OF_MEMORY)
+IsAsked nodes body input = (input ≡ body_input nodes body) ⊎ (input ≡ forms.Broken OUT_OF_MEMORY)
 
 -- the first frame of the unread bytes is taken out, and this is its input; or they begin with a frame that is too long
 abbrev pub TakesFront : List NodePorts → List ℕ → List ℕ → Input → Type 0

@@ -4,7 +4,6 @@ use Rattle.std.specs.Io.KnownBytes.{Consumes}
 use Rattle.pg_term.specs.declared.faults.TheConstants.{OUT_OF_MEMORY, READ_FAULT, TOO_LONG, TRUNCATED}
 use Rattle.pg_cluster.specs.PgFrame.declared.fault.TooLong.{TooLong}
 use Rattle.pg_cluster.specs.PgFrame.Frames.{bodies_of, front_of, rest_of}
-use Rattle.pg_term.specs.Fault.{number_of}
 use Rattle.pg_term.specs.declared.fault.TermFault.{TermFault}
 use Rattle.pg_term.specs.declared.term.Term.{Term}
 use Rattle.pg_cluster.specs.PgTermIo.Reading.{term_of}
@@ -23,16 +22,20 @@ requests_in forms.Bad = 0
 requests_in forms.End = 0
 requests_in (forms.Broken number) = 0
 
--- the input of a term, and those of the bodies after it, of which so many requests fewer are wanted; without a term the input is broken
-abbrev pub input_then : List NodePorts → Result Term TermFault → (ℕ → List Input) → List Input
-input_then nodes (Ok term) later = input_of nodes term ∷ later (requests_in (input_of nodes term))
-input_then nodes (Err fault) later = forms.Broken (number_of fault) ∷ []
+-- the input of the term that is spelled; where none is it asks for nothing
+abbrev pub asked_by : List NodePorts → Result Term TermFault → Input
+asked_by nodes (Ok term) = input_of nodes term
+asked_by nodes (Err fault) = forms.Bad
 
--- Each body is one input, up to the first that spells no term. The input is over once so many requests came, and else by what comes after the bodies.
+-- the input that a body is
+abbrev pub body_input : List NodePorts → List ℕ → Input
+body_input nodes body = asked_by nodes (term_of body)
+
+-- Each body is one input. The input is over once so many requests came, and else by what comes after the bodies.
 abbrev pub inputs_of : List NodePorts → ℕ → List (List ℕ) → Input → List Input
 inputs_of nodes zero bodies last = forms.End ∷ []
 inputs_of nodes (suc wanted) [] last = last ∷ []
-inputs_of nodes (suc wanted) (body ∷ bodies) last = input_then nodes (term_of body) (λ count. inputs_of nodes (suc wanted - count) bodies last)
+inputs_of nodes (suc wanted) (body ∷ bodies) last = body_input nodes body ∷ inputs_of nodes (suc wanted - requests_in (body_input nodes body)) bodies last
 
 abbrev pub cut_by : Result (Option (List ℕ)) TooLong → Input
 cut_by (Ok front) = forms.Broken TRUNCATED

@@ -14,13 +14,14 @@ ghost use Rattle.pg_talk.specs.Outcomes.{outcome_lines, replay_line, yes_or_no};
 use crate::onlooker::Onlooker;
 use crate::speaker::Speaker;
 use crate::verdict::{Verdict, close_and_judge};
-use pg_cluster::{Config, MAX_NODES, OpenGate, Running, Start, StartFault};
+use pg_cluster::{Config, MAX_NODES, OpenGate, Rest, Running, Start, StartFault, WorldFault};
 use pg_node_requests::node_name;
 use pg_term::Items;
 use std::alloc::{AllocError, Global};
+use std::io;
 use std::io::Write;
 use std::thread::Threads;
-use std::{io, thread};
+use std::time::Clock;
 
 /// How many bytes a ring between two nodes has room for.
 const RING: usize = 65_536;
@@ -146,23 +147,30 @@ fn yes_or_no(holds: bool) -> &'static str
 /// Starts a cluster and lets its clients speak. The first client of the first node creates a group. Once that is answered each client
 /// makes a process, and then joins the group and leaves it so many times, each command once the former is answered. The cluster is closed
 /// once all is answered, or after as many looks as there are turns. `asked`: the nodes, their clients, the seed of the pauses of the first
-/// node, which is one more for each further node, and the turns. `onlooker` sees at each look how far they are. It may wait for threads.
+/// node, which is one more for each further node, and the turns. `onlooker` sees at each look how far they are. `clock`: that by which a
+/// node sleeps which finds nothing to do, and who looks at the clients, as `Rest` of pg_cluster says. It may wait for threads.
 ///
 /// Errors: those of `Cluster::start`, in their order, `BadConfig` among them for more than 16 nodes, or none. Also `World` of `OutOfMemory`,
 /// where memory runs out before the start, while the clients speak, or as the cluster is judged. No thread of it runs after an error.
 ///
 /// Cost: 64 KB for each ring between two nodes, and the logs of all nodes, which grow with each event until the end. A thread for each node.
-pub fn run_threads<R: Threads, O: Onlooker>(
+pub fn run_threads<R: Threads, C: Clock + Clone + Drop + Send + 'static, O: Onlooker>(
     rt: &R,
     alloc: Global,
+    clock: C,
     asked: Conversation,
     onlooker: &mut O,
 ) -> Result<Outcome, StartFault>
     ensures { IfOk result (TookPlace asked) }
 {
     let config = config_of(alloc, asked)?;
-    let mut running = Running::start(rt, alloc, config, asked.seed, OpenGate, asked.turns)?;
-    let heard = converse(alloc, &mut running, asked, onlooker);
+    let theirs: Result<C, AllocError> = clock.clone();
+    let Ok(theirs) = theirs else {
+        drop(config);
+        return Err(StartFault::World(WorldFault::OutOfMemory));
+    };
+    let mut running = Running::start(rt, alloc, config, asked.seed, OpenGate, theirs, asked.turns)?;
+    let heard = converse(alloc, &clock, &mut running, asked, onlooker);
     let verdict = close_and_judge(rt, alloc, running);
     let Verdict { agree, replay } = verdict?;
     Ok(Outcome {
@@ -200,8 +208,9 @@ fn start_of(alloc: Global, number: u32, ports: u16) -> Result<Start, StartFault>
 }
 
 /// The clients speak until all is answered, or for so many looks; how many commands were answered.
-fn converse<O: Onlooker>(
+fn converse<C: Clock, O: Onlooker>(
     alloc: Global,
+    clock: &C,
     running: &mut Running,
     asked: Conversation,
     onlooker: &mut O,
@@ -213,14 +222,17 @@ fn converse<O: Onlooker>(
 {
     let mut speakers = speakers(alloc, running.client_count(), asked.rounds)?;
     let commands = asked.commands();
+    let mut rest = Rest::new();
     for _ in 0..asked.turns {
         let moved = speak_all(alloc, running, &mut speakers)?;
         onlooker.look(answered_by(speakers.as_slice()), commands);
         if speakers.iter().all(|speaker| speaker.is_silent()) {
             break;
         }
-        if !moved {
-            thread::yield_now();
+        if moved {
+            rest.found();
+        } else {
+            rest.rest(clock);
         }
     }
     Ok(answered_by(speakers.as_slice()))

@@ -11,6 +11,7 @@ mod verdict;
 pub use conversation::{Conversation, Outcome, run_threads};
 pub use laws::frames_are_read;
 pub use onlooker::{Onlooker, Quiet};
+pub use pg_cluster::Sleepless;
 pub use pg_node_requests::node_names;
 pub use service::fault::ServiceFault;
 pub use service::members::config_of;

@@ -1,6 +1,6 @@
 //! Clusters that are closed once the lines of a script have happened in them.
 
-use pg_cluster::{Closed, Command, Config, FrameStep, OpenGate, Reply, Running, Step};
+use pg_cluster::{Closed, Command, Config, FrameStep, OpenGate, Reply, Running, Sleepless, Step};
 use pg_script::{Act, Script, ScriptLine, read_script};
 use std::alloc::Global;
 use std::process::Abort;
@@ -23,7 +23,7 @@ pub struct Judged {
 pub fn closed_after(rt: &(impl Threads + Abort), alloc: Global, script: &str) -> Judged {
     let read = read_script(alloc, script).ok().expect(rt, "memory");
     let Script { config, lines } = read;
-    let begun = Running::start(rt, alloc, config, 0, OpenGate, 1_000_000_000);
+    let begun = Running::start(rt, alloc, config, 0, OpenGate, Sleepless, 1_000_000_000);
     let mut running = begun.ok().expect(rt, "it starts");
     for line in lines {
         let ScriptLine { number: _, act } = line;

@@ -1,8 +1,8 @@
 //! Clusters that tests begin with, what their clients ask, and how they end.
 
 use pg_cluster::{
-    Answer, Closed, Command, Config, FrameStep, Gate, NodeFault, Running, StartFault, Stopped,
-    WorldFault,
+    Answer, Closed, Command, Config, FrameStep, Gate, NodeFault, Running, Sleepless, StartFault,
+    Stopped, WorldFault,
 };
 use pg_script::{Line, NodeForm, Script, print_reply, read_line, read_script};
 use std::alloc::{AllocError, Global};
@@ -174,7 +174,15 @@ pub fn start<R: Threads, G: Gate + Drop + Send + Sync + 'static>(
     gate: G,
 ) -> Result<Started, StartFault> {
     match config(alloc, setting) {
-        Some(config) => match Running::start(rt, alloc, config, setting.seed, gate, setting.limit) {
+        Some(config) => match Running::start(
+            rt,
+            alloc,
+            config,
+            setting.seed,
+            gate,
+            Sleepless,
+            setting.limit,
+        ) {
             Ok(running) => Ok(Started { running }),
             Err(fault) => Err(fault),
         },

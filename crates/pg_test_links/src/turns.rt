@@ -1,6 +1,7 @@
-//! A node that one thread runs over rings in memory: none of its turns is short.
+//! A node that one thread runs over rings in memory: none of its turns is short, and it sleeps once it has found nothing for long.
 
 use crate::links::nodes_of;
+use crate::rests::Sleeps;
 use crate::sights::{holds, is_ok};
 use pg_node_run::{
     Client, Gate, LinkedNode, NOTICE_PLACES, NodeRun, Notice, Port, port_pair, run_node,
@@ -14,8 +15,11 @@ use std::process::Abort;
 
 type Run = NodeRun<IndexTable, MemRing, MemRing, Pcg32>;
 
-// How many turns the node makes.
-const TURNS: u64 = 8;
+// How many turns the node makes, of which the first do something, and 300 then only yield.
+const TURNS: u64 = 1000;
+
+// In how many of them it sleeps at least, and at most.
+const SLEEPING: (u64, u64) = (690, 699);
 
 // A gate that lets everyone in.
 #[derive(Drop)]
@@ -46,19 +50,26 @@ fn run_with(rt: &impl Abort, alloc: Global, port: Port) -> Run {
     NodeRun::new(alloc, linked, ports, stop, notices, Pcg32::new(1, 2))
 }
 
-// Whether the client asks for a group and is answered, and each turn is whole.
+// Whether the node slept in as many turns as it should, and for as long.
+fn slept(sleeps: &Sleeps) -> bool {
+    let count = sleeps.count.get();
+    SLEEPING.0 <= count && count <= SLEEPING.1 && sleeps.longest.get() == 4000
+}
+
+// Whether the client asks for a group and is answered, each turn is whole, and the node slept.
 fn goes_on_whole(run: Run, mut client: Client) -> bool {
     let asked = client.submit(Command::Create(Term::Int(7)));
     let is_asked = asked.is_ok();
     drop(asked);
-    let ran = run_node(0, run, &Open, TURNS);
+    let sleeps = Sleeps::none();
+    let ran = run_node(0, run, &Open, &sleeps, TURNS);
     let is_whole = ran.turns == TURNS && ran.short == 0;
     drop(ran);
     let answer = client.poll();
     let is_answered = is_ok(answer.as_ref(), 1);
     drop(answer);
     drop(client);
-    is_asked && is_answered && is_whole
+    is_asked && is_answered && is_whole && slept(&sleeps)
 }
 
 #[test]
@@ -70,6 +81,6 @@ fn no_turn_is_short(rt: HostRuntime) {
         &rt,
         goes_on_whole(run, client),
         "each is whole of turns:",
-        8,
+        1000,
     );
 }

@@ -2,8 +2,9 @@
 
 use crate::verdicts::holds_at;
 use pg_talk::{Conversation, Outcome, Quiet, run_threads};
-use std::alloc::Global;
+use std::alloc::{AllocError, Global};
 use std::thread::Threads;
+use std::time::Clock;
 
 /// How many nodes there are, how many clients each has, how often these change, and how many turns there are; how many commands are
 /// answered, of how many.
@@ -25,7 +26,12 @@ fn is_so(outcome: &Outcome, answered: u64, asked: u64) -> bool {
         && outcome.is_good() == (answered == asked)
 }
 
-fn goes(rt: &impl Threads, alloc: Global, row: &Row) -> bool {
+fn goes<R: Threads, C: Clock + Clone + Drop + Send + 'static>(
+    rt: &R,
+    alloc: Global,
+    clock: C,
+    row: &Row,
+) -> bool {
     let ((nodes, clients, rounds, turns), answered, all) = *row;
     let asked = Conversation {
         nodes,
@@ -34,7 +40,7 @@ fn goes(rt: &impl Threads, alloc: Global, row: &Row) -> bool {
         seed: 1,
         turns,
     };
-    match run_threads(rt, alloc, asked, &mut Quiet) {
+    match run_threads(rt, alloc, clock, asked, &mut Quiet) {
         Ok(outcome) => is_so(&outcome, answered, all),
         Err(_) => false,
     }
@@ -43,7 +49,11 @@ fn goes(rt: &impl Threads, alloc: Global, row: &Row) -> bool {
 #[test]
 fn clients_are_answered(rt: HostRuntime) {
     for place in 0..ROWS.len() {
-        let goes = goes(&rt, rt.alloc(), &ROWS[place]);
+        let clock: Result<HostRuntime, AllocError> = rt.clone();
+        let goes = match clock {
+            Ok(clock) => goes(&rt, rt.alloc(), clock, &ROWS[place]),
+            Err(AllocError) => false,
+        };
         holds_at(&rt, goes, "a conversation of row", place as u64);
     }
 }

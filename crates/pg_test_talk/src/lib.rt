@@ -4,6 +4,8 @@
 #[cfg(test)]
 mod conversation;
 #[cfg(test)]
+mod ends;
+#[cfg(test)]
 mod members;
 #[cfg(test)]
 mod service;

@@ -2,7 +2,7 @@
 
 use crate::verdicts::holds_at;
 use pg_streams::Source;
-use pg_talk::{Served, Service, ServiceFault, config_of, node_names, serve_cluster};
+use pg_talk::{Served, Service, ServiceFault, Sleepless, config_of, node_names, serve_cluster};
 use pg_text::read_term;
 use pg_world::{encode, write_frame};
 use std::alloc::Global;
@@ -42,10 +42,10 @@ impl Source for Input {
 }
 
 /// A request, and its reply; none where the service ends before.
-type Said<'a> = (&'a str, &'a str);
+pub(crate) type Said<'a> = (&'a str, &'a str);
 
 /// Each call, in an order in which some are refused.
-const CALLS: &[Said] = &[
+pub(crate) const CALLS: &[Said] = &[
     ("{n1,1,make}", "{n1,1,1,<n1.1.0>}"),
     ("{n1,1,{create,g}}", "{n1,1,2,ok}"),
     ("{n1,1,{closest,g,7}}", "{n1,1,3,{error,{no_process,g}}}"),
@@ -81,11 +81,11 @@ const NO_CALLS: &[Said] = &[
     ("{n2,1,make}", "{n2,1,1,{error,{node_lost,n2}}}"),
 ];
 
-const MAKES: Said = ("{n1,1,make}", "{n1,1,1,<n1.1.0>}");
+pub(crate) const MAKES: Said = ("{n1,1,make}", "{n1,1,1,<n1.1.0>}");
 
 const LATE: Said = ("{n1,1,make}", "");
 
-const OTHER_MAKES: Said = ("{n2,1,make}", "{n2,1,1,<n2.1.0>}");
+pub(crate) const OTHER_MAKES: Said = ("{n2,1,make}", "{n2,1,1,<n2.1.0>}");
 
 /// What is said, and the bytes behind the requests; in pieces of how many bytes at most they come in, whether a read fails then, how many
 /// requests are taken, and the fault of the input.
@@ -97,8 +97,8 @@ const ROWS: &[Row] = &[
     Row(CALLS, b"", ANY, false, ALL, None),
     Row(NO_CALLS, b"", 1, false, ALL, None),
     Row(&[MAKES, LATE], b"", ANY, false, 1, None),
-    Row(&[MAKES], b"\x00\x00\x00\x01\x84", ANY, false, ALL, Some(2)),
     Row(&[], b"\x00\x00", ANY, false, ALL, Some(1)),
+    Row(&[MAKES], b"\x00\x00\x00\x02\x83", 1, false, ALL, Some(1)),
     Row(&[], b"\x7f\x00\x00\x00", ANY, false, ALL, Some(11)),
     Row(&[OTHER_MAKES], b"", ANY, true, ALL, Some(31)),
 ];
@@ -107,8 +107,26 @@ const ANY: usize = usize::MAX;
 
 const ALL: u64 = u64::MAX;
 
+/// Bodies that spell no term: none, another version, no tag, a float, a map, a fun, a byte left over, an atom that is no text, one without
+/// its name, and a list in a list and so on.
+const ODD: &[&[u8]] = &[
+    b"",
+    b"\x84",
+    b"\x83",
+    b"\x83F\x3f\xf0\x00\x00\x00\x00\x00\x00",
+    b"\x83t\x00\x00\x00\x00",
+    b"\x83p\x00\x00\x00\x04",
+    b"\x83j\x00",
+    b"\x83w\x02\xc3\x28",
+    b"\x83w\x02g",
+    DEEP,
+];
+
+const DEEP: &[u8] =
+    b"\x83hhhhhhhhhhhhhhhhhhhhhhhhhhhhhhhhhhhhhhhhhhhhhhhhhhhhhhhhhhhhhhhhhhhhhhhhhhhhhhhhhhhhhhhhhhhhhhhhhhhhhhhhhhhhhhhhhhhhhhhhhhhhhhhhhhhhhhhhhhhhhhhhhhhhhhhhhhhhhhhh";
+
 /// The frames of the terms of the requests, or of the replies.
-fn frames(alloc: Global, said: &[Said<'_>], are_replies: bool) -> Option<Vec<u8>> {
+pub(crate) fn frames(alloc: Global, said: &[Said<'_>], are_replies: bool) -> Option<Vec<u8>> {
     let mut bytes = Vec::new(alloc);
     for (request, reply) in said {
         let text = if are_replies { reply } else { request };
@@ -123,7 +141,7 @@ fn frames(alloc: Global, said: &[Said<'_>], are_replies: bool) -> Option<Vec<u8>
 }
 
 /// A service of two nodes with one port each.
-fn service_of(alloc: Global, limit: u64) -> Option<Service> {
+pub(crate) fn service_of(alloc: Global, limit: u64) -> Option<Service> {
     let names = node_names(alloc, 2).ok()?;
     let config = config_of(alloc, names.as_slice(), 1, "[]");
     drop(names);
@@ -132,6 +150,35 @@ fn service_of(alloc: Global, limit: u64) -> Option<Service> {
         requests: limit,
         seed: 1,
     })
+}
+
+/// Bodies of which each spells no term, and behind them a request.
+fn odd_input(alloc: Global) -> Option<Input> {
+    let mut bytes = Vec::new(alloc);
+    for body in ODD {
+        write_frame(&mut bytes, body).ok()?;
+    }
+    let last = frames(alloc, &[MAKES], false)?;
+    bytes.extend_from_slice(last.as_slice()).ok()?;
+    Some(Input {
+        bytes,
+        at: 0,
+        piece: 7,
+        fails: false,
+    })
+}
+
+/// The replies to these.
+fn odd_replies(alloc: Global) -> Option<Vec<u8>> {
+    let mut bytes = Vec::new(alloc);
+    for place in 0..ODD.len() {
+        let text = format!(in alloc; "{{error,{{bad_request,{}}}}}", place + 1).ok()?;
+        let reply = frames(alloc, &[("", text.as_str())], true)?;
+        bytes.extend_from_slice(reply.as_slice()).ok()?;
+    }
+    let last = frames(alloc, &[MAKES], true)?;
+    bytes.extend_from_slice(last.as_slice()).ok()?;
+    Some(bytes)
 }
 
 /// What comes in by a row.
@@ -162,7 +209,7 @@ fn goes(rt: &impl Threads, alloc: Global, row: Row<'_>) -> Option<bool> {
     let source = input_of(alloc, row)?;
     let service = service_of(alloc, limit)?;
     let mut written = Vec::new(alloc);
-    let served = serve_cluster(rt, alloc, service, source, &mut written);
+    let served = serve_cluster(rt, alloc, Sleepless, service, source, &mut written);
     Some(is_so(served, fault) && written == wanted)
 }
 
@@ -172,4 +219,20 @@ fn requests_are_replied_to(rt: HostRuntime) {
         let went = goes(&rt, rt.alloc(), ROWS[place]) == Some(true);
         holds_at(&rt, went, "a service of row", place as u64);
     }
+}
+
+/// Whether a service replies to each odd body, and to the request behind them.
+fn goes_on_past_odd(rt: &impl Threads, alloc: Global) -> Option<bool> {
+    let wanted = odd_replies(alloc)?;
+    let source = odd_input(alloc)?;
+    let service = service_of(alloc, ALL)?;
+    let mut written = Vec::new(alloc);
+    let served = serve_cluster(rt, alloc, Sleepless, service, source, &mut written);
+    Some(is_so(served, None) && written == wanted)
+}
+
+#[test]
+fn odd_bodies_end_nobody(rt: HostRuntime) {
+    let went = goes_on_past_odd(&rt, rt.alloc()) == Some(true);
+    holds_at(&rt, went, "odd bodies of", ODD.len() as u64);
 }

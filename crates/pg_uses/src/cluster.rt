@@ -7,16 +7,22 @@ use pg_text::write_pid;
 use std::alloc::Global;
 use std::thread;
 use std::thread::Threads;
+use std::time::Clock;
 
 /// The clients, by their places: each node has one.
 const AT_A: usize = 0;
 
 const AT_B: usize = 1;
 
-/// A process of `b` joins a group, and `a` is asked for the member that is closest to it. It may wait for threads.
-pub(crate) fn closest_member<R: Threads>(rt: &R, alloc: Global) -> Option<String> {
+/// A process of `b` joins a group, and `a` is asked for the member that is closest to it. Nodes that find nothing to do sleep by the clock.
+/// It may wait for threads.
+pub(crate) fn closest_member<R: Threads, C: Clock + Clone + Drop + Send + 'static>(
+    rt: &R,
+    alloc: Global,
+    clock: C,
+) -> Option<String> {
     let config = two_nodes(alloc)?;
-    let mut running = Running::start(rt, alloc, config, 1, OpenGate, u64::MAX).ok()?;
+    let mut running = Running::start(rt, alloc, config, 1, OpenGate, clock, u64::MAX).ok()?;
     let closest = speak(alloc, &mut running);
     drop(running.close(rt));
     let closest = closest?;

@@ -11,17 +11,22 @@ mod wire;
 use std::alloc::Global;
 use std::io;
 use std::thread::Threads;
+use std::time::Clock;
 
 /// What each of the three comes to.
-fn lines<R: Threads>(rt: &R, alloc: Global) -> Option<[String; 3]> {
-    let closest = cluster::closest_member(rt, alloc)?;
+fn lines<R: Threads, C: Clock + Clone + Drop + Send + 'static>(
+    rt: &R,
+    alloc: Global,
+    clock: C,
+) -> Option<[String; 3]> {
+    let closest = cluster::closest_member(rt, alloc, clock)?;
     let groups = links::groups_of_both(alloc)?;
     let history = history::history(alloc)?;
     Some([closest, groups, history])
 }
 
 fn main(rt: HostRuntime) -> io::Result<()> {
-    match lines(&rt, rt.alloc()) {
+    match lines(&rt, rt.alloc(), rt.clone()?) {
         Some([closest, groups, history]) => {
             println!(rt; "closest member: {closest}")?;
             println!(rt; "groups: {groups}")?;

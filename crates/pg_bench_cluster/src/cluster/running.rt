@@ -3,6 +3,7 @@
 use pg_cluster::{Answer, Command, Config, OpenGate};
 use std::alloc::Global;
 use std::thread::Threads;
+use std::time::Clock;
 
 /// A cluster with its clients, of which one that is not there takes and gives nothing.
 #[derive(Drop)]
@@ -12,8 +13,13 @@ pub struct Running {
 
 impl Running {
     /// The nodes of a configuration as a cluster, and its clients.
-    pub fn start<R: Threads>(rt: &R, alloc: Global, config: Config) -> Option<Running> {
-        match pg_cluster::Running::start(rt, alloc, config, 0, OpenGate, u64::MAX) {
+    pub fn start<R: Threads, C: Clock + Clone + Drop + Send + 'static>(
+        rt: &R,
+        alloc: Global,
+        config: Config,
+        clock: C,
+    ) -> Option<Running> {
+        match pg_cluster::Running::start(rt, alloc, config, 0, OpenGate, clock, u64::MAX) {
             Ok(cluster) => Some(Running { cluster }),
             Err(_) => None,
         }

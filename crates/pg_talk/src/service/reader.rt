@@ -11,6 +11,7 @@ use std::sync::Arc;
 use std::sync::atomic::{AtomicBool, Ordering};
 use std::thread;
 use std::thread::{PromisedHandle, Threads};
+use std::time::Clock;
 
 /// How many inputs are between the thread that reads and the one that writes at most.
 const INPUT_PLACES: usize = 1024;
@@ -33,12 +34,14 @@ impl<S: Source + Send + Drop + 'static> Reader<S> {
     ghost use Rattle.pg_talk.specs.Readings.{AreRead};
     ghost use Rattle.pg_talk.specs.ReadingThread.{EndsAt};
 
-    /// Starts a thread that reads requests to the ports of a layout from a source. `requests`: after how many the input counts as ended.
+    /// Starts a thread that reads requests to the ports of a layout from a source. `requests`: after how many the input counts as
+    /// ended. `clock`: that by which it sleeps where there is no place for what it read.
     ///
     /// Faults: `Start` of `NoThread`; `OutOfMemory`.
-    pub(crate) fn start<R: Threads>(
+    pub(crate) fn start<R: Threads, C: Clock + Clone + Drop + Send + 'static>(
         rt: &R,
         alloc: Global,
+        clock: &C,
         source: S,
         layout: Layout,
         requests: u64,
@@ -49,6 +52,7 @@ impl<S: Source + Send + Drop + 'static> Reader<S> {
     {
         let is_over = Arc::new(alloc, AtomicBool::new(false))?;
         let told = Arc::try_clone(&is_over)?;
+        let clock = clock.clone()?;
         let Ok((out, inlet)) = slot_pair(alloc, INPUT_PLACES) else {
             return Err(ServiceFault::OutOfMemory);
         };
@@ -69,7 +73,7 @@ impl<S: Source + Send + Drop + 'static> Reader<S> {
             promise,
             move || -> Reading<S>
                 ensures { EndsAt S.remaining S.fails reading result }
-            { read_all(reading) },
+            { read_all(reading, &clock) },
         ) {
             Ok(thread) => Ok(Reader {
                 inlet,

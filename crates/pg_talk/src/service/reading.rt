@@ -3,16 +3,17 @@
 ghost use Rattle.std.specs.Prelude.{◌≡◌};
 ghost use Rattle.pg_talk.specs.ReadingThread.{EndsAt as ReadsToItsEnd, IsAsked, breaks as is_broken};
 
-use pg_cluster::{Deframer, SlotOut, decode};
+use pg_cluster::{Deframer, Rest, SlotOut, decode};
 use pg_node_requests::{Input, Layout, read_request};
 use pg_streams::Source;
+use pg_term::TermFault;
 use pg_term::faults::{OUT_OF_MEMORY, READ_FAULT, TRUNCATED};
 use std::alloc::{AllocError, Global};
 use std::snapshot::Snapshot;
 use std::sync::Arc;
 use std::sync::atomic::{AtomicBool, Ordering};
-use std::thread;
 use std::thread::Promise;
+use std::time::Clock;
 
 /// How many bytes one read asks for.
 const PIECE_LEN: usize = 65_536;
@@ -44,11 +45,11 @@ impl<S: Source + Drop> Promise<Reading<S>> for ReadOf<S> {
 }
 
 /// Reads the input to its end, and gives on what comes in.
-pub(crate) fn read_all<S: Source + Drop>(reading: Reading<S>) -> Reading<S>
+pub(crate) fn read_all<S: Source + Drop, C: Clock>(reading: Reading<S>, clock: &C) -> Reading<S>
     ensures { ReadsToItsEnd S.remaining S.fails reading result }
 {
     let mut reading = reading;
-    reading.run();
+    reading.run(clock);
     reading
 }
 
@@ -62,22 +63,22 @@ impl<S: Source + Drop> Reading<S> {
     ghost use Rattle.pg_talk.specs.ReadingThread.{EndsAt, GoesOn, IsWaiting, TakesFront};
 
     /// Reads the input to its end, and gives on what comes in.
-    fn run(&mut self)
+    fn run<C: Clock>(&mut self, clock: &C)
         ensures { EndsAt S.remaining S.fails self.old self.new }
     {
         let mut piece = [0; PIECE_LEN];
         for _ in 0..u64::MAX {
-            if !self.give_all() {
+            if !self.give_all(clock) {
                 return;
             }
-            if !self.read(&mut piece) {
+            if !self.read(clock, &mut piece) {
                 return;
             }
         }
     }
 
     /// Gives on what each whole frame asks for; whether more is to be read.
-    fn give_all(&mut self) -> bool
+    fn give_all<C: Clock>(&mut self, clock: &C) -> bool
         ensures on { IsTrue result → GoesOn S.remaining S.fails self.old self.new }
         ensures waits { IsTrue result → IsWaiting self.new.requests self.new.deframer.unread }
         ensures end { result ≡ false → EndsAt S.remaining S.fails self.old self.new }
@@ -91,7 +92,7 @@ impl<S: Source + Drop> Reading<S> {
             };
             let is_last = breaks(&input);
             self.count(&input);
-            if !self.give(input) {
+            if !self.give(clock, input) {
                 return false;
             }
             if is_last {
@@ -102,7 +103,7 @@ impl<S: Source + Drop> Reading<S> {
     }
 
     /// Reads a piece of the input; whether more is to be read. No whole frame is there.
-    fn read(&mut self, piece: &mut [u8]) -> bool
+    fn read<C: Clock>(&mut self, clock: &C, piece: &mut [u8]) -> bool
         requires piece { 0 < length piece.old }
         requires waits { IsWaiting self.old.requests self.old.deframer.unread }
         ensures on { IsTrue result → GoesOn S.remaining S.fails self.old self.new }
@@ -110,23 +111,23 @@ impl<S: Source + Drop> Reading<S> {
         ensures len { length piece.new ≡ length piece.old }
     {
         if self.requests == 0 {
-            return self.end(Input::End);
+            return self.end(clock, Input::End);
         }
         let count = match self.source.read_some(piece) {
             Ok(count) => count,
-            Err(_) => return self.end(Input::Broken(READ_FAULT)),
+            Err(_) => return self.end(clock, Input::Broken(READ_FAULT)),
         };
         if count == 0 {
-            return self.end_of_input();
+            return self.end_of_input(clock);
         }
         match self.deframer.feed(&piece[..count]) {
             Ok(()) => true,
-            Err(AllocError) => self.end(Input::Broken(OUT_OF_MEMORY)),
+            Err(AllocError) => self.end(clock, Input::Broken(OUT_OF_MEMORY)),
         }
     }
 
     /// Gives on that the input is over, or broken where a frame is cut.
-    fn end_of_input(&mut self) -> bool
+    fn end_of_input<C: Clock>(&mut self, clock: &C) -> bool
         requires source { IsAtEnd (S.remaining self.old.source) }
         requires none { front_of self.old.deframer.unread ≡ Ok None }
         requires wanted { self.old.requests ≢ 0 }
@@ -134,19 +135,19 @@ impl<S: Source + Drop> Reading<S> {
         ensures end { EndsAt S.remaining S.fails self.old self.new }
     {
         if self.deframer.rest_len() == 0 {
-            self.end(Input::End)
+            self.end(clock, Input::End)
         } else {
-            self.end(Input::Broken(TRUNCATED))
+            self.end(clock, Input::Broken(TRUNCATED))
         }
     }
 
     /// Gives on what ends the input.
-    fn end(&mut self, input: Input) -> bool
+    fn end<C: Clock>(&mut self, clock: &C, input: Input) -> bool
         ensures value { result ≡ false }
         ensures same { SameSlotOut self.old.out self.new.out }
         ensures gave { (given self.new.out ≡ given self.old.out ++ input ∷ []) ⊎ (given self.new.out ≡ given self.old.out) }
     {
-        self.give(input);
+        self.give(clock, input);
         false
     }
 
@@ -175,14 +176,15 @@ impl<S: Source + Drop> Reading<S> {
         }
     }
 
-    /// Gives on one input, once there is a place; whether it did.
-    fn give(&mut self, input: Input) -> bool
+    /// Gives on one input, once there is a place; whether it did. It rests by the clock until there is one.
+    fn give<C: Clock>(&mut self, clock: &C, input: Input) -> bool
         ensures same { SameSlotOut self.old.out self.new.out }
         ensures ok { IsTrue result → given self.new.out ≡ given self.old.out ++ input ∷ [] }
         ensures err { result ≡ false → given self.new.out ≡ given self.old.out }
         ensures rest { self.new ≡ record self.old { out = self.new.out } }
     {
         let mut kept = input;
+        let mut rest = Rest::new();
         for _ in 0..u64::MAX {
             match self.out.give(kept) {
                 Ok(()) => return true,
@@ -191,7 +193,7 @@ impl<S: Source + Drop> Reading<S> {
             if self.is_over.load(Ordering::SeqCst) {
                 break;
             }
-            thread::yield_now();
+            rest.rest(clock);
         }
         drop(kept);
         false
@@ -205,12 +207,13 @@ fn breaks(input: &Input) -> bool
     matches!(input, Input::Broken(_))
 }
 
-/// What a body asks for, or why it is no term.
+/// What a body asks for: nothing, where it spells no term. Where there was no memory to read it the input is broken.
 fn input_of(alloc: Global, body: &[u8], layout: &Layout) -> Input
     ensures { IsAsked layout.now.nodes.items body.now result }
 {
     match decode(alloc, body) {
         Ok(term) => read_request(term, layout),
-        Err(fault) => Input::Broken(fault.number()),
+        Err(TermFault::OutOfMemory) => Input::Broken(OUT_OF_MEMORY),
+        Err(_) => Input::Bad,
     }
 }

@@ -20,6 +20,7 @@ use pg_node_requests::Layout;
 use pg_streams::{Sink, Source};
 use std::alloc::{AllocError, Global};
 use std::thread::Threads;
+use std::time::Clock;
 
 /// How a service went that came to its end.
 #[derive(Clone, Copy, Debug, PartialEq, Eq)]
@@ -31,24 +32,32 @@ pub struct Served {
 }
 
 /// Starts the cluster of a service, reads requests from `source`, and writes the replies to `writer`, until the input is over and each
-/// request was replied to. Then the cluster is closed and judged. It may wait for threads.
+/// request was replied to. Then the cluster is closed and judged. `clock`: that by which its threads sleep that find nothing to do, as
+/// `Rest` of pg_cluster says. It may wait for threads.
 ///
-/// Each body that the source holds is one input, in its order, up to its end, the first broken frame or term, or the last request that
-/// `Service` allows; none is left out (`AreRead`). Where a read fails, or memory for reading runs out, the input ends with that fault.
+/// Each body that the source holds is one input, in its order, up to its end, the first broken frame, or the last request that `Service`
+/// allows; none is left out (`AreRead`). One that spells no term asks for nothing. Where a read fails, or memory for reading runs out, the
+/// input ends with that fault.
 ///
 /// A request of a port is handed over once the one before it there was replied to. Each has one reply in a frame, in their order and
 /// numbered from 1: what the node answered, or, once it is lost, that it is. A loss and a body that asks for nothing have a notice each,
 /// and nothing else is written (`AllServed`). What was written is passed on whenever no further reply is at hand.
 ///
 /// Errors: first `Start`, where no cluster was started, or no thread that reads. Then `WriteFault`, where a write or a flush fails, also
-/// while more could be read. `OutOfMemory`, where memory runs out before or after one of these. No node runs after an error, and the
-/// reading thread ends after the read that it is in. Some of what was due may be written then.
+/// while more could be read. `OutOfMemory`, where memory runs out before or after one of these. No node runs after an error, none is
+/// judged, and the reading thread ends after the read that it is in. Some of what was due may be written then.
 ///
 /// Cost: the logs of all nodes, which grow with each event until the end, and 64 KB for each ring between two nodes. At most 1,024 requests
 /// wait at a port, and 1,024 inputs before all ports. A thread for each node, and one that reads.
-pub fn serve_cluster<R: Threads, S: Source + Send + Drop + 'static, W: Sink>(
+pub fn serve_cluster<
+    R: Threads,
+    C: Clock + Clone + Drop + Send + 'static,
+    S: Source + Send + Drop + 'static,
+    W: Sink,
+>(
     rt: &R,
     alloc: Global,
+    clock: C,
     service: Service,
     source: S,
     writer: &mut W,
@@ -68,12 +77,21 @@ pub fn serve_cluster<R: Threads, S: Source + Send + Drop + 'static, W: Sink>(
             return Err(ServiceFault::OutOfMemory);
         }
     };
-    match Running::start(rt, alloc, config, seed, OpenGate, u64::MAX) {
+    let theirs: Result<C, AllocError> = clock.clone();
+    let Ok(theirs) = theirs else {
+        drop(config);
+        drop(layout);
+        drop(desks);
+        drop(source);
+        return Err(ServiceFault::OutOfMemory);
+    };
+    match Running::start(rt, alloc, config, seed, OpenGate, theirs, u64::MAX) {
         Ok(running) => {
             let serving = Serving::new(alloc, running, desks);
-            serve_by(rt, alloc, serving, layout, requests, source, writer)
+            serve_by(rt, alloc, clock, serving, layout, requests, source, writer)
         }
         Err(fault) => {
+            drop(clock);
             drop(layout);
             drop(desks);
             drop(source);
@@ -83,9 +101,15 @@ pub fn serve_cluster<R: Threads, S: Source + Send + Drop + 'static, W: Sink>(
 }
 
 /// Starts the thread that reads, and serves; the cluster is closed.
-fn serve_by<R: Threads, S: Source + Send + Drop + 'static, W: Sink>(
+fn serve_by<
+    R: Threads,
+    C: Clock + Clone + Drop + Send + 'static,
+    S: Source + Send + Drop + 'static,
+    W: Sink,
+>(
     rt: &R,
     alloc: Global,
+    clock: C,
     serving: Serving,
     layout: Layout,
     requests: u64,
@@ -96,8 +120,8 @@ fn serve_by<R: Threads, S: Source + Send + Drop + 'static, W: Sink>(
     ensures { IfOk result (λ served. (given : Starts) → layout.nodes.items ≡ layout_of 0 given → Serves given (W.contents writer.old) [] (view_of serving) (W.contents writer.old)
         → WasServed S.remaining S.fails given requests (S.remaining source) (W.contents writer.old) (W.contents writer.new) served) }
 {
-    match Reader::start(rt, alloc, source, layout, requests) {
-        Ok(reader) => serve_all(rt, alloc, serving, reader, writer),
+    match Reader::start(rt, alloc, &clock, source, layout, requests) {
+        Ok(reader) => serve_all(rt, alloc, &clock, serving, reader, writer),
         Err(fault) => {
             drop(serving.into_running().close(rt));
             Err(fault)
@@ -120,10 +144,11 @@ fn rooms_of(alloc: Global, starts: &[Start]) -> Result<(Layout, Desks), AllocErr
     Ok((layout, desks))
 }
 
-/// Serves until the input is over and each request was replied to, and closes and judges the cluster.
-fn serve_all<R: Threads, S: Source + Send + Drop + 'static, W: Sink>(
+/// Serves until the input is over and each request was replied to, and closes and judges the cluster. After a fault it is not judged.
+fn serve_all<R: Threads, C: Clock, S: Source + Send + Drop + 'static, W: Sink>(
     rt: &R,
     alloc: Global,
+    clock: &C,
     serving: Serving,
     reader: Reader<S>,
     writer: &mut W,
@@ -137,11 +162,11 @@ fn serve_all<R: Threads, S: Source + Send + Drop + 'static, W: Sink>(
 {
     let mut serving = serving;
     let mut reader = reader;
-    let served = serving.run(rt, &mut reader.inlet, writer);
+    let served = serving.run(rt, clock, &mut reader.inlet, writer);
     let fault = serving.fault();
-    let verdict = close_and_judge(rt, alloc, serving.into_running());
     match served {
         Ok(()) => {
+            let verdict = close_and_judge(rt, alloc, serving.into_running());
             reader.join(rt);
             Ok(Served {
                 verdict: verdict?,
@@ -149,6 +174,7 @@ fn serve_all<R: Threads, S: Source + Send + Drop + 'static, W: Sink>(
             })
         }
         Err(fault) => {
+            drop(serving.into_running().close(rt));
             reader.leave();
             Err(fault)
         }

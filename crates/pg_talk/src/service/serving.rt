@@ -10,13 +10,13 @@ use crate::service::MAX_WAITING;
 use crate::service::desk::Desk;
 use crate::service::fault::ServiceFault;
 use crate::service::outlet::{Address, Outlet};
-use pg_cluster::{Command, Running, SlotIn, Start};
+use pg_cluster::{Command, Rest, Running, SlotIn, Start};
 use pg_node_requests::{Input, bad_request, lost, node_lost, reply_term};
 use pg_streams::Sink;
 use pg_term::{Atom, Term};
 use std::alloc::{AllocError, Global};
-use std::thread;
 use std::thread::Threads;
+use std::time::Clock;
 
 /// How many inputs are taken between two looks at the clients.
 const INPUTS_AT_ONCE: usize = 64;
@@ -160,13 +160,14 @@ impl Serving {
         }
     }
 
-    /// Serves until the input is over and each request was replied to. It may wait for threads.
+    /// Serves until the input is over and each request was replied to. Where nothing comes it rests by the clock. It may wait for threads.
     ///
     /// Faults: `WriteFault`, where a write or a flush fails; `OutOfMemory`, also after 2^64 turns, which none makes.
     #[tactic(auto, using(crate::proofs::Turns::inlet_on, crate::proofs::Turns::inlet_itself))]
-    pub(crate) fn run<R: Threads, W: Sink>(
+    pub(crate) fn run<R: Threads, C: Clock, W: Sink>(
         &mut self,
         rt: &R,
+        clock: &C,
         inlet: &mut SlotIn<Input>,
         writer: &mut W,
     ) -> Result<(), ServiceFault>
@@ -174,8 +175,9 @@ impl Serving {
         ensures advances { OnOk result (Advances self.old self.new (taken inlet.old) (taken inlet.new) (W.contents writer.old) (W.contents writer.new)) }
         ensures over { OnOk result (IsOver self.new) }
     {
+        let mut rest = Rest::new();
         for _ in 0..u64::MAX {
-            if self.turn(rt, inlet, writer)? {
+            if self.turn(rt, clock, &mut rest, inlet, writer)? {
                 return Ok(());
             }
         }
@@ -184,9 +186,11 @@ impl Serving {
 
     /// Takes in what came, and looks at each client; whether the input is over and each request was replied to.
     #[tactic(auto, using(crate::proofs::Turns::inlet_on, crate::proofs::Turns::inlet_itself))]
-    fn turn<R: Threads, W: Sink>(
+    fn turn<R: Threads, C: Clock, W: Sink>(
         &mut self,
         rt: &R,
+        clock: &C,
+        rest: &mut Rest,
         inlet: &mut SlotIn<Input>,
         writer: &mut W,
     ) -> Result<bool, ServiceFault>
@@ -197,13 +201,14 @@ impl Serving {
         let took = self.take_inputs(rt, inlet, writer)?;
         let attended = self.attend_all(writer)?;
         if took || attended {
+            rest.found();
             return Ok(false);
         }
         self.outlet.flush(writer)?;
         if self.is_done() {
             return Ok(true);
         }
-        thread::yield_now();
+        rest.rest(clock);
         Ok(false)
     }
 

@@ -8,7 +8,7 @@ use Rattle.pg_cluster.proofs.threads.start_one.Goals as goal
 
 -- what the thread gets and gives may cross
 pub spawn_with-requires-send-F : goal.spawn_with-requires-send-F
-spawn_with-requires-send-F g c κs within = let k = c.type_bounds.send-K in let a = c.type_bounds.send-G in let b = c.type_bounds.sync-G in search (sendable, crosses, run_send, ring_out_send, ring_in_send, index_send) depth 30
+spawn_with-requires-send-F g c κs within = let k = c.type_bounds.send-K in let a = c.type_bounds.send-G in let b = c.type_bounds.sync-G in let d = c.type_bounds.send-C in search (sendable, crosses, run_send, ring_out_send, ring_in_send, index_send) depth 30
 
 pub spawn_with-requires-send-T : goal.spawn_with-requires-send-T
 spawn_with-requires-send-T g c κs within = let k = c.type_bounds.send-K in search (sendable, crosses, ran_send, ring_out_send, ring_in_send, index_send) depth 30
