@@ -7,10 +7,17 @@
         print(cluster.at("b").get_members("workers"))
 
 Terms: integers, lists and tuples are Python's; an atom is an `Atom`, a str with another name; a process is a `Pid`.
+
+Threads may share a cluster: a reply goes to who asked. One thread writes the requests, one reads the replies and one what the program says
+on standard error, so that no call waits for a pipe.
 """
+import collections
+import contextlib
+import queue
 import struct
 import subprocess
-from collections import namedtuple
+import threading
+from concurrent.futures import Future, TimeoutError as Late
 
 
 class Atom(str):
@@ -20,55 +27,208 @@ class Atom(str):
         return str(self)
 
 
-Pid = namedtuple("Pid", "node id serial creation")
+Pid = collections.namedtuple("Pid", "node id serial creation")
+
+# How a service ended: its status, 0 where all was answered and the nodes agree, and the lines that it wrote on standard error, of which the
+# judges' are `agree yes` and `replay yes`.
+Closed = collections.namedtuple("Closed", "status lines")
 
 
-class Refused(Exception):
-    """A node refused a command, by the number of the fault."""
+class ClusterError(Exception):
+    """A request has no reply that is a value."""
+
+
+class Refused(ClusterError):
+    """A node refused a command, by the number of the fault; nothing happened. 30: the service ends, since a node's clock is nearly full."""
+
+
+class Unknown(ClusterError):
+    """The service ended by this fault while the request was open: it may have happened."""
+
+
+class NodeLost(ClusterError):
+    """The node is lost, by its name. What was under way there may have happened."""
+
+
+class BadRequest(ClusterError):
+    """The service takes no such request. The number is its place among all bodies."""
+
+
+class ServerEnded(ClusterError):
+    """The service is over, with this status. A request that was under way may have happened."""
+
+
+class Port:
+    """The requests of a port that are under way, by their numbers in order, and the number of the next."""
+
+    def __init__(self):
+        self.next, self.waiting = 1, []
+
+
+class Waiting:
+    """A request that is under way: its place among all bodies, and among its port's."""
+
+    def __init__(self, place, port=None):
+        self.place, self.port, self.future = place, port, Future()
+        if port:
+            self.number, port.next = port.next, port.next + 1
+            port.waiting.append(self)
 
 
 class Cluster:
-    """A cluster of nodes with these names, each with so many ports. `ask` waits for its reply; `send` and `receive` don't."""
+    """A cluster of nodes with these names, each with so many ports. `timeout`: after how many seconds without a reply a call gives up by
+    TimeoutError; the request stays under way."""
 
-    def __init__(self, program, names, ports=1, words=()):
+    def __init__(self, program, names, ports=1, words=(), timeout=60):
         named = [word for name in names for word in ("--name", name)]
         counts = ["--nodes", str(len(names)), "--ports", str(ports)]
-        self.process = subprocess.Popen([program, "serve", *counts, *named, *words], stdin=subprocess.PIPE, stdout=subprocess.PIPE)
+        pipe = subprocess.PIPE
+        self.process = subprocess.Popen([program, "serve", *counts, *named, *words], stdin=pipe, stdout=pipe, stderr=pipe)
+        self.timeout = timeout
+        self.lock = threading.Lock()
+        # No call begins behind the end, and each one that began before is answered by it.
+        self.ended = self.closing = False
+        self.bodies, self.places, self.losses = 0, {}, collections.defaultdict(collections.deque)
+        self.ports = {(name, port): Port() for name in names for port in range(1, ports + 1)}
+        self.queue, self.lines = queue.SimpleQueue(), collections.deque(maxlen=1000)
+        self.threads = [threading.Thread(target=work, daemon=True) for work in (self._write, self._read, self._hear)]
+        for thread in self.threads:
+            thread.start()
 
     def __enter__(self):
         return self
 
-    def __exit__(self, *error):
-        self.close()
-
-    def close(self):
-        """Ends the input, and waits for the end: the status, which is 0 where all was answered and the nodes agree."""
-        if not self.process.stdout.closed:
-            self.process.stdin.close()
-            while self.receive() is not None:
-                pass
-            self.process.stdout.close()
-        return self.process.wait()
+    def __exit__(self, kind, *error):
+        if kind:
+            self.kill()
+        else:
+            self.close()
 
     def at(self, name, port=1):
         return Node(self, Atom(name), port)
 
     def send(self, request):
-        """Sends a request: (node, port, command), or (Atom("lose"), node)."""
+        """Sends a request: (node, port, command), or (Atom("lose"), node). A Future of its reply, which never waits for the service."""
         body = b"\x83" + encode(request)
-        self.process.stdin.write(struct.pack(">I", len(body)) + body)
+        with self.lock:
+            if self.ended or self.closing:
+                raise ServerEnded(self.process.poll())
+            self.bodies += 1
+            waiting = Waiting(self.bodies, self._port_of(request))
+            self.places[self.bodies] = waiting
+            if is_loss(request):
+                self.losses[request[1]].append(waiting)
+            self.queue.put(struct.pack(">I", len(body)) + body)
+        return waiting.future
 
-    def receive(self):
-        """The next reply, (node, port, number, reply) mostly; None once there are no more."""
-        self.process.stdin.closed or self.process.stdin.flush()
-        head = self.process.stdout.read(4)
-        if len(head) < 4:
-            return None
-        return decode(self.process.stdout.read(struct.unpack(">I", head)[0])[1:])[0]
+    def ask(self, request, timeout=None):
+        """Sends a request and waits for its reply: what stands behind node, port and number; or (lost, node)."""
+        try:
+            return self.send(request).result(self.timeout if timeout is None else timeout)
+        except Late:
+            raise TimeoutError("no reply to %r" % (request,)) from None
 
-    def ask(self, request):
-        self.send(request)
-        return self.receive()
+    def close(self, timeout=None):
+        """Ends the input, waits until all is answered and the cluster is judged, and tells how it ended. TimeoutError where that takes longer."""
+        with self.lock:
+            if not self.closing:
+                self.closing = True
+                self.queue.put(None)
+        for thread in self.threads:
+            thread.join(timeout)
+            if thread.is_alive():
+                raise TimeoutError("the service does not end")
+        return Closed(self.process.wait(), list(self.lines))
+
+    def kill(self):
+        """Ends the service at once."""
+        self.process.kill()
+        return self.close()
+
+    def _port_of(self, request):
+        if type(request) is tuple and len(request) == 3 and isinstance(request[0], Atom) and isinstance(request[1], int):
+            return self.ports.get(request[:2])
+
+    # ---- the threads
+
+    def _write(self):
+        pipe = self.process.stdin
+        try:
+            for body in iter(self.queue.get, None):
+                pipe.write(body)
+                if self.queue.empty():
+                    pipe.flush()
+        except OSError:
+            pass  # The service is over: what is left is answered by its end.
+        with contextlib.suppress(OSError):
+            pipe.close()
+
+    def _read(self):
+        try:
+            with self.process.stdout as pipe:
+                while len(head := pipe.read(4)) == 4:
+                    self._answer(decode(pipe.read(struct.unpack(">I", head)[0])[1:])[0])
+        finally:
+            self._end(self.process.wait())
+
+    def _end(self, status):
+        """The service is over: no request that is left is answered any more."""
+        with self.lock:
+            self.ended = True
+            left = list(self.places.values())
+            self.places.clear()
+            self.queue.put(None)
+        for waiting in left:
+            waiting.future.set_exception(ServerEnded(status))
+
+    def _hear(self):
+        with self.process.stderr as pipe:
+            for line in pipe:
+                self.lines.append(line.decode(errors="replace").rstrip("\n"))
+
+    def _answer(self, reply):
+        with self.lock:
+            if len(reply) == 4:
+                port = self.ports[reply[:2]]
+                waiting = next(waiting for waiting in port.waiting if waiting.number == reply[2])
+                port.waiting.remove(waiting)
+            elif reply[0] == "lost":
+                waiting = self.losses[reply[1]].popleft()
+            else:
+                waiting = self.places[reply[1][1]]
+                self._uncount(waiting)
+            del self.places[waiting.place]
+        error = error_of(reply)
+        if error:
+            waiting.future.set_exception(error)
+        else:
+            waiting.future.set_result(reply[-1] if len(reply) == 4 else reply)
+
+    def _uncount(self, bad):
+        """A bad request has no number of its port: those sent after it have the number before theirs."""
+        for losses in self.losses.values():
+            if bad in losses:
+                losses.remove(bad)
+        if bad.port:
+            bad.port.waiting.remove(bad)
+            bad.port.next -= 1
+            for waiting in bad.port.waiting:
+                waiting.number -= waiting.number > bad.number
+
+
+def error_of(reply):
+    """The error that a reply of the service is, if it is one."""
+    if len(reply) == 2:
+        return BadRequest(reply[1][1]) if reply[0] == "error" else None
+    value = reply[3]
+    if type(value) is tuple and value[0] == "refused":
+        return Refused(value[1])
+    if type(value) is tuple and value[0] == "error" and value[1][0] in ("unknown", "node_lost"):
+        return (Unknown if value[1][0] == "unknown" else NodeLost)(value[1][1])
+
+
+def is_loss(request):
+    return type(request) is tuple and len(request) == 2 and request[0] == "lose" and isinstance(request[1], Atom)
 
 
 class Node:
@@ -79,10 +239,7 @@ class Node:
 
     def ask(self, *command):
         command = tuple(Atom(word) if type(word) is str else word for word in command)
-        reply = self.cluster.ask((self.name, self.port, command if len(command) > 1 else command[0]))[-1]
-        if type(reply) is tuple and reply[0] == "refused":
-            raise Refused(reply[1])
-        return reply
+        return self.cluster.ask((self.name, self.port, command if len(command) > 1 else command[0]))
 
     def make(self):
         return self.ask("make")

@@ -67,7 +67,7 @@ def main():
         deadline = time.time() + 20
         while any(cluster.at(node).get_members(name) for node in NAMES for name in groups):
             assert time.time() < deadline, "processes that have ended stay members"
-        assert cluster.close() == 0
+        assert cluster.close() == (0, ["agree yes", "replay yes"])
     print("ok")
 
 

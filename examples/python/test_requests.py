@@ -5,7 +5,7 @@ import random
 import sys
 
 sys.path.insert(0, os.path.dirname(os.path.abspath(__file__)))
-from pg2 import Atom, Cluster, Pid
+from pg2 import Atom, BadRequest, Cluster, ClusterError, Pid
 
 
 def requests(seed):
@@ -28,17 +28,24 @@ def requests(seed):
         yield (Atom("lose"), names[2]) if number == 60 else (draw.choice(names), draw.choice([1, 2, 3]), draw.choice(commands)())
 
 
+def told(cluster, request):
+    try:
+        return cluster.ask(request)
+    except ClusterError as error:
+        return type(error), error.args
+
+
 def run(seed):
     with Cluster(os.environ["PG2SIM"], ["a", "b", "c"], ports=2) as cluster:
-        replies = [cluster.ask(request) for request in requests(seed)]
-        assert cluster.close() == 0
+        replies = [told(cluster, request) for request in requests(seed)]
+        assert cluster.close().status == 0
     return replies
 
 
 for seed in range(1, 4):
     first = run(seed)
-    assert len(first) == 100 and None not in first
-    assert any(reply[0] == "error" and reply[1][0] == "bad_request" for reply in first)
+    assert len(first) == 100
+    assert any(reply[0] is BadRequest for reply in first if type(reply) is tuple)
     assert (Atom("lost"), Atom("c")) in first
     assert run(seed) == first == run(seed)
 print("ok")

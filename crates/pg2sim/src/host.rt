@@ -13,7 +13,7 @@ use pg_talk::{
     Conversation, Onlooker, Outcome, Served, Service, ServiceFault, run_threads, serve_cluster,
 };
 use std::alloc::{AllocError, Global};
-use std::io::Write;
+use std::io::{ErrorKind, Write};
 use std::thread::Threads;
 use std::time::{Clock, Instant};
 use std::{fs, io};
@@ -28,6 +28,19 @@ pub(crate) struct HostSystem<'a, R, T> {
     pub(crate) begun: Instant,
     pub(crate) progress: Shown<T, &'a HostRuntime>,
     pub(crate) exploring: Progress<T, &'a HostRuntime>,
+    /// Why a file could not be made or read, where one could not.
+    pub(crate) missed: Option<&'static str>,
+}
+
+/// Why a file could not be made or read.
+fn reason(error: &io::Error) -> &'static str {
+    match error.kind() {
+        ErrorKind::NotFound => "no such file or folder",
+        ErrorKind::PermissionDenied => "permission denied",
+        ErrorKind::IsADirectory => "it is a folder",
+        ErrorKind::NotADirectory => "a part of its path is no folder",
+        _ => "the system refuses it",
+    }
 }
 
 /// A conversation's progress, on a terminal.
@@ -47,7 +60,11 @@ impl<R: Threads, T: Write> System for HostSystem<'_, R, T> {
     ghost went = { λ a asked told b. IfOk told (TookPlace asked) };
 
     fn put(&mut self, name: &str, bytes: &[u8]) -> io::Result<()> {
-        fs::write(self.rt, name, bytes)
+        let done = fs::write(self.rt, name, bytes);
+        if let Err(error) = &done {
+            self.missed = Some(reason(error));
+        }
+        done
     }
 
     fn converse(&mut self, asked: Conversation) -> Result<Outcome, StartFault> {
@@ -61,7 +78,11 @@ impl<R: Threads, T: Write> System for HostSystem<'_, R, T> {
     }
 
     fn get(&mut self, name: &str) -> io::Result<Vec<u8>> {
-        fs::read(self.rt, name)
+        let bytes = fs::read(self.rt, name);
+        if let Err(error) = &bytes {
+            self.missed = Some(reason(error));
+        }
+        bytes
     }
 
     fn serve<W: Sink>(&mut self, service: Service, writer: &mut W) -> Result<Served, ServiceFault> {

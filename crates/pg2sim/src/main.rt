@@ -1,39 +1,71 @@
 //! `pg2sim`: the replica of one node over bytes, runs of scripts, all runs of one, and nodes as threads.
 #![tactic(auto)]
 
+mod asides;
+mod heard;
 mod host;
 mod progress;
 #[cfg(test)]
 mod tests;
 
+use asides::{Aside, aside_of};
+use heard::{Heard, Kept};
 use host::{HostSystem, Shown};
 use pg_program::{refuse, refuse_given, run_words};
+use pg_program_faults::{Told, explain};
 use pg_streams::{AnyReader, AnyWriter};
 use pg_term::faults::OUT_OF_MEMORY;
 use progress::Progress;
-use std::io::BufWriter;
+use std::io::{BufWriter, IsTerminal, Write};
 use std::process::ExitCode;
 use std::thread::Threads;
 use std::time::Instant;
 use std::{env, io, vec};
 
-/// The words behind the program's name.
-fn given_words(rt: &HostRuntime) -> io::Result<Vec<String>> {
-    let mut words = Vec::new(rt.alloc());
-    for word in env::args(rt)?.skip(1) {
-        words.push(word)?;
-    }
-    Ok(words)
+/// What the program was given behind its name.
+#[derive(Drop)]
+struct Given {
+    /// The words, without `--explain`.
+    words: Vec<String>,
+    /// A fault is said in words, too: `--explain` is one of the words, or standard error is a terminal.
+    explains: bool,
 }
 
-/// Runs what the words ask for on standard input and both outputs.
-fn status(rt: &HostRuntime, threads: &impl Threads, words: &[String]) -> io::Result<u8> {
-    let mut reader = AnyReader { reader: rt.stdin() };
+/// The words behind the program's name.
+fn given_words(rt: &HostRuntime) -> io::Result<Given> {
+    let mut words = Vec::new(rt.alloc());
+    let mut explains = rt.stderr().is_terminal();
+    for word in env::args(rt)?.skip(1) {
+        if word.as_str() == "--explain" {
+            explains = true;
+        } else {
+            words.push(word)?;
+        }
+    }
+    Ok(Given { words, explains })
+}
+
+/// Runs what the words ask for on standard input and both outputs, and says a fault in words, where that is wanted.
+/// By `is_output` all goes to standard output that goes to standard error else.
+fn run(
+    rt: &HostRuntime,
+    threads: &impl Threads,
+    words: &[String],
+    explains: bool,
+    is_output: bool,
+) -> io::Result<u8> {
+    let mut reader = AnyReader {
+        reader: Kept {
+            reader: rt.stdin(),
+            bytes: Vec::new(rt.alloc()),
+            keeps: explains && is_read_again(words),
+        },
+    };
     let mut writer = AnyWriter {
         writer: BufWriter::new(rt.alloc(), rt.stdout())?,
     };
     let mut faults = AnyWriter {
-        writer: rt.stderr(),
+        writer: Heard::new(rt, is_output),
     };
     let mut system = HostSystem {
         alloc: rt.alloc(),
@@ -42,15 +74,72 @@ fn status(rt: &HostRuntime, threads: &impl Threads, words: &[String]) -> io::Res
         begun: Instant::now(rt)?,
         progress: Shown(Progress::new(rt.stderr(), rt, "answered")),
         exploring: Progress::new(rt.stderr(), rt, "explored"),
+        missed: None,
     };
-    Ok(run_words(
+    let status = run_words(
         rt.alloc(),
         words,
         &mut reader,
         &mut writer,
         &mut system,
         &mut faults,
-    ))
+    );
+    if explains {
+        say_fault(rt, words, &reader.reader, &faults.writer, system.missed);
+    }
+    Ok(status)
+}
+
+/// Whether these words read a script.
+fn is_read_again(words: &[String]) -> bool {
+    match words.first() {
+        Some(word) => matches!(word.as_str(), "script" | "explore"),
+        None => false,
+    }
+}
+
+/// Says on standard error in words what its last line says by a number, if it does.
+fn say_fault<R>(
+    rt: &HostRuntime,
+    words: &[String],
+    kept: &Kept<R>,
+    heard: &Heard<'_>,
+    missed: Option<&'static str>,
+) {
+    let told = Told {
+        words,
+        input: kept.bytes.as_slice(),
+        line: heard.line.as_str(),
+        missed,
+    };
+    let text = explain(rt.alloc(), told);
+    let _ = rt.stderr().write_all(text.as_bytes());
+}
+
+/// Answers a question about the program itself, and gives the status.
+fn answer(rt: &HostRuntime, threads: &impl Threads, aside: Aside) -> io::Result<u8> {
+    match aside {
+        Aside::Says(text) => {
+            rt.stdout().write_all(text.as_bytes())?;
+            Ok(0)
+        }
+        Aside::Shows(words) => match run(rt, threads, words.as_slice(), false, true) {
+            Ok(2) => Ok(0),
+            ended => ended,
+        },
+        Aside::NoFault => {
+            rt.stderr().write_all(b"error: no fault has that number; `pg2sim fault` prints all\n")?;
+            Ok(2)
+        }
+    }
+}
+
+/// Does what the words ask for, and gives the status.
+fn status(rt: &HostRuntime, threads: &impl Threads, given: &Given) -> io::Result<u8> {
+    match aside_of(rt.alloc(), given.words.as_slice())? {
+        Some(aside) => answer(rt, threads, aside),
+        None => run(rt, threads, given.words.as_slice(), given.explains, false),
+    }
 }
 
 fn main(rt: HostRuntime) -> ExitCode {
@@ -58,7 +147,7 @@ fn main(rt: HostRuntime) -> ExitCode {
         writer: rt.stderr(),
     };
     let status = match given_words(&rt) {
-        Ok(words) => match status(&rt, &rt, words.as_slice()) {
+        Ok(given) => match status(&rt, &rt, &given) {
             Ok(status) => status,
             Err(_) => refuse(&mut faults, OUT_OF_MEMORY),
         },

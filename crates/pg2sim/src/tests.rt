@@ -92,6 +92,7 @@ fn conversations(rt: HostRuntime) {
         begun,
         progress: Shown(Progress::new(screen, &rt, "answered")),
         exploring: Progress::new(other, &rt, "explored"),
+        missed: None,
     };
     for (words, wanted, status) in ROWS {
         let is_so = match words_of(rt.alloc(), words) {
