@@ -213,7 +213,8 @@ class Cluster:
             bad.port.waiting.remove(bad)
             bad.port.next -= 1
             for waiting in bad.port.waiting:
-                waiting.number -= waiting.number > bad.number
+                if waiting.number > bad.number:
+                    waiting.number -= 1
 
 
 def error_of(reply):

@@ -23,7 +23,9 @@ pub(crate) fn aside_of(alloc: Global, words: &[String]) -> Result<Option<Aside>,
     };
     match (first.as_str(), rest) {
         ("version", []) => Ok(Some(Aside::Shows(words_of(alloc, &["--version"])?))),
-        ("help", []) => Ok(Some(Aside::Shows(words_of(alloc, &["--help"])?))),
+        ("help", []) | ("help", [_]) if is_own(rest) => {
+            Ok(Some(Aside::Shows(words_of(alloc, &["--help"])?)))
+        }
         ("help", [word]) if is_command(word.as_str()) => Ok(Some(Aside::Shows(words_of(
             alloc,
             &[word.as_str(), "--help"],
@@ -31,6 +33,14 @@ pub(crate) fn aside_of(alloc: Global, words: &[String]) -> Result<Option<Aside>,
         ("fault", []) => Ok(Some(Aside::Says(all_faults(alloc)?))),
         ("fault", [number]) => Ok(Some(fault_of(alloc, number.as_str()))),
         _ => Ok(None),
+    }
+}
+
+/// Whether help is asked for of the whole program, or of a question.
+fn is_own(words: &[String]) -> bool {
+    match words.first() {
+        Some(word) => matches!(word.as_str(), "fault" | "help" | "version"),
+        None => true,
     }
 }
 

@@ -32,10 +32,10 @@ pub(crate) struct HostSystem<'a, R, T> {
     pub(crate) missed: Option<&'static str>,
 }
 
-/// Why a file could not be made or read.
-fn reason(error: &io::Error) -> &'static str {
+/// Why a file could not be made or read; `absent` where something of its name is not there.
+fn reason(error: &io::Error, absent: &'static str) -> &'static str {
     match error.kind() {
-        ErrorKind::NotFound => "no such file or folder",
+        ErrorKind::NotFound => absent,
         ErrorKind::PermissionDenied => "permission denied",
         ErrorKind::IsADirectory => "it is a folder",
         ErrorKind::NotADirectory => "a part of its path is no folder",
@@ -62,7 +62,7 @@ impl<R: Threads, T: Write> System for HostSystem<'_, R, T> {
     fn put(&mut self, name: &str, bytes: &[u8]) -> io::Result<()> {
         let done = fs::write(self.rt, name, bytes);
         if let Err(error) = &done {
-            self.missed = Some(reason(error));
+            self.missed = Some(reason(error, "no such folder"));
         }
         done
     }
@@ -80,7 +80,7 @@ impl<R: Threads, T: Write> System for HostSystem<'_, R, T> {
     fn get(&mut self, name: &str) -> io::Result<Vec<u8>> {
         let bytes = fs::read(self.rt, name);
         if let Err(error) = &bytes {
-            self.missed = Some(reason(error));
+            self.missed = Some(reason(error, "no such file"));
         }
         bytes
     }

@@ -14,7 +14,7 @@ use host::{HostSystem, Shown};
 use pg_program::{refuse, refuse_given, run_words};
 use pg_program_faults::{Told, explain};
 use pg_streams::{AnyReader, AnyWriter};
-use pg_term::faults::OUT_OF_MEMORY;
+use pg_term::faults::{OUT_OF_MEMORY, WRITE_FAULT};
 use progress::Progress;
 use std::io::{BufWriter, IsTerminal, Write};
 use std::process::ExitCode;
@@ -119,19 +119,28 @@ fn say_fault<R>(
 /// Answers a question about the program itself, and gives the status.
 fn answer(rt: &HostRuntime, threads: &impl Threads, aside: Aside) -> io::Result<u8> {
     match aside {
-        Aside::Says(text) => {
-            rt.stdout().write_all(text.as_bytes())?;
-            Ok(0)
-        }
+        Aside::Says(text) => Ok(print(rt, text.as_str())),
         Aside::Shows(words) => match run(rt, threads, words.as_slice(), false, true) {
             Ok(2) => Ok(0),
             ended => ended,
         },
         Aside::NoFault => {
-            rt.stderr().write_all(b"error: no fault has that number; `pg2sim fault` prints all\n")?;
+            let text = b"error: no fault has that number; `pg2sim fault` prints all\n";
+            let _ = rt.stderr().write_all(text);
             Ok(2)
         }
     }
+}
+
+/// Writes a text to standard output, and gives the status.
+fn print(rt: &HostRuntime, text: &str) -> u8 {
+    if rt.stdout().write_all(text.as_bytes()).is_ok() {
+        return 0;
+    }
+    let mut faults = AnyWriter {
+        writer: rt.stderr(),
+    };
+    refuse(&mut faults, WRITE_FAULT)
 }
 
 /// Does what the words ask for, and gives the status.

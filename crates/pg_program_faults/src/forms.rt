@@ -64,7 +64,7 @@ pub(crate) const FORMS: &[Form] = &[
         least: 1,
         most: 1,
         is_declaration: true,
-        is_explored: true,
+        is_explored: false,
     },
     Form {
         word: "node",

@@ -1,9 +1,7 @@
 //! The words that the program was given.
 
 /// The value of an option, as `--show 3` or `--show=3` has it; the last where it was given more often.
-///
-/// Cost: no memory; a walk over the words.
-pub fn value_of<'a>(words: &'a [String], option: &str) -> Option<&'a str> {
+pub(crate) fn value_of<'a>(words: &'a [String], option: &str) -> Option<&'a str> {
     let mut value = None;
     let mut is_next = false;
     for word in words {

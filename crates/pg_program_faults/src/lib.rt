@@ -16,5 +16,4 @@ mod saying;
 mod spelling;
 
 pub use faults::{FAULTS, FaultRow, line_of_fault};
-pub use given::value_of;
 pub use refusal::{Told, explain};

@@ -146,7 +146,7 @@ fn say_form(
     saying: &mut Saying,
 ) -> bool {
     if refused.is_explored && !form.is_explored {
-        saying.text(", word 1: explore takes declarations, commands and losses, and no ");
+        saying.text(", word 1: explore takes no line ");
         saying.quoted(form.word);
         return true;
     }

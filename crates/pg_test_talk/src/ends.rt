@@ -19,7 +19,7 @@ struct Counting {
 }
 
 impl Clone for Counting {
-    ghost use Rattle.std.specs.Prelude.{⊤, ⊥};
+    ghost use Rattle.std.specs.Prelude.{⊤};
 
     ghost is_clone = { λ a b. ⊤ };
 
