@@ -1,18 +1,14 @@
 //! `pg2sim`: the replica of one node over bytes, runs of scripts, all runs of one, and nodes as threads.
 #![tactic(auto)]
 
-mod asides;
-mod heard;
 mod host;
 mod progress;
 #[cfg(test)]
 mod tests;
 
-use asides::{Aside, aside_of};
-use heard::{Heard, Kept};
 use host::{HostSystem, Shown};
 use pg_program::{refuse, refuse_given, run_words};
-use pg_program_faults::{Told, explain};
+use pg_program_faults::{Aside, Heard, Kept, Told, aside_of, explain};
 use pg_streams::{AnyReader, AnyWriter};
 use pg_term::faults::{OUT_OF_MEMORY, WRITE_FAULT};
 use progress::Progress;
@@ -65,7 +61,7 @@ fn run(
         writer: BufWriter::new(rt.alloc(), rt.stdout())?,
     };
     let mut faults = AnyWriter {
-        writer: Heard::new(rt, is_output),
+        writer: Heard::new(rt.alloc(), rt.stdout(), rt.stderr(), is_output),
     };
     let mut system = HostSystem {
         alloc: rt.alloc(),
@@ -85,7 +81,14 @@ fn run(
         &mut faults,
     );
     if explains {
-        say_fault(rt, words, &reader.reader, &faults.writer, system.missed);
+        let told = Told {
+            words,
+            input: reader.reader.bytes.as_slice(),
+            line: faults.writer.line(),
+            missed: system.missed,
+        };
+        let text = explain(rt.alloc(), told);
+        let _ = rt.stderr().write_all(text.as_bytes());
     }
     Ok(status)
 }
@@ -96,24 +99,6 @@ fn is_read_again(words: &[String]) -> bool {
         Some(word) => matches!(word.as_str(), "script" | "explore"),
         None => false,
     }
-}
-
-/// Says on standard error in words what its last line says by a number, if it does.
-fn say_fault<R>(
-    rt: &HostRuntime,
-    words: &[String],
-    kept: &Kept<R>,
-    heard: &Heard<'_>,
-    missed: Option<&'static str>,
-) {
-    let told = Told {
-        words,
-        input: kept.bytes.as_slice(),
-        line: heard.line.as_str(),
-        missed,
-    };
-    let text = explain(rt.alloc(), told);
-    let _ = rt.stderr().write_all(text.as_bytes());
 }
 
 /// Answers a question about the program itself, and gives the status.

@@ -164,7 +164,7 @@ pub const FAULTS: &[FaultRow] = &[
     FaultRow {
         number: 30,
         name: "ClockFull",
-        when: "the node's clock would pass 1,073,741,824, or it made 2^31 references",
+        when: "the node's clock would pass 1,073,741,824, or it made 2^31 references; in `serve` and `threads`, a node's clock is nearly there",
     },
     FaultRow {
         number: 31,

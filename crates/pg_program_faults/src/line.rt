@@ -1,5 +1,6 @@
 //! What is wrong with a line of a script.
 
+use crate::causes::say_cause;
 use crate::declared::{Declared, declared_in};
 use crate::faults::row_of;
 use crate::forms::{FORMS, Form, Kind, form_of};
@@ -332,6 +333,10 @@ pub(crate) fn say_config(
     let lines = lines_of(alloc, script)?;
     let declared = declared_in(alloc, lines.as_slice())?;
     let count = declared.nodes.len();
+    let is_some_line = number == 15 && count > 0 && count <= 16;
+    if is_some_line && say_cause(alloc, lines.as_slice(), saying)? {
+        return Ok(());
+    }
     match (number, declared.ring) {
         (15, _) if count == 0 => saying.text("no node is declared, at least 1 is wanted"),
         (15, _) if count > 16 => {

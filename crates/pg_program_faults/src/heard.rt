@@ -1,5 +1,6 @@
 //! What is read and written, kept for a second look at it.
 
+use std::alloc::Global;
 use std::io;
 use std::io::{Read, Write};
 
@@ -8,10 +9,12 @@ const MAX_LINE: usize = 64;
 
 /// A reader. What it gave is kept, where that is wanted, as far as there is memory.
 #[derive(Drop)]
-pub(crate) struct Kept<R> {
-    pub(crate) reader: R,
-    pub(crate) bytes: Vec<u8>,
-    pub(crate) keeps: bool,
+pub struct Kept<R> {
+    pub reader: R,
+    /// What it gave.
+    pub bytes: Vec<u8>,
+    /// Whether that is wanted.
+    pub keeps: bool,
 }
 
 impl<R: Read> Read for Kept<R> {
@@ -26,23 +29,34 @@ impl<R: Read> Read for Kept<R> {
 
 /// Standard error, or standard output in its place. The last line is kept.
 #[derive(Drop)]
-pub(crate) struct Heard<'a> {
-    pub(crate) rt: &'a HostRuntime,
-    pub(crate) is_output: bool,
-    /// The last line, without its line feed.
-    pub(crate) line: String,
-    pub(crate) is_over: bool,
+pub struct Heard<O, E> {
+    output: O,
+    error: E,
+    is_output: bool,
+    // The last line, without its line feed.
+    line: String,
+    is_over: bool,
 }
 
-impl<'a> Heard<'a> {
-    /// Nothing was written yet.
-    pub(crate) fn new(rt: &'a HostRuntime, is_output: bool) -> Heard<'a> {
+impl<O, E> Heard<O, E> {
+    /// Nothing was written yet. By `is_output` standard output takes the place of standard error.
+    ///
+    /// Cost: no memory.
+    pub fn new(alloc: Global, output: O, error: E, is_output: bool) -> Heard<O, E> {
         Heard {
-            rt,
+            output,
+            error,
             is_output,
-            line: String::new(rt.alloc()),
+            line: String::new(alloc),
             is_over: false,
         }
+    }
+
+    /// The last line, without its line feed; its first 64 characters.
+    ///
+    /// Cost: no memory.
+    pub fn line(&self) -> &str {
+        self.line.as_str()
     }
 
     fn hear(&mut self, byte: u8) {
@@ -60,12 +74,12 @@ impl<'a> Heard<'a> {
     }
 }
 
-impl Write for Heard<'_> {
+impl<O: Write, E: Write> Write for Heard<O, E> {
     fn write(&mut self, buf: &[u8]) -> io::Result<usize> {
         let count = if self.is_output {
-            self.rt.stdout().write(buf)?
+            self.output.write(buf)?
         } else {
-            self.rt.stderr().write(buf)?
+            self.error.write(buf)?
         };
         for byte in buf.iter().take(count) {
             self.hear(*byte);
@@ -75,9 +89,9 @@ impl Write for Heard<'_> {
 
     fn flush(&mut self) -> io::Result<()> {
         if self.is_output {
-            self.rt.stdout().flush()
+            self.output.flush()
         } else {
-            self.rt.stderr().flush()
+            self.error.flush()
         }
     }
 }

@@ -1,11 +1,11 @@
 //! Questions about the program itself: `fault [N]`, `help [WORD]` and `version`.
 
-use pg_program_faults::{FAULTS, line_of_fault};
+use crate::faults::{FAULTS, line_of_fault};
 use std::alloc::{AllocError, Global};
 
 /// What words ask of the program itself.
 #[derive(Drop)]
-pub(crate) enum Aside {
+pub enum Aside {
     /// A text for standard output.
     Says(String),
     /// What these words print on standard error goes to standard output.
@@ -16,8 +16,10 @@ pub(crate) enum Aside {
 
 /// What the words ask of the program itself; nothing where they ask for something else.
 ///
-/// Error: `AllocError`.
-pub(crate) fn aside_of(alloc: Global, words: &[String]) -> Result<Option<Aside>, AllocError> {
+/// Errors: `AllocError`.
+///
+/// Cost: memory for what is said.
+pub fn aside_of(alloc: Global, words: &[String]) -> Result<Option<Aside>, AllocError> {
     let Some((first, rest)) = words.split_first() else {
         return Ok(None);
     };
