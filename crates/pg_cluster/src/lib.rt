@@ -4,6 +4,7 @@
 //! with CALLING.md, then `src/running.rt`; the contract of its end is in `specs/Together.antt` of pg_cluster_judges.
 #![tactic(auto)]
 
+mod clocks;
 mod closing;
 mod cluster;
 mod fault;
@@ -17,6 +18,7 @@ mod runs;
 mod threads;
 mod wires;
 
+pub use clocks::Clocks;
 pub use cluster::Cluster;
 pub use fault::StartFault;
 pub use laws::{threads_are_one_losing_run, threads_are_one_run};

@@ -25,7 +25,7 @@ const STREAM: u64 = 2;
 pub struct OpenGate;
 
 impl Gate for OpenGate {
-    fn pass(&self, _node: usize, _turn: u64) {}
+    fn pass(&self, _node: usize, _turn: u64, _clock: u32) {}
 }
 
 /// A cluster that runs, with a client for each port and the configuration that it was started with. A client is named by its place:

@@ -17,6 +17,10 @@ error_term word what = pair (Atom (chars (codes "error"))) (pair (Atom word) wha
 abbrev pub refused_term : ℕ → Term
 refused_term number = pair (Atom (chars (codes "refused"))) (Int (pos number))
 
+-- {error, {unknown, N}}
+abbrev pub unknown_term : ℕ → Term
+unknown_term number = error_term (chars (codes "unknown")) (Int (pos number))
+
 -- ok; a pid; a list; {error, {no_such_group, Name}}, {error, {no_process, Name}}; {refused, N}
 abbrev pub reply_term : Reply → Term
 reply_term replies.Ok = Atom (chars (codes "ok"))

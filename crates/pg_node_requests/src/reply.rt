@@ -5,7 +5,7 @@ ghost use Rattle.std.specs.Str.{chars};
 ghost use Rattle.pg_term.specs.declared.term.Term.{List as Listed};
 ghost use Rattle.pg_term.specs.declared.term.Term.TheVariants.{Int, Atom as Word, Pid as Process};
 ghost use Rattle.pg_node_requests.specs.Replies.{bad_request_term, count_reply, error_term, lost_term};
-ghost use Rattle.pg_node_requests.specs.Replies.{node_lost_term, numbered_term, pair, refused_term, reply_term};
+ghost use Rattle.pg_node_requests.specs.Replies.{node_lost_term, numbered_term, pair, refused_term, reply_term, unknown_term};
 
 use pg_step::Reply;
 use pg_term::{Atom, Fields, Items, Pid, Term};
@@ -67,6 +67,17 @@ pub fn refused(alloc: Global, number: u8) -> Result<Term, AllocError>
     ensures { IfOk result (λ term. term ≡ refused_term number) }
 {
     tagged(alloc, "refused", Term::Int(i64::from(number)))
+}
+
+/// `{error, {unknown, N}}`.
+///
+/// Errors: `AllocError`.
+///
+/// Cost: memory for the term.
+pub fn unknown(alloc: Global, number: u8) -> Result<Term, AllocError>
+    ensures { IfOk result (λ term. term ≡ unknown_term number) }
+{
+    error(alloc, "unknown", Term::Int(i64::from(number)))
 }
 
 /// `{error, {node_lost, Node}}`.

@@ -12,8 +12,8 @@ use std::time::Clock;
 
 /// What a node passes at the start of each turn.
 pub trait Gate {
-    /// Lets the node at this place into this turn, counted from 0.
-    fn pass(&self, node: usize, turn: u64);
+    /// Lets the node at this place into this turn, counted from 0. `clock`: that of the node then.
+    fn pass(&self, node: usize, turn: u64, clock: u32);
 }
 
 /// A node that has run.
@@ -51,7 +51,7 @@ pub fn run_node<
     let mut short = 0;
     let mut rest = Rest::new();
     for turn in 0..limit {
-        gate.pass(place, turn);
+        gate.pass(place, turn, run.linked.node().state().clock());
         match run.turn() {
             Turned::Stopped => break,
             Turned::Whole => {}

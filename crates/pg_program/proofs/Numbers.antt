@@ -30,7 +30,8 @@ same_asked rows a b h k =
     let rounds = same_number 32 50 _ a.rounds b.rounds h.rounds k.rounds in
     let seed = same_number 64 1 _ a.seed b.seed h.seed k.seed in
     let turns = same_number 64 100000000 _ a.turns b.turns h.turns k.turns in
-    λ i. record { nodes = nodes i; clients = clients i; rounds = rounds i; seed = seed i; turns = turns i }
+    let margin = h.margin ∙ sym k.margin in
+    λ i. record { nodes = nodes i; clients = clients i; rounds = rounds i; seed = seed i; turns = turns i; margin = margin i }
 
 -- there is one such conversation
 pub same_talk : (m : Option (Text × List Row)) (a b : Talk) → IsThreads m a → IsThreads m b → a ≡ b

@@ -126,6 +126,7 @@ pub record AsksTalk (rows : List Row) (asked : Conversation) : Type 0 where
   pub rounds : GivesNumber 32 50 (one_of (codes "rounds") rows) asked.rounds
   pub seed : GivesNumber 64 1 (one_of (codes "seed") rows) asked.seed
   pub turns : GivesNumber 64 100000000 (one_of (codes "turns") rows) asked.turns
+  pub margin : asked.margin ≡ 1048576
 
 -- `threads`, with these numbers, told as one line where its flag was given
 abbrev pub IsThreads : Option (Text × List Row) → Talk → Type 0

@@ -45,11 +45,17 @@ pub record Went {D : Type 0} (went : D → Conversation → Result Outcome Start
   pub after : D
   pub is : went before asked told after
 
+-- how it ends once that is printed: where a clock was full, by that fault
+abbrev pub end_printed : Bool → Result Bool Fault → Result Bool Fault
+end_printed full (Ok good) = if full then Err (Run 30) else Ok good
+end_printed full (Err fault) = Err fault
+
 -- no cluster was started, or it is told how the conversation went
 abbrev pub TellsTalk : Type 0 → Type 0 → Type 0 → Option (List ℕ) → Option (List ℕ) → Bool → Result Outcome StartFault → Result Bool Fault → Type 0
 TellsTalk unchanged unwritten flushed before after is_json (Err fault) end = (end ≡ Err (Run (start_number_of fault))) × unchanged
 TellsTalk unchanged unwritten flushed before after is_json (Ok outcome) end =
-    (microseconds : ℕ) × Printed unchanged unwritten flushed before after (outcome_text is_json outcome microseconds) (is_good outcome) end
+    (microseconds : ℕ) × ((printed : Result Bool Fault) × Printed unchanged unwritten flushed before after (outcome_text is_json outcome microseconds) (is_good outcome) printed
+    × (end ≡ end_printed outcome.is_full printed))
 
 -- clients spoke, and this is told of it
 pub record TalkEnd {D : Type 0} (went : D → Conversation → Result Outcome StartFault → D → Type 0) (asked : Conversation) (is_json : Bool)

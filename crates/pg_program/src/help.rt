@@ -84,7 +84,8 @@ and four lines are printed:
   agree yes              nodes have the same members where they see the lock of the group free
   replay yes             the logs of the nodes, joined to one run, lead to the nodes as they ended
 
-Status 0: all were answered, and both say yes; else 1.";
+Status 0: all were answered, and both say yes; else 1, and where the clock of a node is nearly full,
+after 2^30 events, `refused 30` follows.";
 
 /// The options of `threads`.
 pub(crate) const NODES_HELP: &str = "how many nodes, 1 to 16";
@@ -120,7 +121,10 @@ handed over one after another, each once the one before it was replied to. Reply
   agree yes              nodes have the same members where they see the lock of a group free
   replay yes             the logs of the nodes, joined to one run, lead to the nodes as they ended
 
-Status 0: both say yes; else 1. A broken frame ends the input, and `refused N` follows, status 1.";
+Status 0: both say yes; else 1. A broken frame ends the input, and `refused N` follows, status 1.
+So does the clock of a node that is nearly full, after 2^30 events: no more is read, and a request that was not handed over is
+answered {refused, 30}. The others are waited for, ten seconds at most; then one is answered {error, {unknown, 30}}, and may
+have happened.";
 
 /// The options of `serve`.
 pub(crate) const PORTS_HELP: &str = "how many ports each node has, 1 to 64";

@@ -11,7 +11,9 @@ use crate::words::Offer;
 use pg_cluster::{Config, StartFault, WorldFault};
 use pg_script::{RunFault, put_whole};
 use pg_streams::Sink;
-use pg_talk::{Served, Service, ServiceFault, Verdict, config_of, node_names};
+use pg_talk::{
+    CLOCK_MARGIN, CLOCK_WAIT, Served, Service, ServiceFault, Verdict, config_of, node_names,
+};
 use pg_term::faults::{BAD_CONFIG, OUT_OF_MEMORY, READ_FAULT};
 use pg_term::{Atom, TermFault};
 use std::alloc::Global;
@@ -46,6 +48,8 @@ pub(crate) fn serve<W: Sink, D: System>(
         config: config?,
         requests,
         seed,
+        margin: CLOCK_MARGIN,
+        wait: CLOCK_WAIT,
     };
     match system.serve(service, writer) {
         Ok(served) => Ok(served),

@@ -11,7 +11,7 @@ use crate::words::Talk;
 use pg_script::{RunFault, put_whole};
 use pg_streams::Sink;
 use pg_talk::Outcome;
-use pg_term::faults::OUT_OF_MEMORY;
+use pg_term::faults::{CLOCK_FULL, OUT_OF_MEMORY};
 use std::alloc::Global;
 use std::io;
 use std::io::Write;
@@ -30,7 +30,11 @@ pub(crate) fn converse<W: Sink, D: System>(
     match system.converse(talk.asked) {
         Ok(outcome) => {
             let microseconds = system.microseconds().saturating_sub(begun);
-            tell_outcome(alloc, &outcome, talk.is_json, microseconds, writer)
+            let is_good = tell_outcome(alloc, &outcome, talk.is_json, microseconds, writer)?;
+            if outcome.is_full {
+                return Err(Fault::Run(CLOCK_FULL));
+            }
+            Ok(is_good)
         }
         Err(fault) => Err(Fault::Run(fault.number())),
     }
@@ -81,6 +85,7 @@ fn write_json(outcome: &Outcome, microseconds: u64, text: &mut Vec<u8>) -> io::R
         asked,
         agree,
         replay,
+        is_full: _,
     } = outcome;
     writeln!(
         text,

@@ -18,7 +18,7 @@ use crate::help::{
 };
 use clap::builder::ValueParser;
 use clap::{Arg, ArgAction, ArgMatches, Command, Error};
-use pg_talk::Conversation;
+use pg_talk::{CLOCK_MARGIN, Conversation};
 use std::alloc::{AllocError, Global};
 
 /// What the words ask for.
@@ -200,6 +200,7 @@ fn conversation_of(given: &ArgMatches<'_>) -> Conversation
         rounds: number(given, "rounds", 50),
         seed: large_number(given, "seed", 1),
         turns: large_number(given, "turns", 100_000_000),
+        margin: CLOCK_MARGIN,
     }
 }
 

@@ -1,24 +1,28 @@
 -- What is done at one port.
-use Rattle.std.proofs.Common.{◌≡◌, ◌<◌, ◌+◌, ℕ, zero, suc, Bool, true, false, List, [], ◌∷◌, ◌++◌, length, get_or}
+use Rattle.std.proofs.Common.{◌≡◌, ◌<◌, ◌≤◌, ◌+◌, ℕ, zero, suc, Bool, true, false, List, [], ◌∷◌, ◌++◌, length, get_or}
 use Rattle.std.proofs.Common.{map, Option, inl, inr, refl, sym, ap, subst, ◌∙◌, arith, append_assoc, length-append}
 use Rattle.std.proofs.Math.ListN.{get_or-append}
 use Rattle.std.proofs.lemmas.Bool.Decides.{eqb_tells}
-use Rattle.std.proofs.lemmas.List.{append-nil, get_or_push, length-map, length-replicate}
-use Rattle.std.proofs.lemmas.List.{map-append, nil_from_length, replicate_more}
-use Rattle.std.specs.Prelude.{codes, pos, replicate}
+use Rattle.std.proofs.lemmas.Bool.{le-ltb, lt-ltb}
+use Rattle.std.proofs.lemmas.List.{append-nil, get_or_push, length-map}
+use Rattle.std.proofs.lemmas.List.{map-append, nil_from_length}
+use Rattle.std.specs.Prelude.{codes, nat_lt, pos}
 use Rattle.std.specs.Io.KnownBytes.{Appends}
 use Rattle.pg_cluster.specs.PgNodeRun.declared.port.Asked.{Asked}
 use Rattle.pg_cluster.specs.PgStep.declared.answer.Answer.{Answer}
 use Rattle.pg_cluster.specs.PgStep.declared.command.Command.{Command}
 use Rattle.pg_term.specs.declared.term.Term.{Term, Tuple}
 use Rattle.pg_term.specs.declared.term.Term.TheVariants.{Int, Atom}
-use Rattle.pg_node_requests.specs.Replies.{bad_request_term, count_reply, error_term, node_lost_term}
+use Rattle.pg_node_requests.specs.Replies.{bad_request_term, count_reply, error_term}
 use Rattle.pg_node_requests.specs.Replies.{numbered_term, refused_term, reply_term}
 use Rattle.std.specs.Str.{chars}
 use Rattle.pg_talk.specs.Conversations.{saturated}
 use Rattle.pg_talk.specs.Frames.{framed, IsUntellable, WritesReply}
 use Rattle.pg_talk.specs.Servings.{IsKept, with_node}
-use Rattle.pg_talk.specs.Written.{AreReplies, AlternateWithAnswers, IsReply, PortName, commands_of, outcomes}
+use Rattle.pg_talk.specs.Written.{AreReplies, AlternateWithAnswers, IsDue, IsReply, Known, PortName}
+use Rattle.pg_talk.specs.Written.{commands_of, ending_term, outcomes}
+use Rattle.pg_talk.specs.declared.service.ending.Ending.{Ending}
+use Rattle.pg_talk.specs.declared.service.ending.Ending.TheVariants.{Lost, Open, Unasked}
 
 pub true_is_not_false : true ≡ false → ⊥
 true_is_not_false e = absurd (cc)
@@ -39,22 +43,22 @@ bad_same a b e = ap (λ n. error_term (chars (codes "bad_request")) n) (counted_
 abbrev answered : List Answer → List Term
 answered heard = map (λ (answer : Answer). reply_term answer.reply) heard
 
-length-outcomes : (name : List ℕ) (heard : List Answer) (n : ℕ) → length (outcomes name heard n) ≡ length heard + n
-length-outcomes name heard n =
-    let all = length-append (answered heard) (replicate n (node_lost_term name)) in
+length-outcomes : (name : List ℕ) (heard : List Answer) (endings : List Ending) → length (outcomes name heard endings) ≡ length heard + length endings
+length-outcomes name heard endings =
+    let all = length-append (answered heard) (map (ending_term name) endings) in
     let first = length-map heard (λ (answer : Answer). reply_term answer.reply) in
-    let rest = length-replicate n (node_lost_term name) in
+    let rest = length-map endings (ending_term name) in
     omega (arith, all, first, rest)
 
-answer_more : (name : List ℕ) (heard : List Answer) (answer : Answer) → outcomes name (heard ++ answer ∷ []) 0 ≡ outcomes name heard 0 ++ reply_term answer.reply ∷ []
+answer_more : (name : List ℕ) (heard : List Answer) (answer : Answer) → outcomes name (heard ++ answer ∷ []) [] ≡ outcomes name heard [] ++ reply_term answer.reply ∷ []
 answer_more name heard answer =
     append-nil (answered (heard ++ answer ∷ [])) ∙ map-append (λ (answer : Answer). reply_term answer.reply) heard (answer ∷ [])
     ∙ ap (λ (terms : List Term). terms ++ reply_term answer.reply ∷ []) (sym (append-nil (answered heard)))
 
-loss_more : (name : List ℕ) (heard : List Answer) (n : ℕ) → outcomes name heard (n + 1) ≡ outcomes name heard n ++ node_lost_term name ∷ []
-loss_more name heard n =
-    ap (λ (terms : List Term). answered heard ++ terms) (sym (replicate_more n (node_lost_term name)))
-    ∙ sym (append_assoc (answered heard) (replicate n (node_lost_term name)) (node_lost_term name ∷ []))
+ending_more : (name : List ℕ) (heard : List Answer) (endings : List Ending) (one : Ending) → outcomes name heard (endings ++ one ∷ []) ≡ outcomes name heard endings ++ ending_term name one ∷ []
+ending_more name heard endings one =
+    ap (λ (terms : List Term). answered heard ++ terms) (map-append (ending_term name) endings (one ∷ []))
+    ∙ sym (append_assoc (answered heard) (map (ending_term name) endings) (ending_term name one ∷ []))
 
 is_reply_by : (port : PortName) (k j : ℕ) (o p r s : Term) → j ≡ k → p ≡ o → s ≡ r → IsReply port k o r → IsReply port j p s
 is_reply_by port k j o p r s e f g is = subst (λ n. IsReply port n p s) (sym e) (subst (λ (t : Term). IsReply port k t s) (sym f) (subst (λ (t : Term). IsReply port k o t) (sym g) is))
@@ -101,18 +105,57 @@ reply_written port outcome before after n r is wrote = go wrote
 
 -- ---- what is done
 
-no_losses : (lost : Bool) (n : ℕ) → lost ≡ false → (0 < n → lost ≡ true) → n ≡ 0
-no_losses lost zero there f = refl
-no_losses lost (suc n) there f = absurd (true_is_not_false (sym (f (omega arith)) ∙ there))
+-- each of these endings is due, by how much was said and heard
+abbrev AreDue : Known → ℕ → ℕ → List Ending → Type 0
+AreDue known heard said endings = (k : ℕ) (none : Ending) → k < length endings → IsDue known (nat_lt (heard + k) said) (get_or endings k none)
+
+never : (known : Known) (handed : Bool) (one : Ending) → known.lost ≡ false → known.full ≡ false → IsDue known handed one → ⊥
+never known handed Lost there free is = true_is_not_false (sym is ∙ there)
+never known handed Open there free is = true_is_not_false (sym is.0 ∙ free)
+never known handed Unasked there free is = true_is_not_false (sym is.0 ∙ free)
+
+-- where the node is there and no clock is full there is none
+no_endings : (known : Known) (heard said : ℕ) (endings : List Ending) → known.lost ≡ false → known.full ≡ false → AreDue known heard said endings → endings ≡ []
+no_endings known heard said [] there free due = refl
+no_endings known heard said (one ∷ endings) there free due = absurd (never known (nat_lt (heard + 0) said) one there free (due 0 one (omega arith)))
+
+-- what is known later
+abbrev pub Later : Known → Known → Type 0
+Later known known2 = (known.lost ≡ true → known2.lost ≡ true) × (known.full ≡ true → known2.full ≡ true)
+
+due_later : (known known2 : Known) (handed : Bool) (one : Ending) → Later known known2 → IsDue known handed one → IsDue known2 handed one
+due_later known known2 handed Lost later is = later.0 is
+due_later known known2 handed Open later is = (later.1 is.0, is.1)
+due_later known known2 handed Unasked later is = (later.1 is.0, is.1)
+
+no_due : (known : Known) (heard said : ℕ) → AreDue known heard said []
+no_due known heard said k none low = absurd (omega (arith, low))
+
+first_due : (known : Known) (heard said : ℕ) (one : Ending) → heard + 0 < said → IsDue known true one → AreDue known heard said (one ∷ [])
+first_due known heard said one handed due zero none low = subst (λ (b : Bool). IsDue known b one) (sym (lt-ltb (heard + 0) said handed)) due
+first_due known heard said one handed due (suc k) none low = absurd (omega (arith, low))
+
+due_more : (known : Known) (heard said : ℕ) (endings : List Ending) (one : Ending) → AreDue known heard said endings → said ≤ heard + length endings → IsDue known false one
+    → AreDue known heard said (endings ++ one ∷ [])
+due_more known heard said endings one all beyond due k none low = elim (eqb_tells k (length endings)) [
+  | inl t ↦
+      subst (λ (x : Ending). IsDue known (nat_lt (heard + k) said) x) (sym (get_or_push endings one none k (sym t.1)))
+      (subst (λ (j : ℕ). IsDue known (nat_lt (heard + j) said) one) (sym t.1)
+      (subst (λ (b : Bool). IsDue known b one) (sym (le-ltb (heard + length endings) said beyond)) due))
+  | inr f ↦
+      let more = length-append endings (one ∷ []) in
+      let less : k < length endings = let n = f.1 in omega (arith, n, low, more) in
+      subst (λ (x : Ending). IsDue known (nat_lt (heard + k) said) x) (sym (get_or-append endings (one ∷ []) none k less)) (all k none less)
+]
 
 one_more : (replied : ℕ) (replies : List Term) (term : Term) → replied ≡ saturated (length replies) → saturated (replied + 1) ≡ saturated (length (replies ++ term ∷ []))
 one_more replied replies term e = let n = length-append replies (term ∷ []) in omega (arith, n, e)
 
-module _ (port : PortName) (lost : Bool) (requests waiting : List Command) (is_asked : Bool) (replied : ℕ) (said : List Asked) (heard : List Answer) (replies : List Term)
-    (k : IsKept port lost requests waiting is_asked replied said heard replies) where
-  -- where more is known to be lost
-  pub kept_later : (lost2 : Bool) → (lost ≡ true → lost2 ≡ true) → IsKept port lost2 requests waiting is_asked replied said heard replies
-  kept_later lost2 later =
+module _ (port : PortName) (known : Known) (requests waiting : List Command) (is_asked : Bool) (replied : ℕ) (said : List Asked) (heard : List Answer) (replies : List Term)
+    (k : IsKept port known requests waiting is_asked replied said heard replies) where
+  -- where more is known
+  pub kept_later : (known2 : Known) → Later known known2 → IsKept port known2 requests waiting is_asked replied said heard replies
+  kept_later known2 later =
       let s = k.served in record {
         up = k.up;
         line = k.line;
@@ -120,8 +163,8 @@ module _ (port : PortName) (lost : Bool) (requests waiting : List Command) (is_a
           refused = s.refused;
           handed = s.handed;
           turns = s.turns;
-          losses = s.losses;
-          lost = λ some. later (s.lost some);
+          endings = s.endings;
+          due = λ j none low. due_later known known2 (nat_lt (length heard + j) (length said)) (get_or s.endings j none) later (s.due j none low);
           replied = s.replied;
           each = s.each;
           few = s.few;
@@ -132,7 +175,7 @@ module _ (port : PortName) (lost : Bool) (requests waiting : List Command) (is_a
       }
 
   -- a request waits for its turn
-  pub kept_waits : (command : Command) (waiting2 : List Command) → waiting2 ≡ waiting ++ command ∷ [] → IsKept port lost (requests ++ command ∷ []) waiting2 is_asked replied said heard replies
+  pub kept_waits : (command : Command) (waiting2 : List Command) → waiting2 ≡ waiting ++ command ∷ [] → IsKept port known (requests ++ command ∷ []) waiting2 is_asked replied said heard replies
   kept_waits command waiting2 is = record {
     up = k.up;
     line = ap (λ (cs : List Command). cs ++ command ∷ []) k.line ∙ append_assoc k.up waiting (command ∷ []) ∙ ap (λ (cs : List Command). k.up ++ cs) (sym is);
@@ -143,10 +186,11 @@ module _ (port : PortName) (lost : Bool) (requests waiting : List Command) (is_a
 
   -- the answer of the node is replied
   pub kept_answers : (answer : Answer) (term : Term) → is_asked ≡ true → IsReply port (length replies + 1) (reply_term answer.reply) term
-      → IsKept port lost requests waiting false (saturated (replied + 1)) said (heard ++ answer ∷ []) (replies ++ term ∷ [])
+      → IsKept port known requests waiting false (saturated (replied + 1)) said (heard ++ answer ∷ []) (replies ++ term ∷ [])
   kept_answers answer term busy is =
       let s = k.served in
-      let none : s.losses ≡ 0 = k.closed busy in
+      let none : s.endings ≡ [] = k.closed busy in
+      let empty = ap length none in
       let one = ap with_node busy in
       let more = length-append replies (term ∷ []) in
       let more_heard = length-append heard (answer ∷ []) in
@@ -159,39 +203,47 @@ module _ (port : PortName) (lost : Bool) (requests waiting : List Command) (is_a
           refused = s.refused;
           handed = s.handed;
           turns = s.turns;
-          losses = 0;
-          lost = λ some. absurd (omega (arith, some));
+          endings = [];
+          due = no_due known (length (heard ++ answer ∷ [])) (length said);
           replied = subst (λ (terms : List Term). AreReplies port terms (replies ++ term ∷ [])) (sym (answer_more port.name heard answer))
-              (replies_more port (outcomes port.name heard 0) replies (reply_term answer.reply) term (subst (λ n. AreReplies port (outcomes port.name heard n) replies) none s.replied) is);
+              (replies_more port (outcomes port.name heard []) replies (reply_term answer.reply) term (subst (λ (endings : List Ending). AreReplies port (outcomes port.name heard endings) replies) none s.replied) is);
           each = omega (arith, each, one, more);
-          few = omega (arith, few, none);
+          few = omega (arith, few, empty);
           under_way = omega (arith, under_way, more_heard);
         };
         count = one_more replied replies term k.count;
         closed = λ e. refl;
       }
 
-  -- that the node is lost is replied to the request that is with it
-  pub kept_loses : (term : Term) → lost ≡ true → is_asked ≡ true → IsReply port (length replies + 1) (node_lost_term port.name) term
-      → IsKept port lost requests waiting false (saturated (replied + 1)) said heard (replies ++ term ∷ [])
-  kept_loses term gone busy is =
+  -- why it has no answer is replied to the request that is with the node
+  pub kept_closes : (one : Ending) (term : Term) → is_asked ≡ true → IsDue known true one → IsReply port (length replies + 1) (ending_term port.name one) term
+      → IsKept port known requests waiting false (saturated (replied + 1)) said heard (replies ++ term ∷ [])
+  kept_closes one term busy due is =
       let s = k.served in
-      let one = ap with_node busy in
+      let none : s.endings ≡ [] = k.closed busy in
+      let empty = ap length none in
+      let with_it = ap with_node busy in
       let more = length-append replies (term ∷ []) in
       let each = s.each in
-      let few = s.few in record {
+      let few = s.few in
+      let all : s.refused ≡ [] = nil_from_length s.refused (omega (arith, few, empty)) in
+      let whole : k.up ≡ commands_of said = s.handed ∙ ap (λ (cs : List Command). commands_of said ++ cs) all ∙ append-nil (commands_of said) in
+      let count = s.replied.count ∙ length-outcomes port.name heard s.endings in
+      let up = ap length whole ∙ length-map said (λ (x : Asked). x.command) in
+      let before : length heard + 0 < length said = omega (arith, count, each, up, empty, with_it) in record {
         up = k.up;
         line = k.line;
         served = record {
           refused = s.refused;
           handed = s.handed;
           turns = s.turns;
-          losses = s.losses + 1;
-          lost = λ some. gone;
-          replied = subst (λ (terms : List Term). AreReplies port terms (replies ++ term ∷ [])) (sym (loss_more port.name heard s.losses))
-              (replies_more port (outcomes port.name heard s.losses) replies (node_lost_term port.name) term s.replied is);
-          each = omega (arith, each, one, more);
-          few = omega (arith, few);
+          endings = one ∷ [];
+          due = first_due known (length heard) (length said) one before due;
+          replied = subst (λ (terms : List Term). AreReplies port terms (replies ++ term ∷ [])) (sym (ending_more port.name heard [] one))
+              (replies_more port (outcomes port.name heard []) replies (ending_term port.name one) term
+              (subst (λ (endings : List Ending). AreReplies port (outcomes port.name heard endings) replies) none s.replied) is);
+          each = omega (arith, each, with_it, more);
+          few = omega (arith, few, empty);
           under_way = s.under_way;
         };
         count = one_more replied replies term k.count;
@@ -199,28 +251,33 @@ module _ (port : PortName) (lost : Bool) (requests waiting : List Command) (is_a
       }
 
   -- and to the next request that waits
-  pub kept_refuses : (command : Command) (rest : List Command) (term : Term) → waiting ≡ command ∷ rest → lost ≡ true → is_asked ≡ false → IsReply port (length replies + 1) (node_lost_term port.name) term
-      → IsKept port lost requests rest false (saturated (replied + 1)) said heard (replies ++ term ∷ [])
-  kept_refuses command rest term front gone idle is =
+  pub kept_refuses : (one : Ending) (command : Command) (rest : List Command) (term : Term) → waiting ≡ command ∷ rest → is_asked ≡ false → IsDue known false one
+      → IsReply port (length replies + 1) (ending_term port.name one) term → IsKept port known requests rest false (saturated (replied + 1)) said heard (replies ++ term ∷ [])
+  kept_refuses one command rest term front idle due is =
       let s = k.served in
       let none = ap with_node idle in
       let more = length-append replies (term ∷ []) in
       let more_refused = length-append s.refused (command ∷ []) in
       let more_up = length-append k.up (command ∷ []) in
+      let more_endings = length-append s.endings (one ∷ []) in
       let each = s.each in
-      let few = s.few in record {
+      let few = s.few in
+      let count = s.replied.count ∙ length-outcomes port.name heard s.endings in
+      let parts = ap length s.handed ∙ length-append (commands_of said) s.refused in
+      let all_said = length-map said (λ (x : Asked). x.command) in
+      let beyond : length said ≤ length heard + length s.endings = omega (arith, count, each, none, parts, all_said) in record {
         up = k.up ++ command ∷ [];
         line = k.line ∙ ap (λ (cs : List Command). k.up ++ cs) front ∙ sym (append_assoc k.up (command ∷ []) rest);
         served = record {
           refused = s.refused ++ command ∷ [];
           handed = ap (λ (cs : List Command). cs ++ command ∷ []) s.handed ∙ append_assoc (commands_of said) s.refused (command ∷ []);
           turns = s.turns;
-          losses = s.losses + 1;
-          lost = λ some. gone;
-          replied = subst (λ (terms : List Term). AreReplies port terms (replies ++ term ∷ [])) (sym (loss_more port.name heard s.losses))
-              (replies_more port (outcomes port.name heard s.losses) replies (node_lost_term port.name) term s.replied is);
+          endings = s.endings ++ one ∷ [];
+          due = due_more known (length heard) (length said) s.endings one s.due beyond due;
+          replied = subst (λ (terms : List Term). AreReplies port terms (replies ++ term ∷ [])) (sym (ending_more port.name heard s.endings one))
+              (replies_more port (outcomes port.name heard s.endings) replies (ending_term port.name one) term s.replied is);
           each = omega (arith, each, none, more, more_up);
-          few = omega (arith, few, more_refused);
+          few = omega (arith, few, more_refused, more_endings);
           under_way = s.under_way;
         };
         count = one_more replied replies term k.count;
@@ -228,19 +285,20 @@ module _ (port : PortName) (lost : Bool) (requests waiting : List Command) (is_a
       }
 
   -- the next request that waits is handed over
-  pub kept_hands : (one : Asked) (rest : List Command) → waiting ≡ one.command ∷ rest → lost ≡ false → is_asked ≡ false → one.polled ≡ saturated (length heard)
-      → IsKept port lost requests rest true replied (said ++ one ∷ []) heard replies
-  kept_hands one rest front there idle turn =
+  pub kept_hands : (one : Asked) (rest : List Command) → waiting ≡ one.command ∷ rest → known.lost ≡ false → known.full ≡ false → is_asked ≡ false → one.polled ≡ saturated (length heard)
+      → IsKept port known requests rest true replied (said ++ one ∷ []) heard replies
+  kept_hands one rest front there free idle turn =
       let s = k.served in
-      let none : s.losses ≡ 0 = no_losses lost s.losses there s.lost in
+      let none : s.endings ≡ [] = no_endings known (length heard) (length said) s.endings there free s.due in
+      let empty = ap length none in
       let nobody = ap with_node idle in
       let few = s.few in
-      let all : s.refused ≡ [] = nil_from_length s.refused (omega (arith, few, none)) in
+      let all : s.refused ≡ [] = nil_from_length s.refused (omega (arith, few, empty)) in
       let whole : k.up ≡ commands_of said = s.handed ∙ ap (λ (cs : List Command). commands_of said ++ cs) all ∙ append-nil (commands_of said) in
-      let count = s.replied.count ∙ length-outcomes port.name heard s.losses in
+      let count = s.replied.count ∙ length-outcomes port.name heard s.endings in
       let each = s.each in
       let up = ap length whole ∙ length-map said (λ (x : Asked). x.command) in
-      let level : length said ≡ length heard = omega (arith, count, each, up, none, nobody) in
+      let level : length said ≡ length heard = omega (arith, count, each, up, empty, nobody) in
       let more_up = length-append k.up (one.command ∷ []) in
       let more_said = length-append said (one ∷ []) in record {
         up = k.up ++ one.command ∷ [];
@@ -249,28 +307,28 @@ module _ (port : PortName) (lost : Bool) (requests waiting : List Command) (is_a
           refused = [];
           handed = ap (λ (cs : List Command). cs ++ one.command ∷ []) whole ∙ sym (map-append (λ (x : Asked). x.command) said (one ∷ [])) ∙ sym (append-nil (commands_of (said ++ one ∷ [])));
           turns = turns_more said one s.turns (turn ∙ ap saturated (sym level));
-          losses = s.losses;
-          lost = s.lost;
-          replied = s.replied;
+          endings = [];
+          due = no_due known (length heard) (length (said ++ one ∷ []));
+          replied = subst (λ (endings : List Ending). AreReplies port (outcomes port.name heard endings) replies) none s.replied;
           each = omega (arith, each, nobody, more_up);
           few = omega arith;
           under_way = omega (arith, level, more_said);
         };
         count = k.count;
-        closed = λ e. none;
+        closed = λ e. refl;
       }
 
 -- at first
-pub kept_new : (port : PortName) (lost : Bool) → IsKept port lost [] [] false 0 [] [] []
-kept_new port lost = record {
+pub kept_new : (port : PortName) (known : Known) → IsKept port known [] [] false 0 [] [] []
+kept_new port known = record {
   up = [];
   line = refl;
   served = record {
     refused = [];
     handed = refl;
     turns = λ k none low. absurd (omega (arith, low));
-    losses = 0;
-    lost = λ some. absurd (omega (arith, some));
+    endings = [];
+    due = no_due known 0 0;
     replied = record { count = refl; each = λ k none low. absurd (omega (arith, low)) };
     each = refl;
     few = omega arith;

@@ -25,18 +25,20 @@ use Rattle.pg_cluster.specs.Clusters.{lost_of}
 use Rattle.pg_cluster.specs.Running.{OnlyClient, clients_in, config_in, losses_in, polled_at, submitted_at}
 use Rattle.pg_node_requests.specs.declared.input.Input.{Input}
 use Rattle.pg_node_requests.specs.declared.input.Input.TheVariants as forms
-use Rattle.pg_node_requests.specs.Replies.{bad_request_term, lost_term, node_lost_term, reply_term}
+use Rattle.pg_node_requests.specs.Replies.{bad_request_term, lost_term, reply_term}
 use Rattle.pg_talk.specs.declared.service.desk.Desk.{Desk}
+use Rattle.pg_talk.specs.declared.service.ending.Ending.{Ending}
 use Rattle.pg_talk.specs.declared.service.serving.ServedNode.{ServedNode}
 use Rattle.pg_talk.specs.Conversations.{saturated}
 use Rattle.pg_talk.specs.Desks.{SameDesk, waiting_at}
 use Rattle.pg_talk.specs.Frames.{framed, WritesReply}
-use Rattle.pg_talk.specs.Servings.{AreDesksKept, IsKept, IsKeptAt, Knows, Serves, ServesTold, View}
+use Rattle.pg_talk.specs.Servings.{AreDesksKept, IsDueAt, IsKept, IsKeptAt, Knows, Serves, ServesTold, View}
 use Rattle.pg_talk.specs.Servings.{asked_at, is_known_lost, known_lost, node_at, port_at, replied_at}
-use Rattle.pg_talk.specs.Written.{IsAddressed, IsReply, PortName, InputsSeen, Written, bytes_of, heard_at}
-use Rattle.pg_talk.specs.Written.{is_lost_at, none_told, notices_in, ports_in, replies_to, request_to}
-use Rattle.pg_talk.specs.Written.{requests_to, said_at, tell_bad, tell_lost, tell_next, tell_on, told_by}
-use Rattle.pg_talk.proofs.Posts.{bad_same, kept_answers, kept_hands, kept_later, kept_loses}
+use Rattle.pg_talk.specs.Written.{InputsSeen, IsAddressed, IsDue, IsReply, Known, PortName, Written, bytes_of}
+use Rattle.pg_talk.specs.Written.{ending_term, heard_at, is_full_end, is_lost_at, known_at, none_told, notices_in}
+use Rattle.pg_talk.specs.Written.{over_by, ports_in, replies_to, request_to, requests_to, said_at, tell_bad}
+use Rattle.pg_talk.specs.Written.{tell_lost, tell_next, tell_on, told_by}
+use Rattle.pg_talk.proofs.Posts.{Later, bad_same, kept_answers, kept_closes, kept_hands, kept_later}
 use Rattle.pg_talk.proofs.Posts.{kept_refuses, kept_waits, reply_written, true_is_not_false}
 
 -- ---- clients
@@ -109,48 +111,52 @@ same_port a b same =
     ∙ ap (λ (number : ℕ). record { node = a.node; name = a.name; number = number }) same.port
 
 -- a desk of which the same is told
-kept_same : (lost : List Bool) (requests waiting : List Command) (a b : Desk) (said : List Asked) (heard : List Answer) (replies : List Term) → SameDesk a b
-    → IsKept (port_at a) (is_lost_at a.node lost) requests waiting a.is_asked a.replied said heard replies → IsKept (port_at b) (is_lost_at b.node lost) requests waiting b.is_asked b.replied said heard replies
-kept_same lost requests waiting a b said heard replies same k =
-    subst (λ (port : PortName). IsKept port (is_lost_at port.node lost) requests waiting b.is_asked b.replied said heard replies) (sym (same_port a b same))
-    (subst (λ (here : Bool). IsKept (port_at a) (is_lost_at a.node lost) requests waiting here b.replied said heard replies) (sym same.asked)
-    (subst (λ (n : ℕ). IsKept (port_at a) (is_lost_at a.node lost) requests waiting a.is_asked n said heard replies) (sym same.replied) k))
+kept_same : (told : InputsSeen) (requests waiting : List Command) (a b : Desk) (said : List Asked) (heard : List Answer) (replies : List Term) → SameDesk a b
+    → IsKept (port_at a) (known_at a.node told) requests waiting a.is_asked a.replied said heard replies → IsKept (port_at b) (known_at b.node told) requests waiting b.is_asked b.replied said heard replies
+kept_same told requests waiting a b said heard replies same k =
+    subst (λ (port : PortName). IsKept port (known_at port.node told) requests waiting b.is_asked b.replied said heard replies) (sym (same_port a b same))
+    (subst (λ (here : Bool). IsKept (port_at a) (known_at a.node told) requests waiting here b.replied said heard replies) (sym same.asked)
+    (subst (λ (n : ℕ). IsKept (port_at a) (known_at a.node told) requests waiting a.is_asked n said heard replies) (sym same.replied) k))
 
-kept_by : (lost : List Bool) (desk : Desk) (r r2 : List Command) (s s2 : List Asked) (h h2 : List Answer) (p p2 : List Term) → r2 ≡ r → s2 ≡ s → h2 ≡ h → p2 ≡ p
-    → IsKeptAt lost r desk s h p → IsKeptAt lost r2 desk s2 h2 p2
-kept_by lost desk r r2 s s2 h h2 p p2 er es eh ep k =
-    subst (λ (x : List Command). IsKeptAt lost x desk s2 h2 p2) (sym er)
-    (subst (λ (x : List Asked). IsKeptAt lost r desk x h2 p2) (sym es)
-    (subst (λ (x : List Answer). IsKeptAt lost r desk s x p2) (sym eh) (subst (λ (x : List Term). IsKeptAt lost r desk s h x) (sym ep) k)))
+kept_by : (told : InputsSeen) (desk : Desk) (r r2 : List Command) (s s2 : List Asked) (h h2 : List Answer) (p p2 : List Term) → r2 ≡ r → s2 ≡ s → h2 ≡ h → p2 ≡ p
+    → IsKeptAt told r desk s h p → IsKeptAt told r2 desk s2 h2 p2
+kept_by told desk r r2 s s2 h h2 p p2 er es eh ep k =
+    subst (λ (x : List Command). IsKeptAt told x desk s2 h2 p2) (sym er)
+    (subst (λ (x : List Asked). IsKeptAt told r desk x h2 p2) (sym es)
+    (subst (λ (x : List Answer). IsKeptAt told r desk s x p2) (sym eh) (subst (λ (x : List Term). IsKeptAt told r desk s h x) (sym ep) k)))
 
 -- one desk is changed
-kept_step : (lost : List Bool) (inputs inputs2 : List Input) (d : List Desk) (clients clients2 : List Client) (frames frames2 : List Written) (k : ℕ) (x2 : Desk) → k < length d
+kept_step : (told : InputsSeen) (inputs inputs2 : List Input) (d : List Desk) (clients clients2 : List Client) (frames frames2 : List Written) (k : ℕ) (x2 : Desk) → k < length d
     → ((i : ℕ) → i ≢ k → requests_to i inputs2 ≡ requests_to i inputs) → ((i : ℕ) → i ≢ k → said_at i clients2 ≡ said_at i clients) → ((i : ℕ) → i ≢ k → heard_at i clients2 ≡ heard_at i clients)
-    → ((i : ℕ) → i ≢ k → replies_to i frames2 ≡ replies_to i frames) → IsKeptAt lost (requests_to k inputs2) x2 (said_at k clients2) (heard_at k clients2) (replies_to k frames2)
-    → AreDesksKept lost inputs d clients frames → AreDesksKept lost inputs2 (set d k x2) clients2 frames2
-kept_step lost inputs inputs2 d clients clients2 frames frames2 k x2 low requests said heard replies here all i none within = go (cases_eq i k)
+    → ((i : ℕ) → i ≢ k → replies_to i frames2 ≡ replies_to i frames) → IsKeptAt told (requests_to k inputs2) x2 (said_at k clients2) (heard_at k clients2) (replies_to k frames2)
+    → AreDesksKept told inputs d clients frames → AreDesksKept told inputs2 (set d k x2) clients2 frames2
+kept_step told inputs inputs2 d clients clients2 frames frames2 k x2 low requests said heard replies here all i none within = go (cases_eq i k)
   where
-    go : (i ≡ k) ⊎ (i ≢ k) → IsKeptAt lost (requests_to i inputs2) (get_or (set d k x2) i none) (said_at i clients2) (heard_at i clients2) (replies_to i frames2)
+    go : (i ≡ k) ⊎ (i ≢ k) → IsKeptAt told (requests_to i inputs2) (get_or (set d k x2) i none) (said_at i clients2) (heard_at i clients2) (replies_to i frames2)
     go (inl e) =
-        subst (λ j. IsKeptAt lost (requests_to j inputs2) (get_or (set d k x2) j none) (said_at j clients2) (heard_at j clients2) (replies_to j frames2)) (sym e)
-        (subst (λ (x : Desk). IsKeptAt lost (requests_to k inputs2) x (said_at k clients2) (heard_at k clients2) (replies_to k frames2)) (sym (get_or-set_same d k x2 none low)) here)
+        subst (λ j. IsKeptAt told (requests_to j inputs2) (get_or (set d k x2) j none) (said_at j clients2) (heard_at j clients2) (replies_to j frames2)) (sym e)
+        (subst (λ (x : Desk). IsKeptAt told (requests_to k inputs2) x (said_at k clients2) (heard_at k clients2) (replies_to k frames2)) (sym (get_or-set_same d k x2 none low)) here)
     go (inr n) =
-        kept_by lost (get_or (set d k x2) i none) (requests_to i inputs) (requests_to i inputs2) (said_at i clients) (said_at i clients2) (heard_at i clients) (heard_at i clients2)
+        kept_by told (get_or (set d k x2) i none) (requests_to i inputs) (requests_to i inputs2) (said_at i clients) (said_at i clients2) (heard_at i clients) (heard_at i clients2)
         (replies_to i frames) (replies_to i frames2) (requests i n) (said i n) (heard i n) (replies i n)
-        (subst (λ (x : Desk). IsKeptAt lost (requests_to i inputs) x (said_at i clients) (heard_at i clients) (replies_to i frames)) (sym (get_or-set_other d k i x2 none n))
+        (subst (λ (x : Desk). IsKeptAt told (requests_to i inputs) x (said_at i clients) (heard_at i clients) (replies_to i frames)) (sym (get_or-set_other d k i x2 none n))
         (all i none (let e = length-set d k x2 in omega (arith, within, e))))
 
 -- none is
-kept_all : (lost lost2 : List Bool) (inputs inputs2 : List Input) (d : List Desk) (clients clients2 : List Client) (frames frames2 : List Written)
-    → ((node : ℕ) → is_lost_at node lost ≡ true → is_lost_at node lost2 ≡ true) → ((i : ℕ) → i < length d → requests_to i inputs2 ≡ requests_to i inputs)
+kept_all : (told told2 : InputsSeen) (inputs inputs2 : List Input) (d : List Desk) (clients clients2 : List Client) (frames frames2 : List Written)
+    → ((node : ℕ) → Later (known_at node told) (known_at node told2)) → ((i : ℕ) → i < length d → requests_to i inputs2 ≡ requests_to i inputs)
     → ((i : ℕ) → said_at i clients2 ≡ said_at i clients) → ((i : ℕ) → heard_at i clients2 ≡ heard_at i clients) → ((i : ℕ) → replies_to i frames2 ≡ replies_to i frames)
-    → AreDesksKept lost inputs d clients frames → AreDesksKept lost2 inputs2 d clients2 frames2
-kept_all lost lost2 inputs inputs2 d clients clients2 frames frames2 later requests said heard replies all i none low =
+    → AreDesksKept told inputs d clients frames → AreDesksKept told2 inputs2 d clients2 frames2
+kept_all told told2 inputs inputs2 d clients clients2 frames frames2 later requests said heard replies all i none low =
     let desk = get_or d i none in
-    kept_by lost2 desk (requests_to i inputs) (requests_to i inputs2) (said_at i clients) (said_at i clients2) (heard_at i clients) (heard_at i clients2)
+    kept_by told2 desk (requests_to i inputs) (requests_to i inputs2) (said_at i clients) (said_at i clients2) (heard_at i clients) (heard_at i clients2)
     (replies_to i frames) (replies_to i frames2) (requests i low) (said i) (heard i) (replies i)
-    (kept_later (port_at desk) (is_lost_at desk.node lost) (requests_to i inputs) (waiting_at desk) desk.is_asked desk.replied (said_at i clients) (heard_at i clients)
-    (replies_to i frames) (all i none low) (is_lost_at desk.node lost2) (later desk.node))
+    (kept_later (port_at desk) (known_at desk.node told) (requests_to i inputs) (waiting_at desk) desk.is_asked desk.replied (said_at i clients) (heard_at i clients)
+    (replies_to i frames) (all i none low) (known_at desk.node told2) (later desk.node))
+
+-- as much is known
+still_known : (told : InputsSeen) (node : ℕ) → Later (known_at node told) (known_at node told)
+still_known told node = (λ gone. gone, λ full. full)
 
 -- ---- frames
 
@@ -249,8 +255,8 @@ module _ (given : Config) (first before : Option (List ℕ)) (inputs : List Inpu
   replies_here = replies_to k s.frames
 
   -- so it is kept
-  as_it_was : IsKeptAt told.lost requests_here x (said_at k (clients_in a.running)) (heard_at k (clients_in a.running)) replies_here
-  as_it_was = subst (λ (desk : Desk). IsKeptAt told.lost requests_here desk (said_at k (clients_in a.running)) (heard_at k (clients_in a.running)) replies_here) (sym value) (s.kept k x low)
+  as_it_was : IsKeptAt told requests_here x (said_at k (clients_in a.running)) (heard_at k (clients_in a.running)) replies_here
+  as_it_was = subst (λ (desk : Desk). IsKeptAt told requests_here desk (said_at k (clients_in a.running)) (heard_at k (clients_in a.running)) replies_here) (sym value) (s.kept k x low)
 
   module _ (running : Running) (x2 : Desk) (beside : Beside k a.running running) (port : port_at x2 ≡ port_at x) where
     knows_so : Knows given told (record a { running = running; desks = set a.desks k x2 })
@@ -266,7 +272,7 @@ module _ (given : Config) (first before : Option (List ℕ)) (inputs : List Inpu
 
     -- it is changed with a reply
     replied_so : (after : Option (List ℕ)) (term : Term) → Appends before after (framed term)
-        → IsKeptAt told.lost requests_here x2 (said_at k (clients_in running)) (heard_at k (clients_in running)) (replies_here ++ term ∷ [])
+        → IsKeptAt told requests_here x2 (said_at k (clients_in running)) (heard_at k (clients_in running)) (replies_here ++ term ∷ [])
         → ServesTold given told first inputs (record a { running = running; desks = set a.desks k x2 }) after
     replied_so after term wrote here =
         let frame = reply_frame k term in record {
@@ -275,14 +281,14 @@ module _ (given : Config) (first before : Option (List ℕ)) (inputs : List Inpu
           wrote = wrote_more first before after s.frames frame s.wrote wrote;
           addressed = addressed_more (length a.desks) (length (set a.desks k x2)) s.frames frame (length-set a.desks k x2) low s.addressed;
           notices = notices-append s.frames (frame ∷ []) ∙ append-nil (notices_in s.frames) ∙ s.notices;
-          kept = kept_step told.lost inputs inputs a.desks (clients_in a.running) (clients_in running) s.frames (s.frames ++ frame ∷ []) k x2 low (λ i n. refl) beside.said beside.heard
+          kept = kept_step told inputs inputs a.desks (clients_in a.running) (clients_in running) s.frames (s.frames ++ frame ∷ []) k x2 low (λ i n. refl) beside.said beside.heard
               (λ i n. to_no_other s.frames k i term n)
-              (subst (λ (terms : List Term). IsKeptAt told.lost requests_here x2 (said_at k (clients_in running)) (heard_at k (clients_in running)) terms) (sym (to_its_own s.frames k term)) here)
+              (subst (λ (terms : List Term). IsKeptAt told requests_here x2 (said_at k (clients_in running)) (heard_at k (clients_in running)) terms) (sym (to_its_own s.frames k term)) here)
               s.kept;
         }
 
     -- or without one
-    unreplied_so : IsKeptAt told.lost requests_here x2 (said_at k (clients_in running)) (heard_at k (clients_in running)) replies_here
+    unreplied_so : IsKeptAt told requests_here x2 (said_at k (clients_in running)) (heard_at k (clients_in running)) replies_here
         → ServesTold given told first inputs (record a { running = running; desks = set a.desks k x2 }) before
     unreplied_so here = record {
       knows = knows_so;
@@ -290,7 +296,7 @@ module _ (given : Config) (first before : Option (List ℕ)) (inputs : List Inpu
       wrote = s.wrote;
       addressed = subst (λ n. All (λ (frame : Written). IsAddressed n frame.client) s.frames) (sym (length-set a.desks k x2)) s.addressed;
       notices = s.notices;
-      kept = kept_step told.lost inputs inputs a.desks (clients_in a.running) (clients_in running) s.frames s.frames k x2 low (λ i n. refl) beside.said beside.heard (λ i n. refl) here s.kept;
+      kept = kept_step told inputs inputs a.desks (clients_in a.running) (clients_in running) s.frames s.frames k x2 low (λ i n. refl) beside.said beside.heard (λ i n. refl) here s.kept;
     }
 
 -- the reply that was written by the number of a desk
@@ -303,6 +309,24 @@ lost_told : (given : Config) (told : InputsSeen) (a : View) (k : ℕ) (x : Desk)
 lost_told given told a k x so low value lost knows =
     ap (λ (all : List Bool). get_or all x.node false) (sym knows.known) ∙ ap (λ (node : ℕ). get_or (known_lost a.nodes) node false) (sym (found (λ (desk : Desk). desk.node) a.desks k x 0 low value)) ∙ lost
 
+-- whether it is over as a clock is full is whether it was told so
+full_told : (given : Config) (told : InputsSeen) (a : View) (so : Bool) → is_full_end a.over ≡ so → Knows given told a → is_full_end told.over ≡ so
+full_told given told a so full knows = ap is_full_end (sym knows.over) ∙ full
+
+due_told : (given : Config) (told : InputsSeen) (a : View) (k : ℕ) (x : Desk) (handed : Bool) (one : Ending) → k < length a.desks → x ≡ get_or a.desks k x → Knows given told a → IsDueAt a k handed one
+    → IsDue (known_at x.node told) handed one
+due_told given told a k x handed one low value knows is = subst (λ (known : Known). IsDue known handed one) (same lost full) is
+  where
+    lost : is_lost_at x.node told.lost ≡ is_known_lost (node_at k a.desks) a.nodes
+    lost = lost_told given told a k x (is_known_lost (node_at k a.desks) a.nodes) low value refl knows
+
+    full : is_full_end told.over ≡ is_full_end a.over
+    full = full_told given told a (is_full_end a.over) refl knows
+
+    same : is_lost_at x.node told.lost ≡ is_known_lost (node_at k a.desks) a.nodes → is_full_end told.over ≡ is_full_end a.over
+        → record { lost = is_known_lost (node_at k a.desks) a.nodes; full = is_full_end a.over } ≡ known_at x.node told
+    same l f = ap (λ (lost : Bool). record { lost = lost; full = is_full_end a.over }) (sym l) ∙ ap (λ (full : Bool). record { lost = is_lost_at x.node told.lost; full = full }) (sym f)
+
 asked_told : (a : View) (k : ℕ) (x : Desk) (so : Bool) → k < length a.desks → x ≡ get_or a.desks k x → asked_at k a.desks ≡ so → x.is_asked ≡ so
 asked_told a k x so low value is = sym (found (λ (desk : Desk). desk.is_asked) a.desks k x false low value) ∙ is
 
@@ -314,7 +338,7 @@ module _ (given : Config) (first before : Option (List ℕ)) (inputs : List Inpu
   abbrev told_here : InputsSeen
   told_here = told_by given inputs
 
-  abbrev was_here : IsKeptAt told_here.lost (requests_to k inputs) x (said_at k (clients_in a.running)) (heard_at k (clients_in a.running)) (replies_to k s.frames)
+  abbrev was_here : IsKeptAt told_here (requests_to k inputs) x (said_at k (clients_in a.running)) (heard_at k (clients_in a.running)) (replies_to k s.frames)
   was_here = as_it_was given first before inputs told_here a k x low value s
 
   module _ (running : Running) (low_client : k < length (clients_in a.running)) (only : OnlyClient k a.running running) where
@@ -325,9 +349,9 @@ module _ (given : Config) (first before : Option (List ℕ)) (inputs : List Inpu
     answer_served after answer busy more same wrote =
         let reply = reply_written (port_at x) (reply_term answer.reply) before after x.replied (length (replies_to k s.frames)) was_here.count wrote in
         replied_so given first before inputs told_here a k x low value s running (replied_at x) (beside_only k a.running running only) refl after reply.0 reply.2
-        (subst (λ (all : List Asked). IsKeptAt told_here.lost (requests_to k inputs) (replied_at x) all (heard_at k (clients_in running)) (replies_to k s.frames ++ reply.0 ∷ [])) (sym said)
-        (subst (λ (all : List Answer). IsKeptAt told_here.lost (requests_to k inputs) (replied_at x) (said_at k (clients_in a.running)) all (replies_to k s.frames ++ reply.0 ∷ [])) (sym heard)
-        (kept_answers (port_at x) (is_lost_at x.node told_here.lost) (requests_to k inputs) (waiting_at x) x.is_asked x.replied (said_at k (clients_in a.running)) (heard_at k (clients_in a.running))
+        (subst (λ (all : List Asked). IsKeptAt told_here (requests_to k inputs) (replied_at x) all (heard_at k (clients_in running)) (replies_to k s.frames ++ reply.0 ∷ [])) (sym said)
+        (subst (λ (all : List Answer). IsKeptAt told_here (requests_to k inputs) (replied_at x) (said_at k (clients_in a.running)) all (replies_to k s.frames ++ reply.0 ∷ [])) (sym heard)
+        (kept_answers (port_at x) (known_at x.node told_here) (requests_to k inputs) (waiting_at x) x.is_asked x.replied (said_at k (clients_in a.running)) (heard_at k (clients_in a.running))
         (replies_to k s.frames) was_here answer reply.0 (asked_told a k x true low value busy) reply.1)))
       where
         said : said_at k (clients_in running) ≡ said_at k (clients_in a.running)
@@ -353,7 +377,7 @@ module _ (given : Config) (first before : Option (List ℕ)) (inputs : List Inpu
       wrote = s.wrote;
       addressed = s.addressed;
       notices = s.notices;
-      kept = kept_all told_here.lost told_here.lost inputs inputs a.desks (clients_in a.running) (clients_in running) s.frames s.frames (λ node gone. gone) (λ i low. refl)
+      kept = kept_all told_here told_here inputs inputs a.desks (clients_in a.running) (clients_in running) s.frames s.frames (still_known told_here) (λ i low. refl)
           (λ i. said i (cases_eq i k)) (λ i. heard i (cases_eq i k)) (λ i. refl) s.kept;
     }
       where
@@ -370,20 +394,20 @@ module _ (given : Config) (first before : Option (List ℕ)) (inputs : List Inpu
 
     -- the request that waits for longest left the desk and was handed over
     pub handed_served : (x1 y x2 : Desk) (command : Command) → waiting_at x ≡ command ∷ waiting_at x1 → SameDesk x x1 → y ≡ get_or (set a.desks k x1) k y → x2 ≡ record y { is_asked = true }
-        → asked_at k a.desks ≡ false → is_known_lost (node_at k a.desks) a.nodes ≡ false
+        → asked_at k a.desks ≡ false → is_known_lost (node_at k a.desks) a.nodes ≡ false → is_full_end a.over ≡ false
         → ((none : Client) → submitted_at k none running ≡ submitted_at k none a.running ++ record { command = command; polled = polled_count (get_or (clients_in a.running) k none) } ∷ [])
         → ((none : Client) → polled_at k none running ≡ polled_at k none a.running) → Serves given first inputs (record a { running = running; desks = set (set a.desks k x1) k x2 }) before
-    handed_served x1 y x2 command front same again is idle there more rest =
+    handed_served x1 y x2 command front same again is idle there free more rest =
         subst (λ (desks : List Desk). Serves given first inputs (record a { running = running; desks = desks }) before) (sym (set-set a.desks k x1 x2))
         (unreplied_so given first before inputs told_here a k x low value s running x2 (beside_only k a.running running only) port
-        (subst (λ (all : List Asked). IsKeptAt told_here.lost (requests_to k inputs) x2 all (heard_at k (clients_in running)) (replies_to k s.frames)) (sym said.1)
-        (subst (λ (all : List Answer). IsKeptAt told_here.lost (requests_to k inputs) x2 (said_at k (clients_in a.running) ++ one ∷ []) all (replies_to k s.frames)) (sym heard)
-        (subst (λ (desk : Desk). IsKeptAt told_here.lost (requests_to k inputs) desk (said_at k (clients_in a.running) ++ one ∷ []) (heard_at k (clients_in a.running)) (replies_to k s.frames)) (sym now)
-        (kept_same told_here.lost (requests_to k inputs) (waiting_at x1) (record x { is_asked = true }) (record x1 { is_asked = true }) (said_at k (clients_in a.running) ++ one ∷ [])
+        (subst (λ (all : List Asked). IsKeptAt told_here (requests_to k inputs) x2 all (heard_at k (clients_in running)) (replies_to k s.frames)) (sym said.1)
+        (subst (λ (all : List Answer). IsKeptAt told_here (requests_to k inputs) x2 (said_at k (clients_in a.running) ++ one ∷ []) all (replies_to k s.frames)) (sym heard)
+        (subst (λ (desk : Desk). IsKeptAt told_here (requests_to k inputs) desk (said_at k (clients_in a.running) ++ one ∷ []) (heard_at k (clients_in a.running)) (replies_to k s.frames)) (sym now)
+        (kept_same told_here (requests_to k inputs) (waiting_at x1) (record x { is_asked = true }) (record x1 { is_asked = true }) (said_at k (clients_in a.running) ++ one ∷ [])
         (heard_at k (clients_in a.running)) (replies_to k s.frames) (record { name = same.name; node = same.node; port = same.port; asked = refl; replied = same.replied })
-        (kept_hands (port_at x) (is_lost_at x.node told_here.lost) (requests_to k inputs) (waiting_at x) x.is_asked x.replied (said_at k (clients_in a.running))
+        (kept_hands (port_at x) (known_at x.node told_here) (requests_to k inputs) (waiting_at x) x.is_asked x.replied (said_at k (clients_in a.running))
         (heard_at k (clients_in a.running)) (replies_to k s.frames) was_here one (waiting_at x1) front (lost_told given told_here a k x false low value there s.knows)
-        (asked_told a k x false low value idle) turn))))))
+        (full_told given told_here a false free s.knows) (asked_told a k x false low value idle) turn))))))
       where
         now : x2 ≡ record x1 { is_asked = true }
         now = is ∙ ap (λ (desk : Desk). record desk { is_asked = true }) (again ∙ get_or-set_same a.desks k x1 y low)
@@ -410,11 +434,11 @@ module _ (given : Config) (first before : Option (List ℕ)) (inputs : List Inpu
     back_served x1 y x2 command front same again back same2 kept rest =
         subst (λ (desks : List Desk). Serves given first inputs (record a { running = running; desks = desks }) before) (sym (set-set a.desks k x1 x2))
         (unreplied_so given first before inputs told_here a k x low value s running x2 (beside_only k a.running running only) (same_port x x2 all)
-        (subst (λ (all : List Asked). IsKeptAt told_here.lost (requests_to k inputs) x2 all (heard_at k (clients_in running)) (replies_to k s.frames)) (sym said)
-        (subst (λ (all : List Answer). IsKeptAt told_here.lost (requests_to k inputs) x2 (said_at k (clients_in a.running)) all (replies_to k s.frames)) (sym heard)
-        (subst (λ (waiting : List Command). IsKept (port_at x2) (is_lost_at x2.node told_here.lost) (requests_to k inputs) waiting x2.is_asked x2.replied (said_at k (clients_in a.running))
+        (subst (λ (all : List Asked). IsKeptAt told_here (requests_to k inputs) x2 all (heard_at k (clients_in running)) (replies_to k s.frames)) (sym said)
+        (subst (λ (all : List Answer). IsKeptAt told_here (requests_to k inputs) x2 (said_at k (clients_in a.running)) all (replies_to k s.frames)) (sym heard)
+        (subst (λ (waiting : List Command). IsKept (port_at x2) (known_at x2.node told_here) (requests_to k inputs) waiting x2.is_asked x2.replied (said_at k (clients_in a.running))
         (heard_at k (clients_in a.running)) (replies_to k s.frames)) (sym waits)
-        (kept_same told_here.lost (requests_to k inputs) (waiting_at x) x x2 (said_at k (clients_in a.running)) (heard_at k (clients_in a.running)) (replies_to k s.frames) all was_here)))))
+        (kept_same told_here (requests_to k inputs) (waiting_at x) x x2 (said_at k (clients_in a.running)) (heard_at k (clients_in a.running)) (replies_to k s.frames) all was_here)))))
       where
         is : y ≡ x1
         is = again ∙ get_or-set_same a.desks k x1 y low
@@ -437,47 +461,47 @@ module _ (given : Config) (first before : Option (List ℕ)) (inputs : List Inpu
         heard : heard_at k (clients_in running) ≡ heard_at k (clients_in a.running)
         heard = same_at polled (clients_in a.running) (clients_in running) k low_client only.count rest
 
-  -- that the node is lost was replied to the request that is with it
-  pub loss_served : (after : Option (List ℕ)) → asked_at k a.desks ≡ true → is_known_lost (node_at k a.desks) a.nodes ≡ true → reply_at before after x (node_lost_term x.name)
+  -- why it has no answer was replied to the request that is with the node
+  pub closed_served : (after : Option (List ℕ)) (one : Ending) → asked_at k a.desks ≡ true → IsDueAt a k true one → reply_at before after x (ending_term x.name one)
       → Serves given first inputs (record a { desks = set a.desks k (replied_at x) }) after
-  loss_served after busy gone wrote =
-      let reply = reply_written (port_at x) (node_lost_term x.name) before after x.replied (length (replies_to k s.frames)) was_here.count wrote in
+  closed_served after one busy due wrote =
+      let reply = reply_written (port_at x) (ending_term x.name one) before after x.replied (length (replies_to k s.frames)) was_here.count wrote in
       replied_so given first before inputs told_here a k x low value s a.running (replied_at x) (beside_itself k a.running) refl after reply.0 reply.2
-      (kept_loses (port_at x) (is_lost_at x.node told_here.lost) (requests_to k inputs) (waiting_at x) x.is_asked x.replied (said_at k (clients_in a.running)) (heard_at k (clients_in a.running))
-      (replies_to k s.frames) was_here reply.0 (lost_told given told_here a k x true low value gone s.knows) (asked_told a k x true low value busy) reply.1)
+      (kept_closes (port_at x) (known_at x.node told_here) (requests_to k inputs) (waiting_at x) x.is_asked x.replied (said_at k (clients_in a.running)) (heard_at k (clients_in a.running))
+      (replies_to k s.frames) was_here one reply.0 (asked_told a k x true low value busy) (due_told given told_here a k x true one low value s.knows due) reply.1)
 
   -- or to the next that waits
-  pub refusal_served : (after : Option (List ℕ)) (x1 y : Desk) (command : Command) → waiting_at x ≡ command ∷ waiting_at x1 → SameDesk x x1 → y ≡ get_or (set a.desks k x1) k y
-      → asked_at k a.desks ≡ false → is_known_lost (node_at k a.desks) a.nodes ≡ true → reply_at before after y (node_lost_term y.name)
+  pub refusal_served : (after : Option (List ℕ)) (one : Ending) (x1 y : Desk) (command : Command) → waiting_at x ≡ command ∷ waiting_at x1 → SameDesk x x1 → y ≡ get_or (set a.desks k x1) k y
+      → asked_at k a.desks ≡ false → IsDueAt a k false one → reply_at before after y (ending_term y.name one)
       → Serves given first inputs (record a { desks = set (set a.desks k x1) k (replied_at y) }) after
-  refusal_served after x1 y command front same again idle gone wrote =
+  refusal_served after one x1 y command front same again idle due wrote =
       subst (λ (desks : List Desk). Serves given first inputs (record a { desks = desks }) after) (sym (set-set a.desks k x1 (replied_at y)))
       (subst (λ (desk : Desk). Serves given first inputs (record a { desks = set a.desks k (replied_at desk) }) after) (sym is)
       (replied_so given first before inputs told_here a k x low value s a.running (replied_at x1) (beside_itself k a.running) (same_port x x1 same) after reply.0 reply.2
-      (kept_same told_here.lost (requests_to k inputs) (waiting_at x1) (replied_at x) (replied_at x1) (said_at k (clients_in a.running)) (heard_at k (clients_in a.running))
+      (kept_same told_here (requests_to k inputs) (waiting_at x1) (replied_at x) (replied_at x1) (said_at k (clients_in a.running)) (heard_at k (clients_in a.running))
       (replies_to k s.frames ++ reply.0 ∷ []) (replied_same x x1 same)
-      (kept_refuses (port_at x) (is_lost_at x.node told_here.lost) (requests_to k inputs) (waiting_at x) x.is_asked x.replied (said_at k (clients_in a.running)) (heard_at k (clients_in a.running))
-      (replies_to k s.frames) was_here command (waiting_at x1) reply.0 front (lost_told given told_here a k x true low value gone s.knows) (asked_told a k x false low value idle) reply.1))))
+      (kept_refuses (port_at x) (known_at x.node told_here) (requests_to k inputs) (waiting_at x) x.is_asked x.replied (said_at k (clients_in a.running)) (heard_at k (clients_in a.running))
+      (replies_to k s.frames) was_here one command (waiting_at x1) reply.0 front (asked_told a k x false low value idle) (due_told given told_here a k x false one low value s.knows due) reply.1))))
     where
       is : y ≡ x1
       is = again ∙ get_or-set_same a.desks k x1 y low
 
-      here : reply_at before after x (node_lost_term x.name)
+      here : reply_at before after x (ending_term x.name one)
       here =
-          subst (λ n. WritesReply before after x.name x.port (saturated (n + 1)) (node_lost_term x.name)) (ap (λ (desk : Desk). desk.replied) is ∙ same.replied)
-          (subst (λ port. WritesReply before after x.name port (saturated (y.replied + 1)) (node_lost_term x.name)) (ap (λ (desk : Desk). desk.port) is ∙ same.port)
-          (subst (λ (name : List ℕ). WritesReply before after name y.port (saturated (y.replied + 1)) (node_lost_term name)) (ap (λ (desk : Desk). desk.name) is ∙ same.name) wrote))
+          subst (λ n. WritesReply before after x.name x.port (saturated (n + 1)) (ending_term x.name one)) (ap (λ (desk : Desk). desk.replied) is ∙ same.replied)
+          (subst (λ port. WritesReply before after x.name port (saturated (y.replied + 1)) (ending_term x.name one)) (ap (λ (desk : Desk). desk.port) is ∙ same.port)
+          (subst (λ (name : List ℕ). WritesReply before after name y.port (saturated (y.replied + 1)) (ending_term name one)) (ap (λ (desk : Desk). desk.name) is ∙ same.name) wrote))
 
-      reply : (term : Term) × IsReply (port_at x) (length (replies_to k s.frames) + 1) (node_lost_term x.name) term × Appends before after (framed term)
-      reply = reply_written (port_at x) (node_lost_term x.name) before after x.replied (length (replies_to k s.frames)) was_here.count here
+      reply : (term : Term) × IsReply (port_at x) (length (replies_to k s.frames) + 1) (ending_term x.name one) term × Appends before after (framed term)
+      reply = reply_written (port_at x) (ending_term x.name one) before after x.replied (length (replies_to k s.frames)) was_here.count here
 
   -- the desk was looked at
   pub looked_served : (x2 : Desk) → waiting_at x2 ≡ waiting_at x → SameDesk x x2 → Serves given first inputs (record a { desks = set a.desks k x2 }) before
   looked_served x2 waits same =
       unreplied_so given first before inputs told_here a k x low value s a.running x2 (beside_itself k a.running) (same_port x x2 same)
-      (subst (λ (waiting : List Command). IsKept (port_at x2) (is_lost_at x2.node told_here.lost) (requests_to k inputs) waiting x2.is_asked x2.replied (said_at k (clients_in a.running))
+      (subst (λ (waiting : List Command). IsKept (port_at x2) (known_at x2.node told_here) (requests_to k inputs) waiting x2.is_asked x2.replied (said_at k (clients_in a.running))
       (heard_at k (clients_in a.running)) (replies_to k s.frames)) (sym waits)
-      (kept_same told_here.lost (requests_to k inputs) (waiting_at x) x x2 (said_at k (clients_in a.running)) (heard_at k (clients_in a.running)) (replies_to k s.frames) same was_here))
+      (kept_same told_here (requests_to k inputs) (waiting_at x) x x2 (said_at k (clients_in a.running)) (heard_at k (clients_in a.running)) (replies_to k s.frames) same was_here))
 
   -- a request waits for its turn
   pub request_served : (x2 : Desk) (command : Command) (bodies : ℕ) → bodies ≡ saturated (a.bodies + 1) → waiting_at x2 ≡ waiting_at x ++ command ∷ [] → SameDesk x x2
@@ -498,11 +522,11 @@ module _ (given : Config) (first before : Option (List ℕ)) (inputs : List Inpu
         wrote = s.wrote;
         addressed = subst (λ n. All (λ (frame : Written). IsAddressed n frame.client) s.frames) (sym (length-set a.desks k x2)) s.addressed;
         notices = s.notices;
-        kept = kept_step told_here.lost inputs (inputs ++ forms.Ask k command ∷ []) a.desks (clients_in a.running) (clients_in a.running) s.frames s.frames k x2 low
+        kept = kept_step told_here inputs (inputs ++ forms.Ask k command ∷ []) a.desks (clients_in a.running) (clients_in a.running) s.frames s.frames k x2 low
             (λ i n. unasked inputs (forms.Ask k command) i (not_asked_of k i command n)) (λ i n. refl) (λ i n. refl) (λ i n. refl)
-            (subst (λ (requests : List Command). IsKeptAt told_here.lost requests x2 (said_at k (clients_in a.running)) (heard_at k (clients_in a.running)) (replies_to k s.frames)) (sym (asked_of inputs k command))
-            (kept_same told_here.lost (requests_to k inputs ++ command ∷ []) (waiting_at x2) x x2 (said_at k (clients_in a.running)) (heard_at k (clients_in a.running)) (replies_to k s.frames) same
-            (kept_waits (port_at x) (is_lost_at x.node told_here.lost) (requests_to k inputs) (waiting_at x) x.is_asked x.replied (said_at k (clients_in a.running))
+            (subst (λ (requests : List Command). IsKeptAt told_here requests x2 (said_at k (clients_in a.running)) (heard_at k (clients_in a.running)) (replies_to k s.frames)) (sym (asked_of inputs k command))
+            (kept_same told_here (requests_to k inputs ++ command ∷ []) (waiting_at x2) x x2 (said_at k (clients_in a.running)) (heard_at k (clients_in a.running)) (replies_to k s.frames) same
+            (kept_waits (port_at x) (known_at x.node told_here) (requests_to k inputs) (waiting_at x) x.is_asked x.replied (said_at k (clients_in a.running))
             (heard_at k (clients_in a.running)) (replies_to k s.frames) was_here command (waiting_at x2) waits)))
             s.kept;
       })
@@ -514,6 +538,26 @@ module _ (given : Config) (first before : Option (List ℕ)) (inputs : List Inpu
       counted = ap (λ (here : Bool). if here then record told_here { bodies = told_here.bodies + 1 } else tell_bad told_here) (lt-ltb k (length (ports_in 0 given)) within)
 
 -- ---- other inputs
+
+-- once a clock was full the input is over for that reason
+full_stays : (over : Option (Option ℕ)) (fault : Option ℕ) → is_full_end over ≡ true → is_full_end (over_by over fault) ≡ true
+full_stays over fault full = ap (λ (here : Bool). is_full_end (if here then over else Some fault)) full ∙ full
+
+pub full_at_last : (over : Option (Option ℕ)) → is_full_end (over_by over (Some 30)) ≡ true
+full_at_last over = go (is_full_end over) refl
+  where
+    go : (here : Bool) → is_full_end over ≡ here → is_full_end (over_by over (Some 30)) ≡ true
+    go true e = full_stays over (Some 30) e
+    go false e = ap (λ (here : Bool). is_full_end (if here then over else Some (Some 30))) e
+
+-- it is over for that reason alone
+pub full_is : (over : Option (Option ℕ)) → is_full_end over ≡ true → over ≡ Some (Some 30)
+full_is None e = absurd (true_is_not_false (sym e))
+full_is (Some None) e = absurd (true_is_not_false (sym e))
+full_is (Some (Some number)) e = elim (eqb_tells number 30) [
+  | inl t ↦ ap (λ (n : ℕ). Some (Some n)) t.1
+  | inr f ↦ absurd (true_is_not_false (sym e ∙ f.0))
+]
 
 module _ (given : Config) (first before : Option (List ℕ)) (inputs : List Input) (a : View) (s : Serves given first inputs a before) where
   abbrev told_now : InputsSeen
@@ -538,7 +582,7 @@ module _ (given : Config) (first before : Option (List ℕ)) (inputs : List Inpu
         wrote = wrote_more first before after s.frames frame s.wrote wrote;
         addressed = addressed_more (length a.desks) (length a.desks) s.frames frame refl tt s.addressed;
         notices = notices-append s.frames (frame ∷ []) ∙ ap (λ (terms : List Term). terms ++ frame.term ∷ []) s.notices ∙ ap (λ (term : Term). told_now.notices ++ term ∷ []) same;
-        kept = kept_all told_now.lost told_now.lost inputs (inputs ++ input ∷ []) a.desks (clients_in a.running) (clients_in a.running) s.frames (s.frames ++ frame ∷ []) (λ node gone. gone)
+        kept = kept_all told_now (tell_bad told_now) inputs (inputs ++ input ∷ []) a.desks (clients_in a.running) (clients_in a.running) s.frames (s.frames ++ frame ∷ []) (still_known told_now)
             (λ i low. unasked inputs input i (nothing i low)) (λ i. refl) (λ i. refl) (λ i. to_nobody s.frames i frame.term) s.kept;
       })
     where
@@ -592,8 +636,8 @@ module _ (given : Config) (first before : Option (List ℕ)) (inputs : List Inpu
         wrote = wrote_more first before after s.frames frame s.wrote wrote;
         addressed = addressed_more (length a.desks) (length a.desks) s.frames frame refl tt s.addressed;
         notices = notices-append s.frames (frame ∷ []) ∙ ap (λ (terms : List Term). terms ++ frame.term ∷ []) s.notices ∙ ap (λ (name : List ℕ). told_now.notices ++ lost_term name ∷ []) named;
-        kept = kept_all told_now.lost (set told_now.lost node true) inputs (inputs ++ forms.Lose node ∷ []) a.desks (clients_in a.running) (clients_in running) s.frames (s.frames ++ frame ∷ [])
-            (λ other gone. later other gone (cases_eq other node)) (λ i low. unasked inputs (forms.Lose node) i refl) (λ i. ap (said_at i) clients) (λ i. ap (heard_at i) clients)
+        kept = kept_all told_now (tell_lost given node told_now) inputs (inputs ++ forms.Lose node ∷ []) a.desks (clients_in a.running) (clients_in running) s.frames (s.frames ++ frame ∷ [])
+            (λ other. (λ gone. later other gone (cases_eq other node), λ full. full)) (λ i low. unasked inputs (forms.Lose node) i refl) (λ i. ap (said_at i) clients) (λ i. ap (heard_at i) clients)
             (λ i. to_nobody s.frames i frame.term) s.kept;
       })
     where
@@ -629,10 +673,10 @@ module _ (given : Config) (first before : Option (List ℕ)) (inputs : List Inpu
   ]
 
   -- the input is over
-  pub end_served : (input : Input) (fault : Option ℕ) → tell_next given told_now input ≡ record told_now { over = Some fault } → ((i : ℕ) → request_to i input ≡ [])
-      → Serves given first (inputs ++ input ∷ []) (record a { over = Some fault }) before
+  pub end_served : (input : Input) (fault : Option ℕ) → tell_next given told_now input ≡ record told_now { over = over_by told_now.over fault } → ((i : ℕ) → request_to i input ≡ [])
+      → Serves given first (inputs ++ input ∷ []) (record a { over = over_by a.over fault }) before
   end_served input fault is nothing =
-      takes_by given first before inputs input (record a { over = Some fault }) (record told_now { over = Some fault }) (sym is)
+      takes_by given first before inputs input (record a { over = over_by a.over fault }) (record told_now { over = over_by told_now.over fault }) (sym is)
       (record {
         knows = record {
           config = s.knows.config;
@@ -641,12 +685,12 @@ module _ (given : Config) (first before : Option (List ℕ)) (inputs : List Inpu
           bodies = s.knows.bodies;
           lost = s.knows.lost;
           known = s.knows.known;
-          over = refl;
+          over = ap (λ over. over_by over fault) s.knows.over;
         };
         frames = s.frames;
         wrote = s.wrote;
         addressed = s.addressed;
         notices = s.notices;
-        kept = kept_all told_now.lost told_now.lost inputs (inputs ++ input ∷ []) a.desks (clients_in a.running) (clients_in a.running) s.frames s.frames (λ node gone. gone)
-            (λ i low. unasked inputs input i (nothing i)) (λ i. refl) (λ i. refl) (λ i. refl) s.kept;
+        kept = kept_all told_now (record told_now { over = over_by told_now.over fault }) inputs (inputs ++ input ∷ []) a.desks (clients_in a.running) (clients_in a.running) s.frames s.frames
+            (λ node. (λ gone. gone, λ full. full_stays told_now.over fault full)) (λ i low. unasked inputs input i (nothing i)) (λ i. refl) (λ i. refl) (λ i. refl) s.kept;
       })

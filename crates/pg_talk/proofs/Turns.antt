@@ -16,13 +16,14 @@ use Rattle.pg_cluster.specs.ClientsLaws.{slot_in_on}
 use Rattle.pg_cluster.specs.PgStep.Config.{Config}
 use Rattle.pg_term.specs.declared.term.Term.{Term}
 use Rattle.pg_node_requests.specs.declared.input.Input.{Input}
-use Rattle.pg_node_requests.specs.Replies.{node_lost_term}
 use Rattle.pg_talk.specs.declared.service.desk.Desk.{Desk}
+use Rattle.pg_talk.specs.declared.service.ending.Ending.{Ending}
 use Rattle.pg_talk.specs.declared.service.serving.Serving.{Serving}
 use Rattle.pg_talk.specs.Conversations.{saturated}
 use Rattle.pg_talk.specs.Frames.{WritesReply}
-use Rattle.pg_talk.specs.Servings.{Advances, CameSince, ServingGoes, RepliesLost, RepliesNext, Serves, ServesOne, asked_at}
+use Rattle.pg_talk.specs.Servings.{Advances, CameSince, RepliesEnding, RepliesNext, Serves, ServesOne, ServingGoes, asked_at}
 use Rattle.pg_talk.specs.Servings.{desks_of, is_known_lost, kept_in, lost_at, nodes_of, replied_at, view_of}
+use Rattle.pg_talk.specs.Written.{ending_term}
 
 pub on_ok : {T E : Type 0} (r : Result T E) (P Q : Type 0) → OnOk r P → (P → Q) → OnOk r Q
 on_ok (Ok t) P Q p f = f p
@@ -33,6 +34,23 @@ goes_itself a x = record { kept = refl; goes = λ given first inputs s. s }
 
 pub goes_then : (a b c : Serving) (x y z : Option (List ℕ)) → ServingGoes a b x y → ServingGoes b c y z → ServingGoes a c x z
 goes_then a b c x y z one two = record { kept = two.kept ∙ one.kept; goes = λ given first inputs s. two.goes given first inputs (one.goes given first inputs s) }
+
+-- what was written is passed on
+pub goes_flushed : (a b : Serving) (x y : Option (List ℕ)) → view_of b ≡ view_of a → b.kept ≡ a.kept → Keeps x y → ServingGoes a b x y
+goes_flushed a b x y view kept keeps = record {
+  kept = kept;
+  goes = λ given before inputs s. subst (λ seen. Serves given before inputs seen y) (sym view) (record {
+    knows = s.knows;
+    frames = s.frames;
+    wrote = appends_kept before x y _ s.wrote keeps;
+    addressed = s.addressed;
+    notices = s.notices;
+    kept = s.kept;
+  });
+}
+
+pub goes_passed_on : (a b c : Serving) (x y z : Option (List ℕ)) → ServingGoes a b x y → view_of c ≡ view_of b → c.kept ≡ b.kept → Keeps y z → ServingGoes a c x z
+goes_passed_on a b c x y z one view kept keeps = goes_then a b c x y z one (goes_flushed b c y z view kept keeps)
 
 -- to what is seen so
 pub goes_to : (a b : Serving) (x y : Option (List ℕ)) → b.kept ≡ a.kept → ((given : Config) (first : Option (List ℕ)) (inputs : List Input) → Serves given first inputs (view_of a) x → Serves given first inputs (view_of b) y) → ServingGoes a b x y
@@ -139,15 +157,15 @@ replied_by a b k x x2 x3 number reply before after low value next is again view 
     now : x2 ≡ replied_at x
     now = is ∙ ap (λ (n : ℕ). record x { is_asked = false; replied = n }) next
 
--- the reply was that the node of a desk is lost
-pub lost_by : (a b : Serving) (k : ℕ) (x : Desk) (reply : Term) (before after : Option (List ℕ)) → k < length (desks_of a) → x ≡ get_or (desks_of a) k x → reply ≡ node_lost_term x.name
-    → RepliesNext k reply a b before after → RepliesLost k a b before after
-lost_by a b k x reply before after low value is next = record {
+-- the reply was why a request of a desk has no answer
+pub ending_by : (a b : Serving) (k : ℕ) (x : Desk) (one : Ending) (reply : Term) (before after : Option (List ℕ)) → k < length (desks_of a) → x ≡ get_or (desks_of a) k x → reply ≡ ending_term x.name one
+    → RepliesNext k reply a b before after → RepliesEnding k one a b before after
+ending_by a b k x one reply before after low value is next = record {
   desk = next.desk;
   was = next.was;
   view = next.view;
   kept = next.kept;
-  wrote = subst (λ (term : Term). WritesReply before after next.desk.name next.desk.port (saturated (next.desk.replied + 1)) term) (is ∙ ap (λ (desk : Desk). node_lost_term desk.name) same) next.wrote;
+  wrote = subst (λ (term : Term). WritesReply before after next.desk.name next.desk.port (saturated (next.desk.replied + 1)) term) (is ∙ ap (λ (desk : Desk). ending_term desk.name one) same) next.wrote;
 }
   where
     same : x ≡ next.desk

@@ -1,6 +1,6 @@
 -- A service at its start and at its end.
 use Rattle.std.proofs.Common.{◌≡◌, ◌<◌, ◌+◌, ℕ, Bool, true, false, not, List, [], ◌∷◌, ◌++◌, length}
-use Rattle.std.proofs.Common.{get_or, map, Some, None, Option, refl, sym, ap, subst, ◌∙◌, arith}
+use Rattle.std.proofs.Common.{get_or, map, Some, None, Option, inl, inr, refl, sym, ap, subst, ◌∙◌, arith}
 use Rattle.std.specs.Prelude.{◌&&◌, ◌||◌, cond, nat_lt}
 use Rattle.std.specs.List.{All, list_all}
 use Rattle.std.proofs.Props.{props}
@@ -19,22 +19,25 @@ use Rattle.pg_term.specs.declared.term.Term.{Term}
 use Rattle.pg_cluster.specs.declared.running.Running.{Running}
 use Rattle.pg_cluster.specs.Members.{is_lost, thread_of}
 use Rattle.pg_cluster.specs.PgClusterJudges.Schedule.{NobodyLost}
+use Rattle.pg_cluster.specs.PgRing.Slots.{taken}
 use Rattle.pg_cluster.specs.Running.{clients_in, config_in, losses_in, threads_in}
 use Rattle.pg_cluster.specs.Threads.{AreMade, begun_by}
 use Rattle.pg_node_requests.specs.declared.input.Input.{Input}
 use Rattle.pg_node_requests.specs.declared.input.Input.TheVariants as forms
 use Rattle.pg_node_requests.specs.Layouts.{layout_of}
 use Rattle.pg_talk.specs.declared.service.desk.Desk.{Desk}
+use Rattle.pg_talk.specs.declared.service.reader.Reader.{Reader}
 use Rattle.pg_talk.specs.declared.service.run.Served.{Served}
+use Rattle.pg_talk.specs.Readers.{IsPaired, Reads}
 use Rattle.pg_talk.specs.declared.service.serving.ServedNode.{ServedNode}
 use Rattle.pg_talk.specs.Desks.{is_idle, is_none, waiting_at}
 use Rattle.pg_talk.specs.Readings.{AreRead}
-use Rattle.pg_talk.specs.Services.{WasServed}
+use Rattle.pg_talk.specs.Services.{CameOf, WasServed}
 use Rattle.pg_talk.specs.Servings.{IsKept, IsKeptAt, IsNew, Serves, View, known_lost}
 use Rattle.pg_talk.specs.Servings.{names_of, port_at, ports_of, with_node}
 use Rattle.pg_talk.specs.Verdicts.{IsJudged}
-use Rattle.pg_talk.specs.Written.{AllServed, IsAddressed, IsServed, PortName, InputsSeen, Written}
-use Rattle.pg_talk.specs.Written.{heard_at, is_lost_at, none_told, ports_in, replies_to, requests_to}
+use Rattle.pg_talk.specs.Written.{AllServed, InputsSeen, IsAddressed, IsServed, Known, PortName, Written}
+use Rattle.pg_talk.specs.Written.{heard_at, known_at, none_told, ports_in, replies_to, requests_to}
 use Rattle.pg_talk.specs.Written.{said_at, tell_bad, tell_lost, tell_next, tell_on, told_by}
 use Rattle.pg_talk.proofs.BodiesRead.{ends, has_end, read_whole}
 use Rattle.pg_talk.proofs.InputsGoOn.{goes_on}
@@ -61,11 +64,11 @@ none_lost (one ∷ lost) (start ∷ starts) n nobody =
     ap (λ (first : Bool). first ∷ lost) (nobody 0 one (omega arith))
     ∙ ap (λ (rest : List Bool). false ∷ rest) (none_lost lost starts (omega (arith, n)) (All-tail (λ (one : Bool). one ≡ false) one lost nobody))
 
-kept_at_first : (lost : List Bool) (desk : Desk) → IsNew desk → IsKeptAt lost [] desk [] [] []
-kept_at_first lost desk new =
-    subst (λ (waiting : List Command). IsKept (port_at desk) (is_lost_at desk.node lost) [] waiting desk.is_asked desk.replied [] [] []) (sym new.empty)
-    (subst (λ (now : Bool). IsKept (port_at desk) (is_lost_at desk.node lost) [] [] now desk.replied [] [] []) (sym new.idle)
-    (subst (λ n. IsKept (port_at desk) (is_lost_at desk.node lost) [] [] false n [] [] []) (sym new.replied) (kept_new (port_at desk) (is_lost_at desk.node lost))))
+kept_at_first : (told : InputsSeen) (desk : Desk) → IsNew desk → IsKeptAt told [] desk [] [] []
+kept_at_first told desk new =
+    subst (λ (waiting : List Command). IsKept (port_at desk) (known_at desk.node told) [] waiting desk.is_asked desk.replied [] [] []) (sym new.empty)
+    (subst (λ (now : Bool). IsKept (port_at desk) (known_at desk.node told) [] [] now desk.replied [] [] []) (sym new.idle)
+    (subst (λ n. IsKept (port_at desk) (known_at desk.node told) [] [] false n [] [] []) (sym new.replied) (kept_new (port_at desk) (known_at desk.node told))))
 
 pub served_at_first : (given : Config) (before : Option (List ℕ)) (running : Running) (desks : List Desk) (nodes : List ServedNode) → (config_in running).starts.items ≡ given
     → ports_of desks ≡ ports_in 0 given → All IsNew desks → names_of nodes ≡ map (λ start. start.name) given → known_lost nodes ≡ map (λ start. false) given → NobodyLost (losses_in running)
@@ -85,11 +88,11 @@ served_at_first given before running desks nodes config ports new names there no
   addressed = All-nil (λ (frame : Written). IsAddressed (length desks) frame.client);
   notices = refl;
   kept = λ client none low.
-      subst (λ (all : List Asked). IsKeptAt (map (λ (start : Start). false) given) [] (get_or desks client none) all (heard_at client (clients_in running)) [])
+      subst (λ (all : List Asked). IsKeptAt (none_told given) [] (get_or desks client none) all (heard_at client (clients_in running)) [])
       (sym (silent_at submitted (clients_in running) client (λ k one within. (silent k one within).submitted)))
-      (subst (λ (all : List Answer). IsKeptAt (map (λ (start : Start). false) given) [] (get_or desks client none) [] all [])
+      (subst (λ (all : List Answer). IsKeptAt (none_told given) [] (get_or desks client none) [] all [])
       (sym (silent_at polled (clients_in running) client (λ k one within. (silent k one within).polled)))
-      (kept_at_first (map (λ (start : Start). false) given) (get_or desks client none) (new client none low)));
+      (kept_at_first (none_told given) (get_or desks client none) (new client none low)));
 }
 
 -- ---- at the end
@@ -107,11 +110,11 @@ idle_at desks i d low all = go (is_idle (get_or desks i d)) refl
     go true e = e
     go false e = absurd (true_is_not_false (sym all ∙ list_all_at is_idle desks i d low e))
 
-served_whole : (port : PortName) (lost : Bool) (requests waiting : List Command) (asked : Bool) (replied : ℕ) (said : List Asked) (heard : List Answer) (replies : List Term) → asked ≡ false → waiting ≡ []
-    → IsKept port lost requests waiting asked replied said heard replies → IsServed port lost requests 0 said heard replies
-served_whole port lost requests waiting asked replied said heard replies idle empty k =
-    subst (λ (all : List Command). IsServed port lost all 0 said heard replies) (sym (k.line ∙ ap (λ (cs : List Command). k.up ++ cs) empty ∙ append-nil k.up))
-    (subst (λ n. IsServed port lost k.up n said heard replies) (ap with_node idle) k.served)
+served_whole : (port : PortName) (known : Known) (requests waiting : List Command) (asked : Bool) (replied : ℕ) (said : List Asked) (heard : List Answer) (replies : List Term) → asked ≡ false → waiting ≡ []
+    → IsKept port known requests waiting asked replied said heard replies → IsServed port known requests 0 said heard replies
+served_whole port known requests waiting asked replied said heard replies idle empty k =
+    subst (λ (all : List Command). IsServed port known all 0 said heard replies) (sym (k.line ∙ ap (λ (cs : List Command). k.up ++ cs) empty ∙ append-nil k.up))
+    (subst (λ n. IsServed port known k.up n said heard replies) (ap with_node idle) k.served)
 
 pub all_served : (given : Config) (before after : Option (List ℕ)) (inputs : List Input) (view : View) → list_all is_idle view.desks ≡ true → Serves given before inputs view after
     → AllServed given inputs (clients_in view.running) before after
@@ -127,15 +130,15 @@ all_served given before after inputs view idle s = record {
     count = sym (length-map view.desks port_at) ∙ ap length s.knows.ports
 
     ports : (client : ℕ) (none : PortName) → client < length (ports_in 0 given) → (port : PortName) → port ≡ get_or (ports_in 0 given) client none
-        → IsServed port (is_lost_at port.node (told_by given inputs).lost) (requests_to client inputs) 0 (said_at client (clients_in view.running)) (heard_at client (clients_in view.running)) (replies_to client s.frames)
+        → IsServed port (known_at port.node (told_by given inputs)) (requests_to client inputs) 0 (said_at client (clients_in view.running)) (heard_at client (clients_in view.running)) (replies_to client s.frames)
     ports client none low port is =
         let within : client < length view.desks = omega (arith, low, count) in
         let some = some_desk view.desks client within in
         let desk = get_or view.desks client some in
         let parts = idle_parts desk.is_asked (waiting_at desk) (idle_at view.desks client some within idle) in
         let named : port_at desk ≡ port = sym (get_or-map port_at view.desks client some none within) ∙ ap (λ (all : List PortName). get_or all client none) s.knows.ports ∙ sym is in
-        subst (λ (one : PortName). IsServed one (is_lost_at one.node (told_by given inputs).lost) (requests_to client inputs) 0 (said_at client (clients_in view.running)) (heard_at client (clients_in view.running)) (replies_to client s.frames)) named
-        (served_whole (port_at desk) (is_lost_at desk.node (told_by given inputs).lost) (requests_to client inputs) (waiting_at desk) desk.is_asked desk.replied
+        subst (λ (one : PortName). IsServed one (known_at one.node (told_by given inputs)) (requests_to client inputs) 0 (said_at client (clients_in view.running)) (heard_at client (clients_in view.running)) (replies_to client s.frames)) named
+        (served_whole (port_at desk) (known_at desk.node (told_by given inputs)) (requests_to client inputs) (waiting_at desk) desk.is_asked desk.replied
         (said_at client (clients_in view.running)) (heard_at client (clients_in view.running)) (replies_to client s.frames) parts.0 parts.1 (s.kept client some within))
 
 -- ---- the input
@@ -166,15 +169,14 @@ over_by_end given [] told fault none some = absurd (cc)
 over_by_end given (input ∷ inputs) told fault none some =
     end_or_later input inputs (λ e. over_by_end given inputs (tell_next given told input) fault (over_kept given told input e ∙ none) some)
 
--- The cluster was closed, and judged so. What came in is the first of what is read, and has its end: it is all.
-pub served_to_the_end : {S : Type 0} (remaining : S → Option (List ℕ)) (fails : S → S → Type 0) (given : Config) (wanted : ℕ) (source before after : Option (List ℕ)) (inputs further : List Input) (view : View)
-    (served : Served) → AreRead remaining fails (layout_of 0 given) wanted source (inputs ++ further) → view.over ≡ Some served.fault → list_all is_idle view.desks ≡ true
+-- The cluster was closed, and judged so, when its input was over by these inputs.
+served_of : {S : Type 0} (remaining : S → Option (List ℕ)) (fails : S → S → Type 0) (given : Config) (wanted : ℕ) (source before after : Option (List ℕ)) (inputs : List Input) (view : View)
+    (served : Served) → CameOf remaining fails (layout_of 0 given) wanted source inputs → view.over ≡ Some served.fault → list_all is_idle view.desks ≡ true
     → IsJudged (config_in view.running).starts.items (losses_in view.running) (threads_in view.running) (clients_in view.running) served.verdict → Serves given before inputs view after
     → WasServed remaining fails given wanted source before after served
-served_to_the_end remaining fails given wanted source before after inputs further view served read over idle judged s = record {
+served_of remaining fails given wanted source before after inputs view served came over idle judged s = record {
   inputs = inputs;
-  read = read_whole (layout_of 0 given) (goes_on (layout_of 0 given)) remaining fails source [] wanted inputs further read
-      (over_by_end given inputs (none_told given) served.fault refl (sym s.knows.over ∙ over));
+  read = came;
   over = sym s.knows.over ∙ over;
   threads = threads_in view.running;
   clients = clients_in view.running;
@@ -182,3 +184,22 @@ served_to_the_end remaining fails given wanted source before after inputs furthe
       (subst (λ (lost : List Bool). IsJudged (config_in view.running).starts.items lost (threads_in view.running) (clients_in view.running) served.verdict) s.knows.lost judged);
   all = all_served given before after inputs view idle s;
 }
+
+-- What came in is the first of what is read, and has its end: it is all.
+pub served_to_the_end : {S : Type 0} (remaining : S → Option (List ℕ)) (fails : S → S → Type 0) (given : Config) (wanted : ℕ) (source before after : Option (List ℕ)) (inputs further : List Input) (view : View)
+    (served : Served) → AreRead remaining fails (layout_of 0 given) wanted source (inputs ++ further) → view.over ≡ Some served.fault → list_all is_idle view.desks ≡ true
+    → IsJudged (config_in view.running).starts.items (losses_in view.running) (threads_in view.running) (clients_in view.running) served.verdict → Serves given before inputs view after
+    → WasServed remaining fails given wanted source before after served
+served_to_the_end remaining fails given wanted source before after inputs further view served read over idle judged s =
+    served_of remaining fails given wanted source before after inputs view served
+    (inl (read_whole (layout_of 0 given) (goes_on (layout_of 0 given)) remaining fails source [] wanted inputs further read
+    (over_by_end given inputs (none_told given) served.fault refl (sym s.knows.over ∙ over)))) over idle judged s
+
+-- A clock was full, and this is all that had come in.
+pub served_until_full : {S : Type 0} (remaining : S → Option (List ℕ)) (fails : S → S → Type 0) (given : Config) (wanted : ℕ) (source before after : Option (List ℕ)) (reader : Reader S) (view : View)
+    (served : Served) → Reads remaining (layout_of 0 given) wanted source reader → IsPaired reader → view.over ≡ Some served.fault → list_all is_idle view.desks ≡ true
+    → IsJudged (config_in view.running).starts.items (losses_in view.running) (threads_in view.running) (clients_in view.running) served.verdict
+    → Serves given before (taken reader.inlet ++ forms.Broken 30 ∷ []) view after → WasServed remaining fails given wanted source before after served
+served_until_full remaining fails given wanted source before after reader view served reads paired over idle judged s =
+    served_of remaining fails given wanted source before after (taken reader.inlet ++ forms.Broken 30 ∷ []) view served
+    (inr (record { reader = reader; reads = reads; paired = paired; came = refl })) over idle judged s

@@ -1,5 +1,5 @@
 -- What a conversation of clients with a cluster came to.
-use Rattle.std.specs.Prelude.{◌≡◌, ℕ, Bool, ◌<◌, ◌+◌, ◌*◌, ◌-◌, ◌^◌, min, List, [], ◌∷◌, ◌++◌, get_or, length, map}
+use Rattle.std.specs.Prelude.{◌≡◌, ℕ, Bool, true, ◌<◌, ◌+◌, ◌*◌, ◌-◌, ◌^◌, min, List, [], ◌∷◌, ◌++◌, get_or, length, map}
 use Rattle.std.specs.List.{All, sum_by}
 use Rattle.pg_cluster.specs.PgNodeRun.Ports.{polled}
 use Rattle.pg_cluster.specs.PgNodeRun.Runs.{generator_of}
@@ -73,3 +73,5 @@ pub record TookPlace (asked : Conversation) (outcome : Outcome) : Type 0 where
   pub spoke : AllSpoke asked.rounds clients
   pub answered_told : outcome.answered ≡ saturated (all_polled clients)
   pub asked_told : outcome.asked ≡ all_commands asked
+  -- where it is told that a clock was full, not all was answered
+  pub full_told : outcome.is_full ≡ true → outcome.answered < outcome.asked

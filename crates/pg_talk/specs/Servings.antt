@@ -12,15 +12,18 @@ use Rattle.pg_cluster.specs.PgStep.declared.answer.Answer.{Answer}
 use Rattle.pg_cluster.specs.PgStep.declared.command.Command.{Command}
 use Rattle.pg_term.specs.declared.term.Term.{Term}
 use Rattle.pg_node_requests.specs.declared.input.Input.{Input}
-use Rattle.pg_node_requests.specs.Replies.{bad_request_term, lost_term, node_lost_term}
+use Rattle.pg_node_requests.specs.declared.input.Input.TheVariants.{Broken}
+use Rattle.pg_node_requests.specs.Replies.{bad_request_term, lost_term}
 use Rattle.pg_talk.specs.declared.service.desk.Desk.{Desk}
+use Rattle.pg_talk.specs.declared.service.ending.Ending.{Ending}
 use Rattle.pg_talk.specs.declared.service.serving.ServedNode.{ServedNode}
 use Rattle.pg_talk.specs.declared.service.serving.Serving.{Serving}
 use Rattle.pg_talk.specs.Conversations.{saturated}
 use Rattle.pg_talk.specs.Desks.{is_idle, waiting_at}
 use Rattle.pg_talk.specs.Frames.{framed, WritesReply}
-use Rattle.pg_talk.specs.Written.{IsAddressed, IsServed, PortName, InputsSeen, Written, bytes_of, heard_at}
-use Rattle.pg_talk.specs.Written.{is_lost_at, notices_in, ports_in, replies_to, requests_to, said_at, told_by}
+use Rattle.pg_talk.specs.Written.{InputsSeen, IsAddressed, IsDue, IsServed, Known, PortName, Written, bytes_of}
+use Rattle.pg_talk.specs.Written.{ending_term, heard_at, is_full_end, known_at, notices_in, ports_in, replies_to}
+use Rattle.pg_talk.specs.Written.{requests_to, said_at, told_by}
 
 -- ---- desks
 
@@ -54,22 +57,22 @@ pub record IsNew (desk : Desk) : Type 0 where
 abbrev pub replied_at : Desk → Desk
 replied_at desk = record desk { is_asked = false; replied = saturated (desk.replied + 1) }
 
--- Of the requests that came to a port the first were taken up, and the others wait. Where a reply told that the node is lost, none is with it.
-pub record IsKept (port : PortName) (is_lost : Bool) (requests waiting : List Command) (is_asked : Bool) (replied : ℕ) (said : List Asked) (heard : List Answer) (replies : List Term) : Type 0 where
+-- Of the requests that came to a port the first were taken up, and the others wait. Where a request was told to have no answer, none is with the node.
+pub record IsKept (port : PortName) (known : Known) (requests waiting : List Command) (is_asked : Bool) (replied : ℕ) (said : List Asked) (heard : List Answer) (replies : List Term) : Type 0 where
   pub up : List Command
   pub line : requests ≡ up ++ waiting
-  pub served : IsServed port is_lost up (with_node is_asked) said heard replies
+  pub served : IsServed port known up (with_node is_asked) said heard replies
   pub count : replied ≡ saturated (length replies)
-  pub closed : is_asked ≡ true → served.losses ≡ 0
+  pub closed : is_asked ≡ true → served.endings ≡ []
 
 -- the same of a desk
-abbrev pub IsKeptAt : List Bool → List Command → Desk → List Asked → List Answer → List Term → Type 0
-IsKeptAt lost requests desk said heard replies = IsKept (port_at desk) (is_lost_at desk.node lost) requests (waiting_at desk) desk.is_asked desk.replied said heard replies
+abbrev pub IsKeptAt : InputsSeen → List Command → Desk → List Asked → List Answer → List Term → Type 0
+IsKeptAt told requests desk said heard replies = IsKept (port_at desk) (known_at desk.node told) requests (waiting_at desk) desk.is_asked desk.replied said heard replies
 
 -- and of all desks
-abbrev pub AreDesksKept : List Bool → List Input → List Desk → List Client → List Written → Type 0
-AreDesksKept lost inputs desks clients frames = (client : ℕ) (none : Desk) → client < length desks
-    → IsKeptAt lost (requests_to client inputs) (get_or desks client none) (said_at client clients) (heard_at client clients) (replies_to client frames)
+abbrev pub AreDesksKept : InputsSeen → List Input → List Desk → List Client → List Written → Type 0
+AreDesksKept told inputs desks clients frames = (client : ℕ) (none : Desk) → client < length desks
+    → IsKeptAt told (requests_to client inputs) (get_or desks client none) (said_at client clients) (heard_at client clients) (replies_to client frames)
 
 -- ---- a service
 
@@ -108,7 +111,7 @@ pub record ServesTold (given : Config) (told : InputsSeen) (first : Option (List
   pub wrote : Appends first now (bytes_of frames)
   pub addressed : All (λ frame. IsAddressed (length view.desks) frame.client) frames
   pub notices : notices_in frames ≡ told.notices
-  pub kept : AreDesksKept told.lost inputs view.desks (clients_in view.running) frames
+  pub kept : AreDesksKept told inputs view.desks (clients_in view.running) frames
 
 abbrev pub Serves : Config → Option (List ℕ) → List Input → View → Option (List ℕ) → Type 0
 Serves given first inputs view now = ServesTold given (told_by given inputs) first inputs view now
@@ -125,6 +128,10 @@ nodes_of serving = serving.nodes.items
 abbrev pub view_of : Serving → View
 view_of serving = record { running = serving.running; desks = serving.desks.items; nodes = serving.nodes.items; bodies = serving.bodies; over = serving.end }
 
+-- a request of a client, which was handed over or not, has no answer for this reason
+abbrev pub IsDueAt : View → ℕ → Bool → Ending → Type 0
+IsDueAt view client handed ending = IsDue (record { lost = is_known_lost (node_at client view.desks) view.nodes; full = is_full_end view.over }) handed ending
+
 -- whether the node of a client is held for lost
 abbrev pub lost_at : ℕ → Serving → Bool
 lost_at client serving = is_known_lost (node_at client (desks_of serving)) (nodes_of serving)
@@ -138,6 +145,11 @@ pub record HasServedAll (given : Config) (first : Option (List ℕ)) (came : Lis
   pub inputs : List Input
   pub whole : came ≡ inputs ++ kept_in serving.kept
   pub serves : Serves given first inputs (view_of serving) now
+
+-- all that came was served, and then that a clock is full; nothing is kept
+pub record HasServedFull (given : Config) (first : Option (List ℕ)) (came : List Input) (serving : Serving) (now : Option (List ℕ)) : Type 0 where
+  pub kept : serving.kept ≡ None
+  pub serves : Serves given first (came ++ Broken 30 ∷ []) (view_of serving) now
 
 -- the input is over, and each request was replied to
 pub record IsOver (serving : Serving) : Type 0 where
@@ -155,6 +167,10 @@ CameSince came kept came2 kept2 = (inputs : List Input) → came ≡ inputs ++ k
 -- what came meanwhile was served
 abbrev pub Advances : Serving → Serving → List Input → List Input → Option (List ℕ) → Option (List ℕ) → Type 0
 Advances a b came came2 before after = (given : Config) (first : Option (List ℕ)) → HasServedAll given first came a before → HasServedAll given first came2 b after
+
+-- and then a clock was full
+abbrev pub EndsFull : Serving → Serving → List Input → List Input → Option (List ℕ) → Option (List ℕ) → Type 0
+EndsFull a b came came2 before after = (given : Config) (first : Option (List ℕ)) → HasServedAll given first came a before → HasServedFull given first came2 b after
 
 -- the same inputs are served still
 pub record ServingGoes (a b : Serving) (before after : Option (List ℕ)) : Type 0 where
@@ -182,9 +198,9 @@ pub record RepliesBy (client : ℕ) (reply : Desk → Term) (a b : Serving) (bef
 abbrev pub RepliesNext : ℕ → Term → Serving → Serving → Option (List ℕ) → Option (List ℕ) → Type 0
 RepliesNext client reply a b before after = RepliesBy client (λ desk. reply) a b before after
 
--- the reply was that the node is lost
-abbrev pub RepliesLost : ℕ → Serving → Serving → Option (List ℕ) → Option (List ℕ) → Type 0
-RepliesLost client a b before after = RepliesBy client (λ desk. node_lost_term desk.name) a b before after
+-- the reply was why the request has no answer
+abbrev pub RepliesEnding : ℕ → Ending → Serving → Serving → Option (List ℕ) → Option (List ℕ) → Type 0
+RepliesEnding client ending a b before after = RepliesBy client (λ desk. ending_term desk.name ending) a b before after
 
 -- a body was counted, and told to ask for nothing
 pub record TellsBad (a b : Serving) (before after : Option (List ℕ)) : Type 0 where

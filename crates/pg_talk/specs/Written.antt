@@ -1,6 +1,6 @@
 -- What a service makes of its input: the replies at each port, and the notices.
 use Rattle.std.specs.Prelude.{◌≡◌, ◌⊎◌, ◌<◌, ◌≤◌, ◌+◌, ℕ, zero, suc, Bool, true, false, cond, nat_eq, nat_lt, List, []}
-use Rattle.std.specs.Prelude.{◌∷◌, ◌++◌, ⊤, Option, Some, None, if◌then◌else◌, get_or, length, map, replicate, set}
+use Rattle.std.specs.Prelude.{◌∷◌, ◌++◌, ⊤, Option, Some, None, if◌then◌else◌, get_or, length, map, set}
 use Rattle.std.specs.Io.KnownBytes.{Appends}
 use Rattle.std.specs.List.{All, flat_map}
 use Rattle.pg_cluster.specs.PgNodeRun.declared.port.Asked.{Asked}
@@ -13,7 +13,9 @@ use Rattle.pg_term.specs.declared.term.Term.{Term}
 use Rattle.pg_node_requests.specs.declared.input.Input.{Input}
 use Rattle.pg_node_requests.specs.declared.input.Input.TheVariants as forms
 use Rattle.pg_node_requests.specs.Replies.{bad_request_term, lost_term, node_lost_term}
-use Rattle.pg_node_requests.specs.Replies.{numbered_term, refused_term, reply_term}
+use Rattle.pg_node_requests.specs.Replies.{numbered_term, refused_term, reply_term, unknown_term}
+use Rattle.pg_talk.specs.declared.service.ending.Ending.{Ending}
+use Rattle.pg_talk.specs.declared.service.ending.Ending.TheVariants.{Lost, Open, Unasked}
 use Rattle.pg_talk.specs.Conversations.{saturated}
 use Rattle.pg_talk.specs.Frames.{framed, IsUntellable}
 
@@ -89,6 +91,16 @@ pub record InputsSeen : Type 0 where
   pub notices : List Term
   pub over : Option (Option ℕ)
 
+-- whether an input was over because a clock was full
+abbrev pub is_full_end : Option (Option ℕ) → Bool
+is_full_end None = false
+is_full_end (Some None) = false
+is_full_end (Some (Some number)) = nat_eq number 30
+
+-- how it is over, where it is over so: once a clock was full, for that reason
+abbrev pub over_by : Option (Option ℕ) → Option ℕ → Option (Option ℕ)
+over_by over fault = if is_full_end over then over else Some fault
+
 -- before the first
 abbrev pub none_told : Config → InputsSeen
 none_told given = record { bodies = 0; lost = map (λ start. false) given; notices = []; over = None }
@@ -110,8 +122,8 @@ abbrev pub tell_next : Config → InputsSeen → Input → InputsSeen
 tell_next given told (forms.Ask client command) = if nat_lt client (length (ports_in 0 given)) then record told { bodies = told.bodies + 1 } else tell_bad told
 tell_next given told (forms.Lose node) = if get_or told.lost node true then tell_bad told else tell_lost given node told
 tell_next given told forms.Bad = tell_bad told
-tell_next given told forms.End = record told { over = Some None }
-tell_next given told (forms.Broken number) = record told { over = Some (Some number) }
+tell_next given told forms.End = record told { over = over_by told.over None }
+tell_next given told (forms.Broken number) = record told { over = over_by told.over (Some number) }
 
 abbrev pub tell_on : Config → InputsSeen → List Input → InputsSeen
 tell_on given told [] = told
@@ -131,9 +143,26 @@ commands_of asked = map (λ one. one.command) asked
 abbrev pub AlternateWithAnswers : List Asked → Type 0
 AlternateWithAnswers asked = (k : ℕ) (none : Asked) → k < length asked → (get_or asked k none).polled ≡ saturated k
 
--- what a port is told: the answers of its node, and then, so many times, that the node was lost
-abbrev pub outcomes : List ℕ → List Answer → ℕ → List Term
-outcomes name heard losses = map (λ answer. reply_term answer.reply) heard ++ replicate losses (node_lost_term name)
+-- what is told of why a request has no answer
+abbrev pub ending_term : List ℕ → Ending → Term
+ending_term name Lost = node_lost_term name
+ending_term name Open = unknown_term 30
+ending_term name Unasked = refused_term 30
+
+-- what a port is told: the answers of its node, and then why the others have none
+abbrev pub outcomes : List ℕ → List Answer → List Ending → List Term
+outcomes name heard endings = map (λ answer. reply_term answer.reply) heard ++ map (ending_term name) endings
+
+-- what is known at a port: whether its node was lost, and whether a clock was full
+pub record Known : Type 0 where
+  pub lost : Bool
+  pub full : Bool
+
+-- a request that was handed over, or not, has no answer for this reason
+abbrev pub IsDue : Known → Bool → Ending → Type 0
+IsDue known handed Lost = known.lost ≡ true
+IsDue known handed Open = (known.full ≡ true) × (handed ≡ true)
+IsDue known handed Unasked = (known.full ≡ true) × (handed ≡ false)
 
 -- the term is this outcome under a number of the port; or, where no frame holds that, that it is refused by the number of a fault
 abbrev pub IsReply : PortName → ℕ → Term → Term → Type 0
@@ -147,18 +176,18 @@ pub record AreReplies (port : PortName) (told replies : List Term) : Type 0 wher
   pub each : (k : ℕ) (none : Term) → k < length told → IsReply port (k + 1) (get_or told k none) (get_or replies k none)
 
 -- What was done with requests at a port, of which so many are still with its node, by what its client said and heard.
-pub record IsServed (port : PortName) (is_lost : Bool) (requests : List Command) (with_node : ℕ) (said : List Asked) (heard : List Answer) (replies : List Term) : Type 0 where
+pub record IsServed (port : PortName) (known : Known) (requests : List Command) (with_node : ℕ) (said : List Asked) (heard : List Answer) (replies : List Term) : Type 0 where
   -- the first of them were handed over, in their order, each once all before it were answered; the others were refused
   pub refused : List Command
   pub handed : requests ≡ commands_of said ++ refused
   pub turns : AlternateWithAnswers said
-  -- what the node answered was replied, in its order and once, and then, that the node was lost, if it was
-  pub losses : ℕ
-  pub lost : 0 < losses → is_lost ≡ true
-  pub replied : AreReplies port (outcomes port.name heard losses) replies
+  -- what the node answered was replied, in its order and once, and then of each other request why it has no answer
+  pub endings : List Ending
+  pub due : (k : ℕ) (none : Ending) → k < length endings → IsDue known (nat_lt (length heard + k) (length said)) (get_or endings k none)
+  pub replied : AreReplies port (outcomes port.name heard endings) replies
   -- each of the others has its reply; none was refused for nothing
   pub each : length requests ≡ length replies + with_node
-  pub few : length refused ≤ losses
+  pub few : length refused ≤ length endings
   pub under_way : length said ≤ length heard + 1
 
 -- ---- all ports
@@ -173,6 +202,10 @@ heard_at client clients = get_or (map polled clients) client []
 abbrev pub is_lost_at : ℕ → List Bool → Bool
 is_lost_at node lost = get_or lost node false
 
+-- what is known at the ports of a node
+abbrev pub known_at : ℕ → InputsSeen → Known
+known_at node told = record { lost = is_lost_at node told.lost; full = is_full_end told.over }
+
 -- What was written for all these inputs, by what the clients said and heard: frames, and nothing else. Each request has one reply at its port.
 -- All other frames are the notices that are due.
 pub record AllServed (given : Config) (inputs : List Input) (clients : List Client) (before after : Option (List ℕ)) : Type 0 where
@@ -181,4 +214,4 @@ pub record AllServed (given : Config) (inputs : List Input) (clients : List Clie
   pub addressed : All (λ frame. IsAddressed (length (ports_in 0 given)) frame.client) frames
   pub notices : notices_in frames ≡ (told_by given inputs).notices
   pub ports : (client : ℕ) (none : PortName) → client < length (ports_in 0 given) → (port : PortName) → port ≡ get_or (ports_in 0 given) client none
-      → IsServed port (is_lost_at port.node (told_by given inputs).lost) (requests_to client inputs) 0 (said_at client clients) (heard_at client clients) (replies_to client frames)
+      → IsServed port (known_at port.node (told_by given inputs)) (requests_to client inputs) 0 (said_at client clients) (heard_at client clients) (replies_to client frames)

@@ -1,6 +1,6 @@
 //! A conversation of clients with a cluster: what the program's `threads` does.
 
-ghost use Rattle.std.specs.Prelude.{◌≡◌, ◌++◌, ℕ, List, IfOk, OnOk, length};
+ghost use Rattle.std.specs.Prelude.{◌≡◌, ◌<◌, ◌++◌, true, ℕ, List, IfOk, OnOk, length};
 ghost use Rattle.std.specs.Io.KnownBytes.{Appends};
 ghost use Rattle.std.specs.List.{All, sum_by};
 ghost use Rattle.pg_cluster.specs.PgNodeRun.Ports.{IsSilent};
@@ -14,7 +14,7 @@ ghost use Rattle.pg_talk.specs.Outcomes.{outcome_lines, replay_line, yes_or_no};
 use crate::onlooker::Onlooker;
 use crate::speaker::Speaker;
 use crate::verdict::{Verdict, close_and_judge};
-use pg_cluster::{Config, MAX_NODES, OpenGate, Rest, Running, Start, StartFault, WorldFault};
+use pg_cluster::{Clocks, Config, MAX_NODES, Rest, Running, Start, StartFault, WorldFault};
 use pg_node_requests::node_name;
 use pg_term::Items;
 use std::alloc::{AllocError, Global};
@@ -39,6 +39,8 @@ pub struct Conversation {
     pub seed: u64,
     /// How many turns each node makes at most, and how often the clients are looked at.
     pub turns: u64,
+    /// How near to 1,073,741,824, where it is full, the clock of a node comes before the conversation ends.
+    pub margin: u32,
 }
 
 impl Conversation {
@@ -75,6 +77,8 @@ pub struct Outcome {
     pub agree: bool,
     /// Whether the steps come to the nodes as they ended: `Closed::replays`.
     pub replay: bool,
+    /// Whether not all was answered, and the clock of a node was full.
+    pub is_full: bool,
 }
 
 impl Outcome {
@@ -146,7 +150,7 @@ fn yes_or_no(holds: bool) -> &'static str
 
 /// Starts a cluster and lets its clients speak. The first client of the first node creates a group. Once that is answered each client
 /// makes a process, and then joins the group and leaves it so many times, each command once the former is answered. The cluster is closed
-/// once all is answered, or after as many looks as there are turns. `asked`: the nodes, their clients, the seed of the pauses of the first
+/// once all is answered, or after as many looks as there are turns, or where the clock of a node comes within the margin of its end. `asked`: the nodes, their clients, the seed of the pauses of the first
 /// node, which is one more for each further node, and the turns. `onlooker` sees at each look how far they are. `clock`: that by which a
 /// node sleeps which finds nothing to do, and who looks at the clients, as `Rest` of pg_cluster says. It may wait for threads.
 ///
@@ -163,24 +167,32 @@ pub fn run_threads<R: Threads, C: Clock + Clone + Drop + Send + 'static, O: Onlo
 ) -> Result<Outcome, StartFault>
     ensures { IfOk result (TookPlace asked) }
 {
-    let config = config_of(alloc, asked)?;
+    let clocks = Clocks::new(alloc, usize::from(asked.nodes))?;
+    let gate = clocks.share()?;
     let theirs: Result<C, AllocError> = clock.clone();
-    let Ok(theirs) = theirs else {
-        drop(config);
-        return Err(StartFault::World(WorldFault::OutOfMemory));
-    };
-    let mut running = Running::start(rt, alloc, config, asked.seed, OpenGate, theirs, asked.turns)?;
-    let heard = converse(alloc, &clock, &mut running, asked, onlooker);
+    let theirs = theirs?;
+    let config = config_of(alloc, asked)?;
+    let mut running = Running::start(rt, alloc, config, asked.seed, gate, theirs, asked.turns)?;
+    let heard = converse(alloc, &clock, &clocks, &mut running, asked, onlooker);
     let verdict = close_and_judge(rt, alloc, running);
     let Verdict { agree, replay } = verdict?;
+    let answered = heard?;
     Ok(Outcome {
         nodes: asked.nodes,
         clients: asked.all_clients(),
-        answered: heard?,
+        answered,
         asked: asked.commands(),
         agree,
         replay,
+        is_full: ends_full(answered, asked.commands(), &clocks, asked.margin),
     })
+}
+
+/// Whether not all was answered, and the clock of a node is full.
+fn ends_full(answered: u64, commands: u64, clocks: &Clocks, margin: u32) -> bool
+    ensures { result ≡ true → answered < commands }
+{
+    answered < commands && clocks.are_full(margin)
 }
 
 /// The nodes `n1`, `n2` and so on, with as many ports as clients.
@@ -207,10 +219,11 @@ fn start_of(alloc: Global, number: u32, ports: u16) -> Result<Start, StartFault>
     })
 }
 
-/// The clients speak until all is answered, or for so many looks; how many commands were answered.
+/// The clients speak until all is answered, or for so many looks, or until a clock is full; how many commands were answered.
 fn converse<C: Clock, O: Onlooker>(
     alloc: Global,
     clock: &C,
+    clocks: &Clocks,
     running: &mut Running,
     asked: Conversation,
     onlooker: &mut O,
@@ -226,7 +239,7 @@ fn converse<C: Clock, O: Onlooker>(
     for _ in 0..asked.turns {
         let moved = speak_all(alloc, running, &mut speakers)?;
         onlooker.look(answered_by(speakers.as_slice()), commands);
-        if speakers.iter().all(|speaker| speaker.is_silent()) {
+        if are_silent(speakers.as_slice()) || clocks.are_full(asked.margin) {
             break;
         }
         if moved {
@@ -236,6 +249,11 @@ fn converse<C: Clock, O: Onlooker>(
         }
     }
     Ok(answered_by(speakers.as_slice()))
+}
+
+/// Whether all is said and answered.
+fn are_silent(speakers: &[Speaker]) -> bool {
+    speakers.iter().all(|speaker| speaker.is_silent())
 }
 
 /// So many clients, of which the first creates the group.

@@ -16,5 +16,5 @@ pub use pg_node_requests::node_names;
 pub use service::fault::ServiceFault;
 pub use service::members::config_of;
 pub use service::run::{Served, serve_cluster};
-pub use service::{MAX_WAITING, Service};
+pub use service::{CLOCK_MARGIN, CLOCK_WAIT, MAX_WAITING, Service};
 pub use verdict::Verdict;

@@ -75,7 +75,7 @@ impl Board {
 }
 
 impl Gate for Watch {
-    fn pass(&self, node: usize, turn: u64) {
+    fn pass(&self, node: usize, turn: u64, _clock: u32) {
         match self.rule {
             Rule::Held if turn == 0 => {
                 wait_for(&self.board.first, 1);

@@ -26,7 +26,7 @@ const SLEEPING: (u64, u64) = (690, 699);
 struct Open;
 
 impl Gate for Open {
-    fn pass(&self, _node: usize, _turn: u64) {}
+    fn pass(&self, _node: usize, _turn: u64, _clock: u32) {}
 }
 
 // Where the notices come, of which none will.

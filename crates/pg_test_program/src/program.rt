@@ -134,6 +134,7 @@ const SLACK: Outcome = Outcome {
     asked: 607,
     agree: true,
     replay: false,
+    is_full: false,
 };
 
 const SAID: &[u8] = b"nodes 3 clients 6\nanswered 606 of 607\nagree yes\nreplay no\n";

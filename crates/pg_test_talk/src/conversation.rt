@@ -1,7 +1,7 @@
 //! The conversation of the program.
 
 use crate::verdicts::holds_at;
-use pg_talk::{Conversation, Outcome, Quiet, run_threads};
+use pg_talk::{CLOCK_MARGIN, Conversation, Outcome, Quiet, run_threads};
 use std::alloc::{AllocError, Global};
 use std::thread::Threads;
 use std::time::Clock;
@@ -39,6 +39,7 @@ fn goes<R: Threads, C: Clock + Clone + Drop + Send + 'static>(
         rounds,
         seed: 1,
         turns,
+        margin: CLOCK_MARGIN,
     };
     match run_threads(rt, alloc, clock, asked, &mut Quiet) {
         Ok(outcome) => is_so(&outcome, answered, all),

@@ -6,6 +6,8 @@ mod conversation;
 #[cfg(test)]
 mod ends;
 #[cfg(test)]
+mod full;
+#[cfg(test)]
 mod members;
 #[cfg(test)]
 mod service;

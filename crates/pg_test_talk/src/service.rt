@@ -2,7 +2,10 @@
 
 use crate::verdicts::holds_at;
 use pg_streams::Source;
-use pg_talk::{Served, Service, ServiceFault, Sleepless, config_of, node_names, serve_cluster};
+use pg_talk::{
+    CLOCK_MARGIN, CLOCK_WAIT, Served, Service, ServiceFault, Sleepless, config_of, node_names,
+    serve_cluster,
+};
 use pg_text::read_term;
 use pg_world::{encode, write_frame};
 use std::alloc::Global;
@@ -149,6 +152,8 @@ pub(crate) fn service_of(alloc: Global, limit: u64) -> Option<Service> {
         config: config.ok()?,
         requests: limit,
         seed: 1,
+        margin: CLOCK_MARGIN,
+        wait: CLOCK_WAIT,
     })
 }
 

@@ -103,9 +103,14 @@ impl<S: Source + Send + Drop + 'static> Reader<S> {
         drop(is_over);
     }
 
+    /// No more is to be read. The thread ends by itself, once it gave on what the read that it is in brings.
+    pub(crate) fn stop(&self) {
+        self.is_over.store(true, Ordering::SeqCst);
+    }
+
     /// Nobody takes what is read any more. The thread ends by itself, once it is through with the read that it is in.
     pub(crate) fn leave(self) {
-        self.is_over.store(true, Ordering::SeqCst);
+        self.stop();
         drop(self);
     }
 }

@@ -24,7 +24,7 @@ pub(crate) struct Reading<S: Drop> {
     pub source: S,
     pub layout: Layout,
     pub out: SlotOut<Input>,
-    /// Nobody takes what is read any more.
+    /// No more is to be read, and soon nobody takes what was.
     pub is_over: Arc<AtomicBool, Global>,
     /// After how many further requests the input counts as ended.
     pub requests: u64,
@@ -69,6 +69,9 @@ impl<S: Source + Drop> Reading<S> {
         let mut piece = [0; PIECE_LEN];
         for _ in 0..u64::MAX {
             if !self.give_all(clock) {
+                return;
+            }
+            if self.is_over.load(Ordering::SeqCst) {
                 return;
             }
             if !self.read(clock, &mut piece) {

@@ -8,16 +8,18 @@ ghost use Rattle.pg_talk.specs.Written.{ports_in};
 ghost use Rattle.pg_node_requests.specs.Layouts.{layout_of};
 ghost use Rattle.pg_talk.specs.Readers.{IsPaired, Reads};
 ghost use Rattle.pg_talk.specs.Services.{WasServed};
-ghost use Rattle.pg_talk.specs.Servings.{IsNew, Serves, known_lost, names_of, ports_of, view_of};
+ghost use Rattle.pg_talk.specs.Servings.{HasServedAll, IsNew, Serves, known_lost, names_of, ports_of, view_of};
 
 use crate::service::Service;
 use crate::service::fault::ServiceFault;
+use crate::service::limits::Limits;
 use crate::service::reader::Reader;
-use crate::service::serving::{Desks, Serving};
+use crate::service::serving::{Desks, Serving, Stop};
 use crate::verdict::{Verdict, close_and_judge};
-use pg_cluster::{OpenGate, Running, Start};
+use pg_cluster::{Clocks, Running, Start};
 use pg_node_requests::Layout;
 use pg_streams::{Sink, Source};
+use pg_term::faults::CLOCK_FULL;
 use std::alloc::{AllocError, Global};
 use std::thread::Threads;
 use std::time::Clock;
@@ -27,7 +29,7 @@ use std::time::Clock;
 pub struct Served {
     /// What the cluster is found to be.
     pub verdict: Verdict,
-    /// By which fault the input ended, if it was broken or could not be read.
+    /// By which fault the input ended, if it was broken or could not be read, or a clock was full.
     pub fault: Option<u8>,
 }
 
@@ -39,13 +41,18 @@ pub struct Served {
 /// allows; none is left out (`AreRead`). One that spells no term asks for nothing. Where a read fails, or memory for reading runs out, the
 /// input ends with that fault.
 ///
+/// Where the clock of a node comes within the margin of `Service` of its end, the service ends, as at the end of its input: no more is
+/// read, and of what had come each request that was not handed over is refused by that fault. The others are waited for, as long as
+/// `Service` says; one that has no answer then may have happened, and is told to be unknown.
+///
 /// A request of a port is handed over once the one before it there was replied to. Each has one reply in a frame, in their order and
-/// numbered from 1: what the node answered, or, once it is lost, that it is. A loss and a body that asks for nothing have a notice each,
+/// numbered from 1: what the node answered, or why it has no answer. A loss and a body that asks for nothing have a notice each,
 /// and nothing else is written (`AllServed`). What was written is passed on whenever no further reply is at hand.
 ///
 /// Errors: first `Start`, where no cluster was started, or no thread that reads. Then `WriteFault`, where a write or a flush fails, also
 /// while more could be read. `OutOfMemory`, where memory runs out before or after one of these. No node runs after an error, none is
-/// judged, and the reading thread ends after the read that it is in. Some of what was due may be written then.
+/// judged, and the reading thread ends after the read that it is in, as it does where a clock was full. Some of what was due may be written
+/// then.
 ///
 /// Cost: the logs of all nodes, which grow with each event until the end, and 64 KB for each ring between two nodes. At most 1,024 requests
 /// wait at a port, and 1,024 inputs before all ports. A thread for each node, and one that reads.
@@ -68,6 +75,8 @@ pub fn serve_cluster<
         config,
         requests,
         seed,
+        margin,
+        wait,
     } = service;
     let (layout, desks) = match rooms_of(alloc, config.starts.as_slice()) {
         Ok(rooms) => rooms,
@@ -77,27 +86,46 @@ pub fn serve_cluster<
             return Err(ServiceFault::OutOfMemory);
         }
     };
-    let theirs: Result<C, AllocError> = clock.clone();
-    let Ok(theirs) = theirs else {
+    let Ok((theirs, gate, clocks)) = hands_of(alloc, &clock, config.starts.len()) else {
         drop(config);
         drop(layout);
         drop(desks);
         drop(source);
         return Err(ServiceFault::OutOfMemory);
     };
-    match Running::start(rt, alloc, config, seed, OpenGate, theirs, u64::MAX) {
+    match Running::start(rt, alloc, config, seed, gate, theirs, u64::MAX) {
         Ok(running) => {
-            let serving = Serving::new(alloc, running, desks);
+            let limits = Limits {
+                clocks,
+                margin,
+                wait,
+            };
+            let serving = Serving::new(alloc, running, desks, limits);
             serve_by(rt, alloc, clock, serving, layout, requests, source, writer)
         }
         Err(fault) => {
             drop(clock);
+            drop(clocks);
             drop(layout);
             drop(desks);
             drop(source);
             Err(ServiceFault::Start(fault))
         }
     }
+}
+
+/// The clock by which the nodes sleep, and their own clocks, twice: for them, and for who looks.
+///
+/// Error: `AllocError`.
+fn hands_of<C: Clock + Clone + Drop>(
+    alloc: Global,
+    clock: &C,
+    nodes: usize,
+) -> Result<(C, Clocks, Clocks), AllocError> {
+    let clocks = Clocks::new(alloc, nodes)?;
+    let gate = clocks.share()?;
+    let theirs: Result<C, AllocError> = clock.clone();
+    Ok((theirs?, gate, clocks))
 }
 
 /// Starts the thread that reads, and serves; the cluster is closed.
@@ -144,7 +172,8 @@ fn rooms_of(alloc: Global, starts: &[Start]) -> Result<(Layout, Desks), AllocErr
     Ok((layout, desks))
 }
 
-/// Serves until the input is over and each request was replied to, and closes and judges the cluster. After a fault it is not judged.
+/// Serves until the input is over and each request was replied to, or a clock is full, and closes and judges the cluster. After a fault
+/// it is not judged.
 fn serve_all<R: Threads, C: Clock, S: Source + Send + Drop + 'static, W: Sink>(
     rt: &R,
     alloc: Global,
@@ -162,15 +191,50 @@ fn serve_all<R: Threads, C: Clock, S: Source + Send + Drop + 'static, W: Sink>(
 {
     let mut serving = serving;
     let mut reader = reader;
-    let served = serving.run(rt, clock, &mut reader.inlet, writer);
-    let fault = serving.fault();
-    match served {
-        Ok(()) => {
+    match serving.run(rt, clock, &mut reader.inlet, writer) {
+        Ok(Stop::Over) => {
+            let fault = serving.fault();
             let verdict = close_and_judge(rt, alloc, serving.into_running());
             reader.join(rt);
             Ok(Served {
                 verdict: verdict?,
                 fault,
+            })
+        }
+        Ok(Stop::Full) => serve_full(rt, alloc, clock, serving, reader, writer),
+        Err(fault) => {
+            drop(serving.into_running().close(rt));
+            reader.leave();
+            Err(fault)
+        }
+    }
+}
+
+/// A clock is full: replies to each request that came, and closes and judges the cluster. After a fault it is not judged.
+fn serve_full<R: Threads, C: Clock, S: Source + Send + Drop + 'static, W: Sink>(
+    rt: &R,
+    alloc: Global,
+    clock: &C,
+    serving: Serving,
+    reader: Reader<S>,
+    writer: &mut W,
+) -> Result<Served, ServiceFault>
+    requires paired { IsPaired reader }
+    ensures { IfOk result (λ served. (given : Starts) (first : Option (List ℕ)) (wanted : ℕ) (source : Option (List ℕ)) → Reads S.remaining (layout_of 0 given) wanted source reader
+        → HasServedAll given first (taken reader.inlet) serving (W.contents writer.old)
+        → WasServed S.remaining S.fails given wanted source first (W.contents writer.new) served) }
+{
+    let mut serving = serving;
+    let mut reader = reader;
+    reader.stop();
+    let ended = serving.end_full(rt, clock, &mut reader.inlet, writer);
+    match ended {
+        Ok(()) => {
+            let verdict = close_and_judge(rt, alloc, serving.into_running());
+            reader.leave();
+            Ok(Served {
+                verdict: verdict?,
+                fault: Some(CLOCK_FULL),
             })
         }
         Err(fault) => {

@@ -8,11 +8,14 @@ ghost use Rattle.pg_talk.specs.Written.{ports_from};
 
 use crate::service::MAX_WAITING;
 use crate::service::desk::Desk;
+use crate::service::ending::Ending;
 use crate::service::fault::ServiceFault;
+use crate::service::limits::{Limits, Waiting};
 use crate::service::outlet::{Address, Outlet};
 use pg_cluster::{Command, Rest, Running, SlotIn, Start};
-use pg_node_requests::{Input, bad_request, lost, node_lost, reply_term};
+use pg_node_requests::{Input, bad_request, lost, reply_term};
 use pg_streams::Sink;
+use pg_term::faults::CLOCK_FULL;
 use pg_term::{Atom, Term};
 use std::alloc::{AllocError, Global};
 use std::thread::Threads;
@@ -88,6 +91,15 @@ fn are_idle(desks: &[Desk]) -> bool
     desks.iter().all(|desk| desk.is_idle())
 }
 
+/// How a service stopped serving.
+#[derive(Clone, Copy, Debug, PartialEq, Eq)]
+pub(crate) enum Stop {
+    /// The input is over, and each request was replied to.
+    Over,
+    /// A clock is full.
+    Full,
+}
+
 /// A service that runs.
 #[derive(Drop)]
 pub(crate) struct Serving {
@@ -101,21 +113,27 @@ pub(crate) struct Serving {
     bodies: u64,
     // The input is over, and by which fault.
     end: Option<Option<u8>>,
+    limits: Limits,
     outlet: Outlet,
     alloc: Global,
 }
 
 impl Serving {
-    ghost use Rattle.std.specs.Prelude.{◌≡◌, ◌<◌, ◌∷◌, true, false, Option, ℕ, None, Some, IsTrue, IfOk, OnOk, length};
+    ghost use Rattle.std.specs.Prelude.{◌≡◌, ◌<◌, ◌∷◌, true, false, Option, ℕ, None, Some, IsTrue, IfOk, IfNone, IfSome, OnOk, length};
+    ghost use Rattle.std.specs.List.{list_all as all_of};
     ghost use Rattle.pg_node_requests.specs.declared.input.Input.TheVariants.{Ask, Lose};
     ghost use Rattle.pg_cluster.specs.Running.{clients_in};
     ghost use Rattle.pg_cluster.specs.PgRing.Slots.{SameSlotIn, taken};
-    ghost use Rattle.pg_talk.specs.Servings.{Advances, CameSince, ServingGoes, IsOver, LosesNode, RepliesLost};
-    ghost use Rattle.pg_talk.specs.Servings.{RepliesNext, WritesNothing, ServesOne, TellsBad, asked_at, desks_of};
+    ghost use Rattle.pg_talk.specs.Desks.{is_idle as is_idle_one};
+    ghost use Rattle.pg_talk.specs.Servings.{Advances, CameSince, EndsFull, IsDueAt, IsOver, LosesNode, RepliesEnding};
+    ghost use Rattle.pg_talk.specs.Servings.{RepliesNext, ServesOne, ServingGoes, TellsBad, WritesNothing, asked_at, desks_of};
     ghost use Rattle.pg_talk.specs.Servings.{is_known_lost, kept_in, lost_at, nodes_of, running_of, view_of};
+    ghost use Rattle.pg_talk.specs.Written.{IsDue, is_full_end, over_by};
+    ghost use Rattle.pg_talk.specs.declared.service.ending.Ending.TheVariants.{Open};
+    ghost use Rattle.pg_talk.specs.declared.service.serving.Stop.TheVariants.{Over as StopOver};
 
     /// One to which nothing came. It takes no memory.
-    pub(crate) fn new(alloc: Global, running: Running, desks: Desks) -> Serving
+    pub(crate) fn new(alloc: Global, running: Running, desks: Desks, limits: Limits) -> Serving
         ensures view { view_of result ≡ record { running = running; desks = desks.desks.items; nodes = desks.nodes.items; bodies = 0; over = None } }
         ensures kept { result.kept ≡ None }
     {
@@ -126,6 +144,7 @@ impl Serving {
             kept: None,
             bodies: 0,
             end: None,
+            limits,
             outlet: Outlet::new(alloc),
             alloc,
         }
@@ -140,12 +159,14 @@ impl Serving {
             nodes,
             desks,
             kept,
+            limits,
             outlet,
             ..
         } = self;
         drop(nodes);
         drop(desks);
         drop(kept);
+        drop(limits);
         drop(outlet);
         running
     }
@@ -160,7 +181,8 @@ impl Serving {
         }
     }
 
-    /// Serves until the input is over and each request was replied to. Where nothing comes it rests by the clock. It may wait for threads.
+    /// Serves until the input is over and each request was replied to, or a clock is full. Where nothing comes it rests by the clock. It may
+    /// wait for threads.
     ///
     /// Faults: `WriteFault`, where a write or a flush fails; `OutOfMemory`, also after 2^64 turns, which none makes.
     #[tactic(auto, using(crate::proofs::Turns::inlet_on, crate::proofs::Turns::inlet_itself))]
@@ -170,18 +192,162 @@ impl Serving {
         clock: &C,
         inlet: &mut SlotIn<Input>,
         writer: &mut W,
-    ) -> Result<(), ServiceFault>
+    ) -> Result<Stop, ServiceFault>
         ensures same { SameSlotIn inlet.old inlet.new }
         ensures advances { OnOk result (Advances self.old self.new (taken inlet.old) (taken inlet.new) (W.contents writer.old) (W.contents writer.new)) }
-        ensures over { OnOk result (IsOver self.new) }
+        ensures over { IfOk result (λ stop. stop ≡ StopOver → IsOver self.new) }
     {
         let mut rest = Rest::new();
         for _ in 0..u64::MAX {
+            if self.limits.are_full() {
+                return Ok(Stop::Full);
+            }
             if self.turn(rt, clock, &mut rest, inlet, writer)? {
+                return Ok(Stop::Over);
+            }
+        }
+        Err(ServiceFault::OutOfMemory)
+    }
+
+    /// A clock is full: takes in what came, and no more, and replies to each request. It waits for what the nodes have not answered, but
+    /// not longer than its limits say.
+    ///
+    /// Faults: those of `run`.
+    #[tactic(auto, using(crate::proofs::Turns::inlet_on, crate::proofs::Turns::inlet_itself))]
+    pub(crate) fn end_full<R: Threads, C: Clock, W: Sink>(
+        &mut self,
+        rt: &R,
+        clock: &C,
+        inlet: &mut SlotIn<Input>,
+        writer: &mut W,
+    ) -> Result<(), ServiceFault>
+        ensures same { SameSlotIn inlet.old inlet.new }
+        ensures full { OnOk result (EndsFull self.old self.new (taken inlet.old) (taken inlet.new) (W.contents writer.old) (W.contents writer.new)) }
+        ensures over { OnOk result (is_full_end self.new.end ≡ true) }
+        ensures idle { OnOk result (all_of is_idle_one (desks_of self.new) ≡ true) }
+    {
+        self.take_rest(rt, inlet, writer)?;
+        self.end_by(Some(CLOCK_FULL));
+        self.close_desks(clock, writer)
+    }
+
+    /// Takes in all that came.
+    #[tactic(auto, using(crate::proofs::Turns::inlet_on, crate::proofs::Turns::inlet_itself))]
+    fn take_rest<R: Threads, W: Sink>(
+        &mut self,
+        rt: &R,
+        inlet: &mut SlotIn<Input>,
+        writer: &mut W,
+    ) -> Result<(), ServiceFault>
+        ensures same { SameSlotIn inlet.old inlet.new }
+        ensures advances { OnOk result (Advances self.old self.new (taken inlet.old) (taken inlet.new) (W.contents writer.old) (W.contents writer.new)) }
+        ensures kept { OnOk result (self.new.kept ≡ None) }
+    {
+        for _ in 0..u64::MAX {
+            let Some(input) = self.next_input(inlet) else {
+                return Ok(());
+            };
+            self.take_input(rt, input, writer)?;
+        }
+        Err(ServiceFault::OutOfMemory)
+    }
+
+    /// The input is over, and by which fault. Once a clock was full it stays over for that reason.
+    fn end_by(&mut self, fault: Option<u8>)
+        ensures view { view_of self.new ≡ record (view_of self.old) { over = over_by self.old.end fault } }
+        ensures kept { self.new.kept ≡ self.old.kept }
+    {
+        if !self.is_full() {
+            self.end = Some(fault);
+        }
+    }
+
+    /// Whether the input is over as a clock was full. It takes no memory.
+    fn is_full(&self) -> bool
+        ensures { result ≡ is_full_end self.now.end }
+    {
+        match self.end {
+            Some(Some(fault)) => fault == CLOCK_FULL,
+            _ => false,
+        }
+    }
+
+    /// A clock was full: replies to each request, once its node answers or it was waited for long enough.
+    fn close_desks<C: Clock, W: Sink>(
+        &mut self,
+        clock: &C,
+        writer: &mut W,
+    ) -> Result<(), ServiceFault>
+        requires { is_full_end self.old.end ≡ true }
+        ensures goes { OnOk result (ServingGoes self.old self.new (W.contents writer.old) (W.contents writer.new)) }
+        ensures end { self.new.end ≡ self.old.end }
+        ensures idle { OnOk result (all_of is_idle_one (desks_of self.new) ≡ true) }
+    {
+        let waiting = self.limits.begin(clock);
+        let mut rest = Rest::new();
+        for _ in 0..u64::MAX {
+            if self.close_some(clock, &waiting, &mut rest, writer)? {
                 return Ok(());
             }
         }
         Err(ServiceFault::OutOfMemory)
+    }
+
+    /// Looks at each client once; whether each request was replied to.
+    fn close_some<C: Clock, W: Sink>(
+        &mut self,
+        clock: &C,
+        waiting: &Waiting,
+        rest: &mut Rest,
+        writer: &mut W,
+    ) -> Result<bool, ServiceFault>
+        requires { is_full_end self.old.end ≡ true }
+        ensures goes { OnOk result (ServingGoes self.old self.new (W.contents writer.old) (W.contents writer.new)) }
+        ensures end { self.new.end ≡ self.old.end }
+        ensures idle { IfOk result (λ done. IsTrue done → all_of is_idle_one (desks_of self.new) ≡ true) }
+    {
+        if self.attend_all(writer)? {
+            rest.found();
+            return Ok(false);
+        }
+        self.outlet.flush(writer)?;
+        if are_idle(self.desks.as_slice()) {
+            return Ok(true);
+        }
+        if waiting.is_over(clock) {
+            self.give_up_all(writer)?;
+            return Ok(false);
+        }
+        rest.rest(clock);
+        Ok(false)
+    }
+
+    /// Replies to each request that is with its node that nobody knows what became of it.
+    fn give_up_all<W: Sink>(&mut self, writer: &mut W) -> Result<(), ServiceFault>
+        requires { is_full_end self.old.end ≡ true }
+        ensures goes { OnOk result (ServingGoes self.old self.new (W.contents writer.old) (W.contents writer.new)) }
+        ensures end { self.new.end ≡ self.old.end }
+    {
+        for client in 0..self.desks.len() {
+            self.give_up(client, writer)?;
+        }
+        Ok(())
+    }
+
+    /// The same of one client.
+    fn give_up<W: Sink>(&mut self, client: usize, writer: &mut W) -> Result<(), ServiceFault>
+        requires { is_full_end self.old.end ≡ true }
+        ensures goes { OnOk result (ServingGoes self.old self.new (W.contents writer.old) (W.contents writer.new)) }
+        ensures end { self.new.end ≡ self.old.end }
+    {
+        if client >= self.desks.len() {
+            return Ok(());
+        }
+        if !self.desks[client].is_asked() {
+            return Ok(());
+        }
+        self.reply_ending(client, Ending::Open, writer)?;
+        Ok(())
     }
 
     /// Takes in what came, and looks at each client; whether the input is over and each request was replied to.
@@ -290,11 +456,11 @@ impl Serving {
             Input::Lose { node } => self.lose(rt, node, writer),
             Input::Bad => self.tell_bad(writer),
             Input::End => {
-                self.end = Some(None);
+                self.end_by(None);
                 Ok(())
             }
             Input::Broken(number) => {
-                self.end = Some(Some(number));
+                self.end_by(Some(number));
                 Ok(())
             }
         }
@@ -364,7 +530,8 @@ impl Serving {
 
     /// Looks at each client once; whether something moved.
     fn attend_all<W: Sink>(&mut self, writer: &mut W) -> Result<bool, ServiceFault>
-        ensures { OnOk result (ServingGoes self.old self.new (W.contents writer.old) (W.contents writer.new)) }
+        ensures goes { OnOk result (ServingGoes self.old self.new (W.contents writer.old) (W.contents writer.new)) }
+        ensures end { self.new.end ≡ self.old.end }
     {
         let mut moved = false;
         for client in 0..self.running.client_count() {
@@ -375,20 +542,35 @@ impl Serving {
         Ok(moved)
     }
 
-    /// Looks at a client: hears its answer, or hands over its next request; whether something moved.
+    /// Looks at a client: hears its answer, or hands over its next request, or replies why it is not; whether something moved.
     fn attend<W: Sink>(&mut self, client: usize, writer: &mut W) -> Result<bool, ServiceFault>
-        ensures { OnOk result (ServingGoes self.old self.new (W.contents writer.old) (W.contents writer.new)) }
+        ensures goes { OnOk result (ServingGoes self.old self.new (W.contents writer.old) (W.contents writer.new)) }
+        ensures end { self.new.end ≡ self.old.end }
     {
         if client >= self.desks.len() || client >= self.running.client_count() {
             return Ok(false);
         }
         let is_lost = self.is_lost(self.desks[client].node());
         if self.desks[client].is_asked() {
-            self.hear(client, is_lost, writer)
-        } else if is_lost {
-            self.refuse_next(client, writer)
+            return self.hear(client, is_lost, writer);
+        }
+        match self.refusal(is_lost) {
+            Some(ending) => self.refuse_next(client, ending, writer),
+            None => self.hand_over(client),
+        }
+    }
+
+    /// Why no request is handed over to a node, if none is: it was lost, or a clock was full.
+    fn refusal(&self, is_lost: bool) -> Option<Ending>
+        ensures some { IfSome result (λ ending. IsDue (record { lost = is_lost; full = is_full_end self.now.end }) false ending) }
+        ensures none { IfNone result ((is_lost ≡ false) × (is_full_end self.now.end ≡ false)) }
+    {
+        if is_lost {
+            Some(Ending::Lost)
+        } else if self.is_full() {
+            Some(Ending::Unasked)
         } else {
-            self.hand_over(client)
+            None
         }
     }
 
@@ -413,7 +595,8 @@ impl Serving {
         requires client { client < length (clients_in (running_of self.old)) }
         requires asked { asked_at client (desks_of self.old) ≡ true }
         requires lost { is_lost ≡ lost_at client self.old }
-        ensures { OnOk result (ServingGoes self.old self.new (W.contents writer.old) (W.contents writer.new)) }
+        ensures goes { OnOk result (ServingGoes self.old self.new (W.contents writer.old) (W.contents writer.new)) }
+        ensures end { self.new.end ≡ self.old.end }
     {
         match self.running.poll(client) {
             Some(answer) => {
@@ -422,7 +605,7 @@ impl Serving {
             }
             None => {
                 if is_lost {
-                    self.reply_lost(client, writer)
+                    self.reply_ending(client, Ending::Lost, writer)
                 } else {
                     Ok(false)
                 }
@@ -430,17 +613,23 @@ impl Serving {
         }
     }
 
-    /// Replies to the next request of a client, if one waits, that its node was lost.
-    fn refuse_next<W: Sink>(&mut self, client: usize, writer: &mut W) -> Result<bool, ServiceFault>
+    /// Replies to the next request of a client, if one waits, why it has no answer.
+    fn refuse_next<W: Sink>(
+        &mut self,
+        client: usize,
+        ending: Ending,
+        writer: &mut W,
+    ) -> Result<bool, ServiceFault>
         requires desk { client < length (desks_of self.old) }
         requires idle { asked_at client (desks_of self.old) ≡ false }
-        requires lost { lost_at client self.old ≡ true }
-        ensures { OnOk result (ServingGoes self.old self.new (W.contents writer.old) (W.contents writer.new)) }
+        requires due { IsDueAt (view_of self.old) client false ending }
+        ensures goes { OnOk result (ServingGoes self.old self.new (W.contents writer.old) (W.contents writer.new)) }
+        ensures end { self.new.end ≡ self.old.end }
     {
         match self.desks[client].next() {
             Some(command) => {
                 drop(command);
-                self.reply_lost(client, writer)
+                self.reply_ending(client, ending, writer)
             }
             None => Ok(false),
         }
@@ -452,7 +641,9 @@ impl Serving {
         requires client { client < length (clients_in (running_of self.old)) }
         requires idle { asked_at client (desks_of self.old) ≡ false }
         requires there { lost_at client self.old ≡ false }
-        ensures { OnOk result (WritesNothing self.old self.new) }
+        requires on_time { is_full_end self.old.end ≡ false }
+        ensures goes { OnOk result (WritesNothing self.old self.new) }
+        ensures end { self.new.end ≡ self.old.end }
     {
         let Some(command) = self.desks[client].next() else {
             return Ok(false);
@@ -469,12 +660,18 @@ impl Serving {
         }
     }
 
-    /// Replies to the next request of a client that its node was lost.
-    fn reply_lost<W: Sink>(&mut self, client: usize, writer: &mut W) -> Result<bool, ServiceFault>
+    /// Replies to the next request of a client why it has no answer.
+    fn reply_ending<W: Sink>(
+        &mut self,
+        client: usize,
+        ending: Ending,
+        writer: &mut W,
+    ) -> Result<bool, ServiceFault>
         requires { client < length (desks_of self.old) }
-        ensures { OnOk result (RepliesLost client self.old self.new (W.contents writer.old) (W.contents writer.new)) }
+        ensures replies { OnOk result (RepliesEnding client ending self.old self.new (W.contents writer.old) (W.contents writer.new)) }
+        ensures end { self.new.end ≡ self.old.end }
     {
-        let reply = node_lost(self.alloc, self.desks[client].name())?;
+        let reply = ending.term(self.alloc, self.desks[client].name())?;
         self.reply(client, reply, writer)
     }
 
@@ -486,7 +683,8 @@ impl Serving {
         writer: &mut W,
     ) -> Result<bool, ServiceFault>
         requires { client < length (desks_of self.old) }
-        ensures { OnOk result (RepliesNext client reply self.old self.new (W.contents writer.old) (W.contents writer.new)) }
+        ensures replies { OnOk result (RepliesNext client reply self.old self.new (W.contents writer.old) (W.contents writer.new)) }
+        ensures end { self.new.end ≡ self.old.end }
     {
         let number = self.desks[client].reply();
         let desk = &self.desks[client];

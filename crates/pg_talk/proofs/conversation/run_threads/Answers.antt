@@ -1,4 +1,4 @@
-use Rattle.std.proofs.Common.{refl, ◌∙◌}
+use Rattle.std.proofs.Common.{◌<◌, refl, subst, sym, ◌∙◌}
 use Rattle.pg_cluster.specs.Running.{clients_in, losses_in, threads_in}
 use Rattle.pg_talk.proofs.conversation.run_threads.Goals as goal
 
@@ -19,7 +19,8 @@ returns g c =
       rings = rw (same.cluster, ← c.in_ok-config.ensures.ring) c.in_ok-running.ensures.rings;
       seeds = rw same.cluster c.in_ok-running.ensures.seeds;
       limits = rw same.cluster c.in_ok-running.ensures.limit;
-      spoke = c.in_ok-heard.ensures.spoke;
-      answered_told = c.in_ok-heard.ensures.answered;
+      spoke = c.in_ok-answered.ensures.spoke;
+      answered_told = c.in_ok-answered.ensures.answered;
       asked_told = c.commands.ensures;
+      full_told = λ full. subst (λ n. c.in_ok-answered.answered < n) (c.commands-2.ensures ∙ sym c.commands.ensures) (c.ends_full.ensures full);
     }

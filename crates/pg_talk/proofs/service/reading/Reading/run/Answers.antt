@@ -9,6 +9,14 @@ pub returns-then-not-give_all : goal.returns-then-not-give_all
 returns-then-not-give_all g c =
     ends_then g.S.Source.remaining g.S.Source.fails c.args.self.now c.loop.self c.give_all.new.self c.loop.invariant.0 (c.if-not-give_all.ensures.end refl)
 
+-- no more is to be read
+pub returns-then-load : goal.returns-then-load
+returns-then-load g c =
+    let remaining = g.S.Source.remaining in
+    let fails = g.S.Source.fails in
+    goes_ends remaining fails c.args.self.now c.give_all.new.self
+    (goes_then remaining fails c.args.self.now c.loop.self c.give_all.new.self c.loop.invariant.0 (c.if-not-give_all.ensures.on refl))
+
 pub returns-then-not-read : goal.returns-then-not-read
 returns-then-not-read g c =
     let remaining = g.S.Source.remaining in

@@ -1,10 +1,13 @@
+use Rattle.std.proofs.Common.{refl, ◌∙◌}
 use Rattle.pg_talk.proofs.Turns.{goes_itself, goes_then}
 use Rattle.pg_talk.proofs.service.serving.Serving.attend_all.Goals as goal
 
 pub loop-client-init : goal.loop-client-init
-loop-client-init g c = goes_itself c.args.self.now (g.W.Sink.contents c.args.writer.now)
+loop-client-init g c = (goes_itself c.args.self.now (g.W.Sink.contents c.args.writer.now), refl)
 
 pub loop-client-preserved : goal.loop-client-preserved
-loop-client-preserved g c =
-    goes_then c.args.self.now c.loop-client.self c.attend.new.self (g.W.Sink.contents c.args.writer.now) (g.W.Sink.contents c.loop-client.writer) (g.W.Sink.contents c.attend.new.writer)
-    c.loop-client.invariant c.in_ok-attend.ensures
+loop-client-preserved g c = (
+  goes_then c.args.self.now c.loop-client.self c.attend.new.self (g.W.Sink.contents c.args.writer.now) (g.W.Sink.contents c.loop-client.writer) (g.W.Sink.contents c.attend.new.writer)
+      c.loop-client.invariant.0 c.in_ok-attend.ensures.goes,
+  c.in_ok-attend.ensures.end ∙ c.loop-client.invariant.1,
+)

@@ -1,6 +1,7 @@
+use Rattle.std.proofs.Common.{◌≡◌}
 use Rattle.pg_talk.specs.Servings.{ServingGoes}
 use Rattle.pg_talk.proofs.service.serving.Serving.attend_all.Given as goal
 
 -- so much was written until then
 abbrev pub invariant-loop-client : goal.invariant-loop-client
-invariant-loop-client g l = ServingGoes l.fn.self l.self (g.W.Sink.contents l.fn.writer) (g.W.Sink.contents l.writer)
+invariant-loop-client g l = ServingGoes l.fn.self l.self (g.W.Sink.contents l.fn.writer) (g.W.Sink.contents l.writer) × (l.self.end ≡ l.fn.self.end)

@@ -20,16 +20,20 @@ returns-in-Bad g c =
     }))
 
 pub returns-in-End : goal.returns-in-End
-returns-in-End g c = record {
-  kept = refl;
-  takes = λ given first inputs s. subst (λ input. Serves given first (inputs ++ input ∷ []) (record (view_of c.args.self.now) { over = Some None }) (g.W.Sink.contents c.args.writer.now)) (sym c.in-End.is)
-      (end_served given first (g.W.Sink.contents c.args.writer.now) inputs (view_of c.args.self.now) s End None refl (λ i. refl));
-}
+returns-in-End g c =
+    let same = g.W.Sink.contents c.args.writer.now in record {
+      kept = c.end_by.ensures.kept;
+      takes = λ given first inputs s. subst (λ input. Serves given first (inputs ++ input ∷ []) (view_of c.end_by.new.self) same) (sym c.in-End.is)
+          (subst (λ view. Serves given first (inputs ++ End ∷ []) view same) (sym c.end_by.ensures.view)
+          (end_served given first same inputs (view_of c.args.self.now) s End None refl (λ i. refl)));
+    }
 
 pub returns-in-Broken : goal.returns-in-Broken
-returns-in-Broken g c = record {
-  kept = refl;
-  takes = λ given first inputs s.
-      subst (λ input. Serves given first (inputs ++ input ∷ []) (record (view_of c.args.self.now) { over = Some (Some c.in-Broken.number) }) (g.W.Sink.contents c.args.writer.now)) (sym c.in-Broken.is)
-      (end_served given first (g.W.Sink.contents c.args.writer.now) inputs (view_of c.args.self.now) s (Broken c.in-Broken.number) (Some c.in-Broken.number) refl (λ i. refl));
-}
+returns-in-Broken g c =
+    let same = g.W.Sink.contents c.args.writer.now in
+    let number = c.in-Broken.number in record {
+      kept = c.end_by-in-Broken.ensures.kept;
+      takes = λ given first inputs s. subst (λ input. Serves given first (inputs ++ input ∷ []) (view_of c.end_by-in-Broken.new.self) same) (sym c.in-Broken.is)
+          (subst (λ view. Serves given first (inputs ++ Broken number ∷ []) view same) (sym c.end_by-in-Broken.ensures.view)
+          (end_served given first same inputs (view_of c.args.self.now) s (Broken number) (Some number) refl (λ i. refl)));
+    }

@@ -1,0 +1,8 @@
+use Rattle.pg_cluster.specs.PgRing.Slots.{SameSlotIn, taken}
+use Rattle.pg_talk.specs.Servings.{Advances}
+use Rattle.pg_talk.proofs.service.serving.Serving.take_rest.Given as goal
+
+-- what came until then was served
+abbrev pub invariant-loop : goal.invariant-loop
+invariant-loop g l =
+    SameSlotIn l.fn.inlet l.inlet × Advances l.fn.self l.self (taken l.fn.inlet) (taken l.inlet) (g.W.Sink.contents l.fn.writer) (g.W.Sink.contents l.writer)
