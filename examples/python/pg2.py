@@ -128,8 +128,12 @@ class Cluster:
         except Late:
             raise TimeoutError("no reply to %r" % (request,)) from None
 
+    def lose(self, name):
+        """A node is lost for good. The others see that once they have taken all that came from it: soon, but not at once."""
+        return self.ask((Atom("lose"), Atom(name)))
+
     def close(self, timeout=None):
-        """Ends the input, waits until all is answered and the cluster is judged, and tells how it ended. TimeoutError where that takes longer."""
+        """Ends the input, waits until all is answered and the cluster is judged, and tells how it ended; it may be called again. TimeoutError where that takes longer."""
         with self.lock:
             if not self.closing:
                 self.closing = True
