@@ -93,7 +93,7 @@ impl Replies {
     /// Whether the next reply comes next in these bytes, and where the others begin. None told `ok` after one that did not, and one
     /// at most that nobody knows, before all that were refused.
     fn next(&mut self, alloc: Global, bytes: &[u8]) -> Option<Option<usize>> {
-        let number = self.count + 1;
+        let number = self.count.saturating_add(1);
         let node = self.node;
         let mut frame = Vec::new(alloc);
         for (place, reply) in ["ok", "{error,{unknown,30}}", "{refused,30}"]
@@ -112,15 +112,15 @@ impl Replies {
 
     /// Whether a reply of this kind may come now.
     fn hear(&mut self, place: usize) -> bool {
-        let is_first = self.answered + self.unknown == self.count;
-        self.count += 1;
+        let is_first = self.answered.saturating_add(self.unknown) == self.count;
+        self.count = self.count.saturating_add(1);
         match place {
             0 => {
-                self.answered += 1;
+                self.answered = self.answered.saturating_add(1);
                 is_first && self.unknown == 0
             }
             1 => {
-                self.unknown += 1;
+                self.unknown = self.unknown.saturating_add(1);
                 is_first && self.unknown == 1
             }
             _ => true,
@@ -137,14 +137,17 @@ fn replies_in(alloc: Global, bytes: &[u8]) -> Option<[Replies; 2]> {
         unknown: 0,
     });
     let mut rest = bytes;
-    while !rest.is_empty() {
+    for _ in 0..bytes.len() {
+        if rest.is_empty() {
+            break;
+        }
         let count = match all[0].next(alloc, rest)? {
             Some(count) => count,
             None => all[1].next(alloc, rest)??,
         };
-        rest = &rest[count..];
+        rest = &rest[count.min(rest.len())..];
     }
-    Some(all)
+    rest.is_empty().then_some(all)
 }
 
 /// Whether a service with these limits, whose input goes on, ends as a clock is full, and what was replied then.
