@@ -81,14 +81,7 @@ fn run(
         &mut faults,
     );
     if explains {
-        let told = Told {
-            words,
-            input: reader.reader.bytes.as_slice(),
-            line: faults.writer.line(),
-            missed: system.missed,
-        };
-        let text = explain(rt.alloc(), told);
-        let _ = rt.stderr().write_all(text.as_bytes());
+        say_fault(rt, words, &reader.reader, &faults.writer, system.missed);
     }
     Ok(status)
 }
@@ -99,6 +92,24 @@ fn is_read_again(words: &[String]) -> bool {
         Some(word) => matches!(word.as_str(), "script" | "explore"),
         None => false,
     }
+}
+
+/// Says on standard error in words what its last line says by a number, if it does.
+fn say_fault<R, O, E>(
+    rt: &HostRuntime,
+    words: &[String],
+    kept: &Kept<R>,
+    heard: &Heard<O, E>,
+    missed: Option<&'static str>,
+) {
+    let told = Told {
+        words,
+        input: kept.bytes.as_slice(),
+        line: heard.line(),
+        missed,
+    };
+    let text = explain(rt.alloc(), told);
+    let _ = rt.stderr().write_all(text.as_bytes());
 }
 
 /// Answers a question about the program itself, and gives the status.
