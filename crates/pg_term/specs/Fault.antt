@@ -1,8 +1,5 @@
 -- What a call that can refuse answers, but for running out of memory.
 use Rattle.std.specs.Prelude.{◌≡◌, ℕ, List, length, nat_lt, Result, Ok, Err, if◌then◌else◌}
-use Rattle.pg_term.specs.declared.faults.TheConstants.{BAD_ATOM, BAD_REFERENCE, BAD_VERSION, IMPROPER_LIST}
-use Rattle.pg_term.specs.declared.faults.TheConstants.{INTEGER_TOO_LARGE, OUT_OF_MEMORY, TOO_DEEP}
-use Rattle.pg_term.specs.declared.faults.TheConstants.{TOO_LONG, TRAILING_BYTES, TRUNCATED, UNKNOWN_TAG}
 use Rattle.pg_term.specs.declared.fault.TermFault.{TermFault}
 use Rattle.pg_term.specs.declared.fault.TermFault.TheVariants.{Truncated, BadVersion, UnknownTag, TooDeep}
 use Rattle.pg_term.specs.declared.fault.TermFault.TheVariants.{IntegerTooLarge, BadAtom, ImproperList}
@@ -23,14 +20,14 @@ checked_atom cs = if nat_lt 255 (length cs) then Err BadAtom else Ok cs
 
 -- the number of a fault in the one list of faults
 abbrev pub number_of : TermFault → ℕ
-number_of Truncated = TRUNCATED
-number_of BadVersion = BAD_VERSION
-number_of UnknownTag = UNKNOWN_TAG
-number_of TooDeep = TOO_DEEP
-number_of IntegerTooLarge = INTEGER_TOO_LARGE
-number_of BadAtom = BAD_ATOM
-number_of ImproperList = IMPROPER_LIST
-number_of BadReference = BAD_REFERENCE
-number_of TrailingBytes = TRAILING_BYTES
-number_of OutOfMemory = OUT_OF_MEMORY
-number_of TooLong = TOO_LONG
+number_of Truncated = 1
+number_of BadVersion = 2
+number_of UnknownTag = 3
+number_of TooDeep = 4
+number_of IntegerTooLarge = 5
+number_of BadAtom = 6
+number_of ImproperList = 7
+number_of BadReference = 8
+number_of TrailingBytes = 9
+number_of OutOfMemory = 10
+number_of TooLong = 11

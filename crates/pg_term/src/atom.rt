@@ -1,4 +1,4 @@
-ghost use Rattle.std.specs.Prelude.{◌≡◌, ◌<◌, ◌≤◌, length, IfOk, nat_eq, nat_lt};
+ghost use Rattle.std.specs.Prelude.{◌≡◌, ◌<◌, ◌≤◌, length, IfOk, Err, nat_eq, nat_lt};
 ghost use Rattle.std.specs.Str.{chars};
 ghost use Rattle.std.specs.Ordering.{nat_cmp, as_partial_cmp};
 ghost use Rattle.std.specs.Str.{encode_utf8_all};
@@ -9,6 +9,7 @@ ghost use Rattle.std.specs.Cmp.Lexicographic.{nat_list_cmp_total, texts_ties, te
 ghost use Rattle.std.specs.Cmp.Rules.{hashing};
 ghost use Rattle.std.proofs.Common.{rules, refl};
 ghost use Rattle.pg_term.specs.Fault.{Gives, checked_atom};
+ghost use Rattle.pg_term.specs.declared.fault.TermFault.TheVariants.{BadAtom};
 
 use crate::fault::TermFault;
 use crate::text::Text;
@@ -39,11 +40,13 @@ impl Model for Atom {
 impl Atom {
     /// The atom of this text.
     ///
-    /// Errors: `BadAtom` where the text has more than 255 characters; else `OutOfMemory`.
+    /// Errors: `BadAtom` exactly where the text has more than 255 characters; else `OutOfMemory`.
     ///
     /// Cost: one allocation, and two more for a text above 22 bytes.
     pub fn new(alloc: Global, text: &str) -> Result<Atom, TermFault>
-        ensures { Gives (λ a. a) result (checked_atom (chars text.now)) }
+        ensures exact { Gives (λ a. a) result (checked_atom (chars text.now)) }
+        // Of such a text nothing else is told, also where memory runs out.
+        ensures long { 255 < length (chars text.now) → result ≡ Err BadAtom }
     {
         if is_long(text) {
             return Err(TermFault::BadAtom);

@@ -23,7 +23,7 @@ pub use boxed::Boxed;
 pub use fault::TermFault;
 pub use fields::Fields;
 pub use items::Items;
-pub use laws::{equality, order, order_by_kind};
+pub use laws::{equality, numbers_of_faults, order, order_by_kind};
 pub use pid::Pid;
 pub use reference::Reference;
 pub use term::Term;

@@ -1,6 +1,6 @@
 -- What an answer of reading says of the bytes.
 use Rattle.std.proofs.Common.{◌≡◌, ◌≢◌, ℕ, zero, suc, ◌<◌, ◌⊎◌, inl, inr, List}
-use Rattle.std.proofs.Common.{[], ◌∷◌, Result, Ok, Err, refl, subst, arith}
+use Rattle.std.proofs.Common.{[], ◌∷◌, Result, Ok, Err, refl, sym, subst, arith}
 use Rattle.std.specs.Prelude.{IfOk, IfErr}
 use Rattle.std.specs.Int.{Width, w8, w32}
 use Rattle.std.specs.List.{AllByRecursion}
@@ -11,6 +11,7 @@ use Rattle.pg_term.specs.declared.fault.TermFault.TheVariants.{BadReference, Tra
 use Rattle.pg_term.specs.declared.term.Term.{Term}
 use Rattle.pg_term.specs.Fault.{Fails, Gives}
 use Rattle.pg_term_io.specs.Reading.{term_of}
+use Rattle.pg_term_io.specs.Scanning.{fault_or_memory}
 use Rattle.pg_term_io.specs.Spelling.{Spells}
 use Rattle.pg_term_io.specs.Faults.{BreaksAtom, BreaksNode, BreaksPid, BreaksOldRef, BreaksRef}
 use Rattle.pg_term_io.specs.Faults.{BreaksItem, BreaksItems, BreaksElements, BreaksTail, Breaks}
@@ -131,6 +132,36 @@ of_bytes _ _ (f.Breaks.trailing t a next b h) = tt
 pub not_too_long : (bytes : List ℕ) (r : Result Term TermFault) → EachByte bytes → Gives (λ t. t) r (term_of bytes) → r ≢ Err TooLong
 not_too_long bytes r fits given is =
     of_bytes TooLong bytes (subst (ToldRight bytes) is (is_told bytes r fits given) (λ h. absurd cc))
+
+-- ---- where memory ran out
+
+pub told_of : (read : Result Term TermFault) → Gives {X = Term} (λ t. t) (Err (fault_or_memory read)) read
+told_of (Ok t) = tt
+told_of (Err OutOfMemory) = tt
+told_of (Err e) = refl
+
+read_of : (bytes : List ℕ) (read : Result Term TermFault) → Answers bytes read → fault_or_memory read ≡ OutOfMemory → (t : Term) × (read ≡ Ok t)
+read_of bytes (Ok t) h memory = (t, refl)
+read_of bytes (Err e) h memory = absurd (of_bytes OutOfMemory bytes (subst (λ f. Breaks f bytes) memory h))
+
+-- where running out of memory is told of bytes a term is read
+pub is_read : (bytes : List ℕ) → EachByte bytes → fault_or_memory (term_of bytes) ≡ OutOfMemory → (t : Term) × (term_of bytes ≡ Ok t)
+is_read bytes fits memory = read_of bytes (term_of bytes) (term_right bytes fits) memory
+
+-- that term is spelled so
+pub is_spelled : (bytes : List ℕ) (t : Term) → EachByte bytes → term_of bytes ≡ Ok t → Spells t bytes
+is_spelled bytes t fits read = subst (Answers bytes) read (term_right bytes fits)
+
+first_of : (r : Result Term TermFault) (e : TermFault) → Gives (λ t. t) r (Err e) → (r ≡ Err OutOfMemory → (t : Term) × (Err e ≡ Ok t)) → r ≡ Err e
+first_of (Ok t) e given memory = absurd cc
+first_of (Err OutOfMemory) e given memory = let read = (memory refl).1 in absurd cc
+first_of (Err d) e given memory = sym given
+
+-- the fault of the bytes is told
+pub is_first : (bytes : List ℕ) (r : Result Term TermFault) (e : TermFault) → Gives (λ t. t) r (term_of bytes) → (r ≡ Err OutOfMemory → (t : Term) × (term_of bytes ≡ Ok t)) → Breaks e bytes → r ≡ Err e
+is_first bytes r e given memory h =
+    let P : Result Term TermFault → Type 0 = λ read. Gives (λ t. t) r read → (r ≡ Err OutOfMemory → (t : Term) × (read ≡ Ok t)) → r ≡ Err e in
+    subst P (sym (term_fails e bytes h)) (first_of r e) given memory
 
 -- ---- each list of bytes has one meaning
 

@@ -15,7 +15,7 @@ use Rattle.pg_term_io.specs.declared.tag.TheConstants.{LARGE_TUPLE_EXT, LIST_EXT
 use Rattle.pg_term_io.specs.declared.tag.TheConstants.{NEW_PID_EXT, NEW_REFERENCE_EXT, PID_EXT, REFERENCE_EXT}
 use Rattle.pg_term_io.specs.declared.tag.TheConstants.{SMALL_ATOM_EXT, SMALL_ATOM_UTF8_EXT, SMALL_BIG_EXT}
 use Rattle.pg_term_io.specs.declared.tag.TheConstants.{SMALL_INTEGER_EXT, SMALL_TUPLE_EXT, STRING_EXT}
-use Rattle.pg_term_io.specs.declared.limits.TheConstants.{MAX_DEPTH}
+use Rattle.pg_term_io.specs.Limits.{max_depth}
 use Rattle.pg_term_io.specs.Numbers.{big_value}
 use Rattle.pg_term_io.specs.Tags.{is_atom_tag, is_list_tag, is_tag}
 use Rattle.pg_term_io.specs.Spelling.{IsAtom, Item, Items}
@@ -152,6 +152,6 @@ pub data Breaks : TermFault → List ℕ → Type 0 where
   -- the version number is not 131
   bad_version : (version : ℕ) (b : List ℕ) → version ≢ 131 → Breaks BadVersion (version ∷ b)
   -- the fault of the item
-  item : (f : TermFault) (b : List ℕ) → BreaksItem MAX_DEPTH f b → Breaks f (131 ∷ b)
+  item : (f : TermFault) (b : List ℕ) → BreaksItem max_depth f b → Breaks f (131 ∷ b)
   -- a byte stands behind the item
-  trailing : (t : Term) (a : List ℕ) (next : ℕ) (b : List ℕ) → Item MAX_DEPTH t a → Breaks TrailingBytes (131 ∷ (a ++ next ∷ b))
+  trailing : (t : Term) (a : List ℕ) (next : ℕ) (b : List ℕ) → Item max_depth t a → Breaks TrailingBytes (131 ∷ (a ++ next ∷ b))

@@ -1,5 +1,6 @@
 pub mod Faults
 pub mod Kinds
+pub mod Limits
 pub mod Lists
 pub mod Numbers
 pub mod Reading

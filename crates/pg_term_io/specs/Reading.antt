@@ -12,7 +12,7 @@ use Rattle.pg_term.specs.declared.term.Term.{Term}
 use Rattle.pg_term.specs.declared.term.Term as term
 use Rattle.pg_term.specs.RefParts.{RefParts}
 use Rattle.pg_term.specs.Fault.{checked_atom}
-use Rattle.pg_term_io.specs.declared.limits.TheConstants.{MAX_DEPTH}
+use Rattle.pg_term_io.specs.Limits.{max_depth}
 use Rattle.pg_term_io.specs.Numbers.{int_of, big_value}
 use Rattle.pg_term_io.specs.declared.tag.Size.{Size}
 use Rattle.pg_term_io.specs.declared.tag.Size.TheVariants.{Small, Large}
@@ -242,5 +242,5 @@ tail_at room = (readers room).tail
 unfoldable pub term_of : List ℕ → Result Term TermFault
 term_of [] = Err Truncated
 term_of (version ∷ bytes) =
-    if version == 131 then (item_at MAX_DEPTH bytes >>= λ x. if length x.1 == 0 then Ok x.0 else Err TrailingBytes)
+    if version == 131 then (item_at max_depth bytes >>= λ x. if length x.1 == 0 then Ok x.0 else Err TrailingBytes)
     else Err BadVersion

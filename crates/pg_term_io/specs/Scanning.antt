@@ -4,8 +4,8 @@ use Rattle.std.specs.Prelude.{Some, None, Result, Ok, Err, nat_lt, ◌==◌, if�
 use Rattle.std.specs.Int.{w16, w32}
 use Rattle.pg_term.specs.declared.fault.TermFault.{TermFault}
 use Rattle.pg_term.specs.declared.fault.TermFault.TheVariants.{Truncated, BadVersion, UnknownTag, TooDeep}
-use Rattle.pg_term.specs.declared.fault.TermFault.TheVariants.{BadAtom, ImproperList, BadReference, TrailingBytes}
-use Rattle.pg_term_io.specs.declared.limits.TheConstants.{MAX_DEPTH}
+use Rattle.pg_term.specs.declared.fault.TermFault.TheVariants.{BadAtom, ImproperList, BadReference, TrailingBytes, OutOfMemory}
+use Rattle.pg_term_io.specs.Limits.{max_depth}
 use Rattle.pg_term_io.specs.declared.tag.Size.{Size}
 use Rattle.pg_term_io.specs.declared.tag.Encoding.{Encoding}
 use Rattle.pg_term_io.specs.declared.tag.Creation.{Creation}
@@ -38,6 +38,11 @@ ScansAs view (Err e) read = read ≡ Err e
 abbrev pub Names : {X Y : Type 0} → Result X TermFault → Result Y TermFault → Type 0
 Names {X} {Y} (Ok x) read = (y : Y) × (read ≡ Ok y)
 Names (Err e) read = read ≡ Err e
+
+-- what is told where memory ran out: the fault, where there is one
+abbrev pub fault_or_memory : {A : Type 0} → Result A TermFault → TermFault
+fault_or_memory (Ok x) = OutOfMemory
+fault_or_memory (Err e) = e
 
 -- behind an atom's tag
 unfoldable pub over_atom : Size → Encoding → Walk
@@ -170,5 +175,5 @@ over_tail room = (walks room).tail
 unfoldable pub over_term : Walk
 over_term [] = Err Truncated
 over_term (version ∷ bytes) =
-    if version == 131 then (over_item MAX_DEPTH bytes >>= λ rest. if length rest == 0 then Ok rest else Err TrailingBytes)
+    if version == 131 then (over_item max_depth bytes >>= λ rest. if length rest == 0 then Ok rest else Err TrailingBytes)
     else Err BadVersion

@@ -13,7 +13,7 @@ use Rattle.pg_term_io.specs.declared.tag.TheConstants.{LARGE_TUPLE_EXT, LIST_EXT
 use Rattle.pg_term_io.specs.declared.tag.TheConstants.{NEW_REFERENCE_EXT, NIL_EXT, PID_EXT, REFERENCE_EXT}
 use Rattle.pg_term_io.specs.declared.tag.TheConstants.{SMALL_ATOM_EXT, SMALL_ATOM_UTF8_EXT, SMALL_BIG_EXT}
 use Rattle.pg_term_io.specs.declared.tag.TheConstants.{SMALL_INTEGER_EXT, SMALL_TUPLE_EXT, STRING_EXT}
-use Rattle.pg_term_io.specs.declared.limits.TheConstants.{MAX_DEPTH}
+use Rattle.pg_term_io.specs.Limits.{max_depth}
 use Rattle.pg_term_io.specs.Numbers.{int_of, big_value}
 
 -- an atom of at most 255 characters, with its tag
@@ -88,4 +88,4 @@ mutual
 
 -- the version number 131, and one item of depth 1, which with all that it holds is at most 64 levels deep
 pub data Spells : Term → List ℕ → Type 0 where
-  version : (t : Term) (b : List ℕ) → Item MAX_DEPTH t b → Spells t (131 ∷ b)
+  version : (t : Term) (b : List ℕ) → Item max_depth t b → Spells t (131 ∷ b)

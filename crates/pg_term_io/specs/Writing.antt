@@ -14,7 +14,7 @@ use Rattle.pg_term_io.specs.declared.tag.TheConstants.{ATOM_UTF8_EXT, BINARY_EXT
 use Rattle.pg_term_io.specs.declared.tag.TheConstants.{LARGE_TUPLE_EXT, LIST_EXT, NEWER_REFERENCE_EXT}
 use Rattle.pg_term_io.specs.declared.tag.TheConstants.{NEW_PID_EXT, NIL_EXT, SMALL_ATOM_UTF8_EXT}
 use Rattle.pg_term_io.specs.declared.tag.TheConstants.{SMALL_BIG_EXT, SMALL_INTEGER_EXT, SMALL_TUPLE_EXT}
-use Rattle.pg_term_io.specs.declared.limits.TheConstants.{MAX_DEPTH, MAX_LEN}
+use Rattle.pg_term_io.specs.Limits.{max_depth, max_len}
 use Rattle.pg_term_io.specs.Spelling.{Item, Items}
 
 -- a number in base 256, the least significant digit first: the fewest digits that do, and none for 0
@@ -95,13 +95,13 @@ written t = 131 ∷ item_bytes t
 
 -- the term may be written: it nests at most 64 levels deep, and takes at most 16,777,216 bytes
 pub record IsWritable (t : Term) : Type 0 where
-  pub shallow : depth t ≤ MAX_DEPTH
-  pub short : length (written t) ≤ MAX_LEN
+  pub shallow : depth t ≤ max_depth
+  pub short : length (written t) ≤ max_len
 
 -- it takes more bytes, and does not nest deeper
 pub record IsTooLong (t : Term) : Type 0 where
-  pub shallow : depth t ≤ MAX_DEPTH
-  pub long : MAX_LEN < length (written t)
+  pub shallow : depth t ≤ max_depth
+  pub long : max_len < length (written t)
 
 -- what is written for the term spells it, wherever it is not too deep
 pub record IsSpelled (t : Term) : Type 0 where

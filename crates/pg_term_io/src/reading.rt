@@ -1,13 +1,13 @@
 //! Bytes to terms.
 
-ghost use Rattle.std.specs.Prelude.{◌≡◌, ◌≢◌, IfOk, IfErr, Ok, Err};
+ghost use Rattle.std.specs.Prelude.{◌≡◌, ◌≢◌, IfOk, IfErr, IsOk, Ok, Err};
 ghost use Rattle.pg_term.specs.declared.fault.TermFault.{TermFault};
 ghost use Rattle.pg_term.specs.declared.fault.TermFault.TheVariants.{OutOfMemory, TooLong};
 ghost use Rattle.pg_term.specs.declared.term.Term.{Term};
 ghost use Rattle.pg_term.specs.Fault.{Gives};
 ghost use Rattle.pg_term_io.specs.Spelling.{Spells};
 ghost use Rattle.pg_term_io.specs.Faults.{Breaks};
-ghost use Rattle.pg_term_io.specs.Scanning.{Names as Judges};
+ghost use Rattle.pg_term_io.specs.Scanning.{Names as Judges, fault_or_memory};
 ghost use Rattle.pg_term_io.specs.Reading.{item_at, term_of};
 
 mod atoms;
@@ -39,10 +39,11 @@ use std::alloc::Global;
 ///    `TooDeep`: a STRING at depth 64 with a byte, seen once its bytes are there;
 /// 3. `TrailingBytes`: bytes follow the item.
 ///
-/// `OutOfMemory` may come in place of a later one.
+/// `OutOfMemory` comes only of bytes that spell a term.
 ///
 /// Cost: linear in the number of bytes. Room for elements is taken once, for no more of them than there are bytes
-/// for, those of the lists around included; an atom takes one allocation, above 22 bytes three.
+/// for, those of the lists around included; an atom takes one allocation, above 22 bytes three. Where memory runs out
+/// the bytes are walked over once more, as `check_term` does.
 ///
 /// The rule: the External Term Format chapter of the Erlang documentation.
 pub fn decode(alloc: Global, bytes: &[u8]) -> Result<Term, TermFault>
@@ -52,17 +53,41 @@ pub fn decode(alloc: Global, bytes: &[u8]) -> Result<Term, TermFault>
     ensures only { (t : Term) → Spells t bytes.now → Gives (λ t. t) result (Ok t) }
     // A fault is that of the bytes, unless memory ran out.
     ensures told { IfErr result (λ f. f ≢ OutOfMemory → Breaks f bytes.now) }
-    // The fault of the bytes is given, unless memory runs out.
-    ensures first { (f : TermFault) → Breaks f bytes.now → Gives (λ t. t) result (Err f) }
+    // The fault of the bytes is given, also where memory runs out.
+    ensures first { (f : TermFault) → Breaks f bytes.now → result ≡ Err f }
+    // So memory runs out only of bytes that spell a term.
+    ensures memory { result ≡ Err OutOfMemory → (t : Term) × Spells t bytes.now }
     ensures never { result ≢ Err TooLong }
     // The same by a function that computes, for callers.
     ensures exact { Gives (λ t. t) result (term_of bytes.now) }
+    ensures computed { result ≡ Err OutOfMemory → IsOk (term_of bytes.now) }
 {
     whole_term(alloc, bytes)
 }
 
-#[tactic(auto, unfolding(crate::specs::Reading::term_of))]
+// A growth may be refused before the bytes are read to their end. Then their own fault is told, where they have one.
 fn whole_term(alloc: Global, bytes: &[u8]) -> Result<Term, TermFault>
+    ensures given { Gives (λ t. t) result (term_of bytes.now) }
+    ensures memory { result ≡ Err OutOfMemory → (t : Term) × (term_of bytes.now ≡ Ok t) }
+{
+    match built_term(alloc, bytes) {
+        Ok(term) => Ok(term),
+        Err(TermFault::OutOfMemory) => Err(fault_without_memory(bytes)),
+        Err(fault) => Err(fault),
+    }
+}
+
+fn fault_without_memory(bytes: &[u8]) -> TermFault
+    ensures { result ≡ fault_or_memory (term_of bytes.now) }
+{
+    match check_term(bytes) {
+        Ok(()) => TermFault::OutOfMemory,
+        Err(fault) => fault,
+    }
+}
+
+#[tactic(auto, unfolding(crate::specs::Reading::term_of))]
+fn built_term(alloc: Global, bytes: &[u8]) -> Result<Term, TermFault>
     ensures { Gives (λ t. t) result (term_of bytes.now) }
 {
     match bytes {

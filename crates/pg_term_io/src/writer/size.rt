@@ -3,6 +3,7 @@ ghost use Rattle.pg_term.specs.Depth.{depth, greatest_depth};
 ghost use Rattle.pg_term_io.specs.Writing.{digits, int_bytes, atom_bytes, pid_bytes, reference_bytes};
 ghost use Rattle.pg_term_io.specs.Writing.{binary_bytes, tuple_head, list_head, item_bytes, all_bytes};
 ghost use Rattle.pg_term_io.specs.Writing.{tuple_bytes, list_bytes, written, IsWritable, IsTooLong};
+ghost use Rattle.pg_term_io.specs.Limits.{max_depth};
 
 use crate::limits::{MAX_DEPTH, MAX_LEN};
 use pg_term::{Atom, Pid, Reference, Term, TermFault};
@@ -168,7 +169,7 @@ fn all_len(terms: &[Term], room: usize) -> Result<usize, TermFault>
 /// Cost: no memory; one walk over the term, at most 64 levels down.
 pub fn encode_len(term: &Term) -> Result<usize, TermFault>
     ensures ok { IfOk result (λ n. n ≡ length (written term.now)) }
-    ensures too_deep { (result ≡ Err TermFault.TooDeep) ↔ (MAX_DEPTH < depth term.now) }
+    ensures too_deep { (result ≡ Err TermFault.TooDeep) ↔ (max_depth < depth term.now) }
     ensures too_long { (result ≡ Err TermFault.TooLong) ↔ IsTooLong term.now }
     ensures succeeds { IsOk result ↔ IsWritable term.now }
 {

@@ -5,8 +5,8 @@ ghost use Rattle.pg_term_io.specs.Writing.{big_bytes, int_bytes, atom_bytes, pid
 ghost use Rattle.pg_term_io.specs.Writing.{binary_bytes, tuple_head, list_head, item_bytes, all_bytes, tuple_bytes};
 ghost use Rattle.pg_term_io.specs.Writing.{list_bytes, written, IsWritable, IsTooLong, IsSpelled, AreSpelled};
 ghost use Rattle.pg_term_io.specs.Spelling.{IsAtom, Spells};
+ghost use Rattle.pg_term_io.specs.Limits.{max_depth, max_len};
 
-use crate::limits::{MAX_DEPTH, MAX_LEN};
 use crate::tag::{
     ATOM_UTF8_EXT, BINARY_EXT, INTEGER_EXT, LARGE_TUPLE_EXT, LIST_EXT, NEW_PID_EXT,
     NEWER_REFERENCE_EXT, NIL_EXT, SMALL_ATOM_UTF8_EXT, SMALL_BIG_EXT, SMALL_INTEGER_EXT,
@@ -113,7 +113,7 @@ pub fn put_reference(out: &mut BytesMut, reference: &Reference)
 
 // Writes a binary into room that was reserved: BINARY_EXT.
 fn put_binary(out: &mut BytesMut, content: &[u8])
-    requires short { length (binary_bytes content.now) ≤ MAX_LEN }
+    requires short { length (binary_bytes content.now) ≤ max_len }
     requires room { length (binary_bytes content.now) ≤ out.old.spare }
     ensures items { out.new.items ≡ out.old.items ++ binary_bytes content.now }
     ensures spare { out.new.spare + length (binary_bytes content.now) ≡ out.old.spare }
@@ -160,7 +160,7 @@ pub fn put_list_head(out: &mut BytesMut, count: u32)
 /// Cost: no memory; one walk over the term, as many levels down as it nests: `item_len` bounds them.
 #[cycle(put)]
 pub fn put_item(out: &mut BytesMut, term: &Term)
-    requires short { length (item_bytes term.now) ≤ MAX_LEN }
+    requires short { length (item_bytes term.now) ≤ max_len }
     requires room { length (item_bytes term.now) ≤ out.old.spare }
     ensures items { out.new.items ≡ out.old.items ++ item_bytes term.now }
     ensures spare { out.new.spare + length (item_bytes term.now) ≡ out.old.spare }
@@ -179,7 +179,7 @@ pub fn put_item(out: &mut BytesMut, term: &Term)
 
 #[cycle(put)]
 fn put_tuple(out: &mut BytesMut, terms: &[Term])
-    requires short { length (tuple_bytes terms.now) ≤ MAX_LEN }
+    requires short { length (tuple_bytes terms.now) ≤ max_len }
     requires room { length (tuple_bytes terms.now) ≤ out.old.spare }
     ensures items { out.new.items ≡ out.old.items ++ tuple_bytes terms.now }
     ensures spare { out.new.spare + length (tuple_bytes terms.now) ≡ out.old.spare }
@@ -191,7 +191,7 @@ fn put_tuple(out: &mut BytesMut, terms: &[Term])
 
 #[cycle(put)]
 fn put_list(out: &mut BytesMut, terms: &[Term])
-    requires short { length (list_bytes terms.now) ≤ MAX_LEN }
+    requires short { length (list_bytes terms.now) ≤ max_len }
     requires room { length (list_bytes terms.now) ≤ out.old.spare }
     ensures items { out.new.items ≡ out.old.items ++ list_bytes terms.now }
     ensures spare { out.new.spare + length (list_bytes terms.now) ≡ out.old.spare }
@@ -204,7 +204,7 @@ fn put_list(out: &mut BytesMut, terms: &[Term])
 
 #[cycle(put)]
 fn put_all(out: &mut BytesMut, terms: &[Term])
-    requires short { length (all_bytes terms.now) ≤ MAX_LEN }
+    requires short { length (all_bytes terms.now) ≤ max_len }
     requires room { length (all_bytes terms.now) ≤ out.old.spare }
     ensures items { out.new.items ≡ out.old.items ++ all_bytes terms.now }
     ensures spare { out.new.spare + length (all_bytes terms.now) ≡ out.old.spare }
@@ -222,11 +222,11 @@ fn put_all(out: &mut BytesMut, terms: &[Term])
 
 #[tactic(auto, using(crate::proofs::Spelled::written_spelled))]
 fn put_written(out: &mut BytesMut, term: &Term)
-    requires short { length (written term.now) ≤ MAX_LEN }
+    requires short { length (written term.now) ≤ max_len }
     requires room { length (written term.now) ≤ out.old.spare }
     ensures items { out.new.items ≡ out.old.items ++ written term.now }
     ensures spare { out.new.spare + length (written term.now) ≡ out.old.spare }
-    ensures spelled { depth term.now ≤ MAX_DEPTH → Spells term.now (written term.now) }
+    ensures spelled { depth term.now ≤ max_depth → Spells term.now (written term.now) }
 {
     out.extend_reserved(&[131]);
     put_item(out, term);
@@ -246,7 +246,7 @@ pub fn encode(alloc: Global, term: &Term) -> Result<Vec<u8>, TermFault>
     // Only a writable term is written, and for it only memory can be missing.
     ensures writable { IsOk result → IsWritable term.now }
     ensures out_of_memory { IsWritable term.now → IsOkUnless result TermFault.OutOfMemory }
-    ensures too_deep { (result ≡ Err TermFault.TooDeep) ↔ (MAX_DEPTH < depth term.now) }
+    ensures too_deep { (result ≡ Err TermFault.TooDeep) ↔ (max_depth < depth term.now) }
     ensures too_long { (result ≡ Err TermFault.TooLong) ↔ IsTooLong term.now }
 {
     let len = encode_len(term)?;
@@ -269,7 +269,7 @@ pub fn encode_into(term: &Term, out: &mut BytesMut) -> Result<(), TermFault>
     // Only a writable term is written, and for it only room can be missing.
     ensures writable { IsOk result → IsWritable term.now }
     ensures out_of_memory { IsWritable term.now → IsOkUnless result TermFault.OutOfMemory }
-    ensures too_deep { (result ≡ Err TermFault.TooDeep) ↔ (MAX_DEPTH < depth term.now) }
+    ensures too_deep { (result ≡ Err TermFault.TooDeep) ↔ (max_depth < depth term.now) }
     ensures too_long { (result ≡ Err TermFault.TooLong) ↔ IsTooLong term.now }
     ensures succeeds { IsWritable term.now
         → length (written term.now) ≤ out.old.spare → IsOk result }

@@ -7,4 +7,4 @@ use Rattle.pg_talk.proofs.speaker.group.Goals as goal
 
 pub returns-in-Ok : goal.returns-in-Ok
 unfolding chars
-returns-in-Ok c = ap Atom (atom_is (codes "g") c.in-Ok.name c.in-Ok.ensures)
+returns-in-Ok c = ap Atom (atom_is (codes "g") c.in-Ok.name c.in-Ok.ensures.exact)

@@ -22,4 +22,4 @@ returns c =
     let bytes = c.args.bytes.now in
     let whole : c.as_str.result.now ≡ encode_utf8_all bytes = c.as_str.ensures.value ∙ c.loop-byte.invariant.0 ∙ ap encode_utf8_all (take_all c.loop-byte.byte-index bytes c.loop-byte-test.false) in
     let text : chars c.as_str.result.now ≡ bytes = ap chars whole ∙ latin_chars bytes (λ i. omega (arith, c.type_inv.bytes i)) in
-    rw text at c.new.ensures
+    rw text at c.new.ensures.exact

@@ -8,7 +8,7 @@ use Rattle.pg_term_io.proofs.reading.atoms.utf8_atom.Goals as goal
 pub returns-in-Ok : goal.returns-in-Ok
 returns-in-Ok c =
     let cases = c.in-Ok.ensures.cases in
-    rw (← cases.0, is_utf8-from_IsUtf8 c.in-Ok.text.now (subst IsUtf8 (sym cases.0) cases.1)) c.new.ensures
+    rw (← cases.0, is_utf8-from_IsUtf8 c.in-Ok.text.now (subst IsUtf8 (sym cases.0) cases.1)) c.new.ensures.exact
 
 not_text : (bytes : List ℕ) (b : Bool) → is_utf8 bytes ≡ b → (IsUtf8 bytes → ⊥) → utf8_atom bytes ≡ Err BadAtom
 not_text bytes true e h = absurd (h (IsUtf8-from_is_utf8 bytes e))
