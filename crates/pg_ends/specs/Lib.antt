@@ -1,4 +1,5 @@
 pub mod EndFault
+pub mod Limits
 pub mod Numbers
 pub mod Processes
 pub use Rattle.pg_group.specs.Ended

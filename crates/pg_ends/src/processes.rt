@@ -1,5 +1,5 @@
 ghost use Rattle.std.specs.Prelude.{◌≡◌, ◌≤◌};
-ghost use Rattle.pg_ends.specs.declared.processes.TheConstants.{MAX_PROCESSES};
+ghost use Rattle.pg_ends.specs.Limits.{max_processes};
 
 use crate::fault::EndFault;
 use crate::laws::numbered_from_one;
@@ -16,7 +16,7 @@ pub const MAX_PROCESSES: u32 = 268_435_455;
 pub struct Processes {
     node: Atom,
     made: u32,
-    ghost in_range: { made ≤ MAX_PROCESSES },
+    ghost in_range: { made ≤ max_processes },
 }
 
 impl Processes {
@@ -30,7 +30,7 @@ impl Processes {
     ///
     /// Cost: no memory.
     pub fn new(node: Atom, made: u32) -> Processes
-        requires { made ≤ MAX_PROCESSES }
+        requires { made ≤ max_processes }
         ensures node { node_of result ≡ node }
         ensures made { made_of result ≡ made }
     {
@@ -75,7 +75,7 @@ impl Processes {
     ///
     /// Cost: no memory.
     pub fn is_full(&self) -> bool
-        ensures { result ≡ nat_le MAX_PROCESSES (made_of self.now) }
+        ensures { result ≡ nat_le max_processes (made_of self.now) }
     {
         self.made >= MAX_PROCESSES
     }
@@ -90,7 +90,7 @@ impl Processes {
         ensures made { OnOk result (made_of self.new ≡ made_of self.old + 1) }
         ensures err { OnErr result (made_of self.new ≡ made_of self.old) }
         ensures kept { node_of self.new ≡ node_of self.old }
-        ensures limit { (result ≡ Err ProcessLimit) ↔ (made_of self.old ≡ MAX_PROCESSES) }
+        ensures limit { (result ≡ Err ProcessLimit) ↔ (made_of self.old ≡ max_processes) }
     {
         if self.made == MAX_PROCESSES {
             return Err(EndFault::ProcessLimit);

@@ -6,7 +6,7 @@ use Rattle.std.proofs.lemmas.Bool.{lt-ltb, le-ltb, ltb-true, ltb-false}
 use Rattle.std.proofs.lemmas.List.{append_assoc, length-append, length-drop, take-append-le}
 use Rattle.std.proofs.lemmas.List.{drop-append-le, take_at, drop_at, length-take-le}
 use Rattle.std.proofs.lemmas.Nat.{from_be_bytes-to_be_bytes_4}
-use Rattle.pg_frame.specs.declared.TheConstants.{MAX_BODY}
+use Rattle.pg_frame.specs.Limits.{max_body}
 use Rattle.pg_frame.specs.Frames.{IsBody, IsOpen, IsOverlong, frame, size_at, too_long, front_of, behind}
 
 length-head : (n : ℕ) → length (to_be_bytes w32 n) ≡ 4
@@ -38,21 +38,21 @@ at_short : (b : List ℕ) → length b < 4 → front_of b ≡ Ok None
 unfolding front_of
 at_short b l = rw (lt-ltb (length b) 4 l)
 
-at_overlong : (b : List ℕ) → 4 ≤ length b → MAX_BODY < size_at b → front_of b ≡ Err too_long
+at_overlong : (b : List ℕ) → 4 ≤ length b → max_body < size_at b → front_of b ≡ Err too_long
 unfolding front_of
-at_overlong b l h = rw (le-ltb (length b) 4 l) (rw (lt-ltb MAX_BODY (size_at b) h))
+at_overlong b l h = rw (le-ltb (length b) 4 l) (rw (lt-ltb max_body (size_at b) h))
 
-at_cut : (b : List ℕ) → 4 ≤ length b → size_at b ≤ MAX_BODY → length b < 4 + size_at b → front_of b ≡ Ok None
+at_cut : (b : List ℕ) → 4 ≤ length b → size_at b ≤ max_body → length b < 4 + size_at b → front_of b ≡ Ok None
 unfolding front_of
-at_cut b l h d = rw (le-ltb (length b) 4 l) (rw (le-ltb MAX_BODY (size_at b) h) (rw (lt-ltb (length b) (4 + size_at b) d)))
+at_cut b l h d = rw (le-ltb (length b) 4 l) (rw (le-ltb max_body (size_at b) h) (rw (lt-ltb (length b) (4 + size_at b) d)))
 
-at_whole : (b : List ℕ) → 4 ≤ length b → size_at b ≤ MAX_BODY → 4 + size_at b ≤ length b → front_of b ≡ Ok (Some (take (size_at b) (drop 4 b)))
+at_whole : (b : List ℕ) → 4 ≤ length b → size_at b ≤ max_body → 4 + size_at b ≤ length b → front_of b ≡ Ok (Some (take (size_at b) (drop 4 b)))
 unfolding front_of
-at_whole b l h d = rw (le-ltb (length b) 4 l) (rw (le-ltb MAX_BODY (size_at b) h) (rw (le-ltb (length b) (4 + size_at b) d)))
+at_whole b l h d = rw (le-ltb (length b) 4 l) (rw (le-ltb max_body (size_at b) h) (rw (le-ltb (length b) (4 + size_at b) d)))
 
 -- a whole frame at the front
 pub record IsFront (b body : List ℕ) : Type 0 where
-  pub lawful : size_at b ≤ MAX_BODY
+  pub lawful : size_at b ≤ max_body
   pub fits : 4 + size_at b ≤ length b
   pub size : length body ≡ size_at b
   pub body_is : take (size_at b) (drop 4 b) ≡ body
@@ -64,22 +64,22 @@ pub data Cases (b : List ℕ) : Type 0 where
   overlong : front_of b ≡ Err too_long → IsOverlong b → Cases b
 
 pub cases_of : (b : List ℕ) → Cases b
-cases_of b = go (nat_lt (length b) 4) refl (nat_lt MAX_BODY (size_at b)) refl (nat_lt (length b) (4 + size_at b)) refl
+cases_of b = go (nat_lt (length b) 4) refl (nat_lt max_body (size_at b)) refl (nat_lt (length b) (4 + size_at b)) refl
   where
-    go : (x : Bool) → nat_lt (length b) 4 ≡ x → (y : Bool) → nat_lt MAX_BODY (size_at b) ≡ y → (z : Bool) → nat_lt (length b) (4 + size_at b) ≡ z → Cases b
+    go : (x : Bool) → nat_lt (length b) 4 ≡ x → (y : Bool) → nat_lt max_body (size_at b) ≡ y → (z : Bool) → nat_lt (length b) (4 + size_at b) ≡ z → Cases b
     go true e y f z g = let l : length b < 4 = ltb-true (length b) 4 e in waiting (at_short b l) (inl l)
     go false e true f z g =
         let l : 4 ≤ length b = ltb-false (length b) 4 e in
-        let h : MAX_BODY < size_at b = ltb-true MAX_BODY (size_at b) f in
+        let h : max_body < size_at b = ltb-true max_body (size_at b) f in
         overlong (at_overlong b l h) (record { has_length = l; unlawful = h })
     go false e false f true g =
         let l : 4 ≤ length b = ltb-false (length b) 4 e in
-        let h : size_at b ≤ MAX_BODY = ltb-false MAX_BODY (size_at b) f in
+        let h : size_at b ≤ max_body = ltb-false max_body (size_at b) f in
         let d : length b < 4 + size_at b = ltb-true (length b) (4 + size_at b) g in
         waiting (at_cut b l h d) (inr (record { has_length = l; lawful = h; short = d }))
     go false e false f false g =
         let l : 4 ≤ length b = ltb-false (length b) 4 e in
-        let h : size_at b ≤ MAX_BODY = ltb-false MAX_BODY (size_at b) f in
+        let h : size_at b ≤ max_body = ltb-false max_body (size_at b) f in
         let d : 4 + size_at b ≤ length b = ltb-false (length b) (4 + size_at b) g in
         whole (take (size_at b) (drop 4 b)) (at_whole b l h d)
         (record { lawful = h; fits = d; size = length-take-le (size_at b) (drop 4 b) (omega (arith, length-drop 4 b)); body_is = refl })

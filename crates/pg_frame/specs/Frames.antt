@@ -6,7 +6,7 @@ use Rattle.std.specs.Int.{w32, to_be_bytes, from_be_bytes}
 use Rattle.std.specs.Option.{option_copied}
 use Rattle.std.specs.Borrow.{Bor}
 use Rattle.pg_frame.specs.declared.fault.TooLong.{TooLong}
-use Rattle.pg_frame.specs.declared.TheConstants.{MAX_BODY}
+use Rattle.pg_frame.specs.Limits.{max_body}
 
 -- each number is a byte
 abbrev pub IsBytes : List ℕ → Type 0
@@ -18,7 +18,7 @@ too_long = record {}
 
 -- what a frame may hold
 abbrev pub IsBody : List ℕ → Type 0
-IsBody body = length body ≤ MAX_BODY
+IsBody body = length body ≤ max_body
 
 -- four bytes of length, the highest first, and that many bytes
 unfoldable pub frame : List ℕ → List ℕ
@@ -31,7 +31,7 @@ size_at bytes = from_be_bytes w32 (take 4 bytes)
 -- the length is there, and is lawful, and the body is cut off
 pub record IsWithinBody (rest : List ℕ) : Type 0 where
   pub has_length : 4 ≤ length rest
-  pub lawful : size_at rest ≤ MAX_BODY
+  pub lawful : size_at rest ≤ max_body
   pub short : length rest < 4 + size_at rest
 
 -- it ends before its first frame is whole
@@ -41,7 +41,7 @@ IsOpen rest = (length rest < 4) ⊎ IsWithinBody rest
 -- it begins with the length of no frame
 pub record IsOverlong (rest : List ℕ) : Type 0 where
   pub has_length : 4 ≤ length rest
-  pub unlawful : MAX_BODY < size_at rest
+  pub unlawful : max_body < size_at rest
 
 -- the bytes are these whole frames, one after another, and a rest that begins with none
 pub record Frames (bytes : List ℕ) (bodies : List (List ℕ)) (rest : List ℕ) : Type 0 where
@@ -53,7 +53,7 @@ pub record Frames (bytes : List ℕ) (bodies : List (List ℕ)) (rest : List ℕ
 unfoldable pub front_of : List ℕ → Result (Option (List ℕ)) TooLong
 front_of bytes =
     if nat_lt (length bytes) 4 then Ok None
-    else if nat_lt MAX_BODY (size_at bytes) then Err too_long
+    else if nat_lt max_body (size_at bytes) then Err too_long
     else if nat_lt (length bytes) (4 + size_at bytes) then Ok None
     else Ok (Some (take (size_at bytes) (drop 4 bytes)))
 

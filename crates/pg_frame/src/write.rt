@@ -2,6 +2,7 @@ ghost use Rattle.std.specs.Prelude.{◌≡◌, ◌+◌, ◌<◌, ◌≤◌, ◌�
 ghost use Rattle.std.specs.Prelude.{IfOk, OnOk, OnErr, IsErrOf, vec_len, vec_capacity};
 ghost use Rattle.std.specs.Int.{w32, to_be_bytes};
 ghost use Rattle.pg_frame.specs.Frames.{frame};
+ghost use Rattle.pg_frame.specs.Limits.{max_body};
 
 use crate::{FrameFault, MAX_BODY, TooLong};
 use byteorder::{BigEndian, ByteOrder};
@@ -10,7 +11,7 @@ use bytes::BytesMut;
 // The length of the body as it is written in the frame.
 fn length_of(body: &[u8]) -> Result<[u8; 4], TooLong>
     ensures ok { IfOk result (λ head. head ≡ to_be_bytes w32 (length body.now)) }
-    ensures too_long { IsErr result ↔ (MAX_BODY < length body.now) }
+    ensures too_long { IsErr result ↔ (max_body < length body.now) }
 {
     if body.len() > MAX_BODY as usize {
         return Err(TooLong);
@@ -33,7 +34,7 @@ fn length_of(body: &[u8]) -> Result<[u8; 4], TooLong>
 pub fn write_frame(out: &mut Vec<u8>, body: &[u8]) -> Result<(), FrameFault>
     ensures ok { OnOk result (out.new.items ≡ out.old.items ++ frame body.now) }
     ensures err { OnErr result (out.new.items ≡ out.old.items) }
-    ensures too_long { IsErrOf result FrameFault.TooLong ↔ (MAX_BODY < length body.now) }
+    ensures too_long { IsErrOf result FrameFault.TooLong ↔ (max_body < length body.now) }
     ensures out_of_memory { IsErrOf result FrameFault.OutOfMemory
         → vec_capacity out.old < vec_len out.old + length (frame body.now) }
 {
@@ -55,7 +56,7 @@ pub fn write_frame(out: &mut Vec<u8>, body: &[u8]) -> Result<(), FrameFault>
 pub fn frame_into(out: &mut BytesMut, body: &[u8]) -> Result<(), FrameFault>
     ensures ok { OnOk result (out.new.items ≡ out.old.items ++ frame body.now) }
     ensures err { OnErr result (out.new.items ≡ out.old.items) }
-    ensures too_long { IsErrOf result FrameFault.TooLong ↔ (MAX_BODY < length body.now) }
+    ensures too_long { IsErrOf result FrameFault.TooLong ↔ (max_body < length body.now) }
     ensures out_of_memory { IsErrOf result FrameFault.OutOfMemory
         → out.old.spare < length (frame body.now) }
     ensures spare { OnOk result (out.old.spare ≤ out.new.spare + length (frame body.now)) }

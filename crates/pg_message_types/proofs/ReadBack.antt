@@ -21,7 +21,7 @@ use Rattle.pg_message_types.specs.declared.message.Request.TheVariants.{SetLock,
 use Rattle.pg_message_types.specs.declared.message.Said.{Said}
 use Rattle.pg_message_types.specs.declared.message.Said.TheVariants.{Granted, Denied, Applied}
 use Rattle.pg_message_types.specs.declared.packet.Packet.{Packet}
-use Rattle.pg_message_types.specs.declared.packet.TheConstants.{MAX_STAMP}
+use Rattle.pg_message_types.specs.Limits.{max_stamp}
 use Rattle.pg_message_types.specs.Name.{is_name}
 use Rattle.pg_message_types.specs.Parts.{elements_of, items_of, is_word, atom_of, reference_of, pid_of}
 use Rattle.pg_message_types.specs.Reading.{Groups, request_on, request_in, membership_of, request_of}
@@ -178,7 +178,7 @@ message_back (Down p) = refers_not (codes "down") (Process p) ∙ ap (option_map
 
 -- ---- packets
 
-stamp_back : (n : ℕ) → stamp_of (Int (pos n)) ≡ cond (nat_le n MAX_STAMP) (Ok n) (Err faults.StampTooLarge)
+stamp_back : (n : ℕ) → stamp_of (Int (pos n)) ≡ cond (nat_le n max_stamp) (Ok n) (Err faults.StampTooLarge)
 stamp_back n = search (rules, the_lemmas)
 
 settled : (b c : Bool) (n : ℕ) (m : Message) → stamped_message (cond b (Some m) None) (cond c (Ok n) (Err faults.StampTooLarge))
@@ -191,4 +191,4 @@ pub read_back : (p : Packet) → packet_of (term_of_packet p) ≡ sendable p
 read_back p =
     ap packet_in (elements_is (Int (pos p.stamp) ∷ message_term p.message ∷ []))
     ∙ (λ i. stamped_message (message_back p.message i) (stamp_back p.stamp i))
-    ∙ settled (is_sayable p.message) (nat_le p.stamp MAX_STAMP) p.stamp p.message
+    ∙ settled (is_sayable p.message) (nat_le p.stamp max_stamp) p.stamp p.message

@@ -1,5 +1,6 @@
 pub mod Fault
 pub mod Groups
+pub mod Limits
 pub mod Members
 pub mod Name
 pub mod Parts

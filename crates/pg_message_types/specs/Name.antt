@@ -3,8 +3,8 @@ use Rattle.std.specs.Prelude.{Bool, length, nat_le, ◌&&◌}
 use Rattle.pg_term.specs.declared.term.Term.{Term}
 use Rattle.pg_term.specs.Depth.{depth}
 use Rattle.pg_term_io.specs.Writing.{written}
-use Rattle.pg_message_types.specs.declared.name.TheConstants.{MAX_NAME_LEN, MAX_NAME_DEPTH}
+use Rattle.pg_message_types.specs.Limits.{max_name_len, max_name_depth}
 
 -- it nests at most 32 levels deep, and takes at most 1,024 bytes as it is written
 abbrev pub is_name : Term → Bool
-is_name t = nat_le (depth t) MAX_NAME_DEPTH && nat_le (length (written t)) MAX_NAME_LEN
+is_name t = nat_le (depth t) max_name_depth && nat_le (length (written t)) max_name_len

@@ -24,7 +24,7 @@ use Rattle.pg_message_types.specs.declared.message.Request.TheVariants.{SetLock,
 use Rattle.pg_message_types.specs.declared.message.Said.{Said}
 use Rattle.pg_message_types.specs.declared.message.Said.TheVariants.{Granted, Denied, Applied}
 use Rattle.pg_message_types.specs.declared.packet.Packet.{Packet}
-use Rattle.pg_message_types.specs.declared.packet.TheConstants.{MAX_STAMP}
+use Rattle.pg_message_types.specs.Limits.{max_stamp}
 use Rattle.pg_message_types.specs.Name.{is_name}
 use Rattle.pg_message_types.specs.Parts.{elements_of, items_of, is_word, atom_of, reference_of, pid_of}
 
@@ -139,7 +139,7 @@ message_of t = option_and_then message_in (elements_of t)
 
 -- an integer from 0 to the greatest clock
 abbrev pub stamp_in : Term-F Term → Result ℕ MessageFault
-stamp_in (Term-F.Int (pos n)) = if nat_le n MAX_STAMP then Ok n else Err faults.StampTooLarge
+stamp_in (Term-F.Int (pos n)) = if nat_le n max_stamp then Ok n else Err faults.StampTooLarge
 stamp_in _ = Err faults.NotAMessage
 
 abbrev pub stamp_of : Term → Result ℕ MessageFault

@@ -7,7 +7,7 @@ use Rattle.pg_term.specs.declared.fault.TermFault.TheVariants as terms
 use Rattle.pg_term.specs.declared.pid.Pid.{Pid}
 use Rattle.pg_term.specs.declared.term.Term.{Term, Tuple, List as Listed}
 use Rattle.pg_term.specs.declared.term.Term.TheVariants.{Int, Atom, Ref, Pid as Process}
-use Rattle.pg_term_io.specs.declared.limits.TheConstants.{MAX_LEN}
+use Rattle.pg_term_io.specs.Limits.{max_len}
 use Rattle.pg_term_io.specs.Writing.{written}
 use Rattle.pg_group.specs.declared.update.Update.{Update}
 use Rattle.pg_group.specs.declared.update.Update.TheVariants.{Create, Delete, Join, Leave}
@@ -21,7 +21,7 @@ use Rattle.pg_message_types.specs.declared.message.Request.TheVariants.{SetLock,
 use Rattle.pg_message_types.specs.declared.message.Said.{Said}
 use Rattle.pg_message_types.specs.declared.message.Said.TheVariants.{Granted, Denied, Applied}
 use Rattle.pg_message_types.specs.declared.packet.Packet.{Packet}
-use Rattle.pg_message_types.specs.declared.packet.TheConstants.{MAX_STAMP}
+use Rattle.pg_message_types.specs.Limits.{max_stamp}
 use Rattle.pg_message_types.specs.Name.{is_name}
 use Rattle.pg_message_types.specs.Reading.{packet_of, is_named_once}
 
@@ -89,11 +89,11 @@ is_sayable (Down pid) = true
 -- the packet itself, or why it may not be sent
 abbrev pub sendable : Packet → Result Packet MessageFault
 sendable p =
-    if is_sayable p.message then (if nat_le p.stamp MAX_STAMP then Ok p else Err faults.StampTooLarge)
+    if is_sayable p.message then (if nat_le p.stamp max_stamp then Ok p else Err faults.StampTooLarge)
     else Err faults.NotAMessage
 
 abbrev pub sent : Result Packet MessageFault → List ℕ → Result (List ℕ) MessageFault
-sent (Ok p) body = if nat_lt MAX_LEN (length body) then Err (faults.Term terms.TooLong) else Ok body
+sent (Ok p) body = if nat_lt max_len (length body) then Err (faults.Term terms.TooLong) else Ok body
 sent (Err fault) body = Err fault
 
 -- the body of a packet: what is written for its term. There is none where that term is read as no packet, or where it

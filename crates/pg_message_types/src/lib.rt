@@ -13,7 +13,7 @@ mod packet;
 
 pub use fault::MessageFault;
 pub use groups::{are_named_once, are_told_once};
-pub use laws::read_back;
+pub use laws::{limits_of_packets, read_back};
 pub use message::{Message, Request, Said};
 pub use name::{MAX_NAME_DEPTH, MAX_NAME_LEN, check_name, is_name, name_len};
 pub use packet::{MAX_STAMP, Packet};

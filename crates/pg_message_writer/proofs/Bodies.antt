@@ -8,7 +8,7 @@ use Rattle.pg_message_types.specs.PgTermIo.Writing.{item_bytes, written}
 use Rattle.pg_message_types.specs.declared.fault.MessageFault.{MessageFault}
 use Rattle.pg_message_types.specs.declared.fault.MessageFault.TheVariants as faults
 use Rattle.pg_message_types.specs.declared.packet.Packet.{Packet}
-use Rattle.pg_message_types.specs.declared.packet.TheConstants.{MAX_STAMP}
+use Rattle.pg_message_types.specs.Limits.{max_stamp}
 use Rattle.pg_message_types.specs.Writing.{message_term, term_of_packet, is_sayable, sendable, sent, body_of}
 use Rattle.pg_message_types.proofs.ReadBack.{read_back}
 use Rattle.pg_message_writer.proofs.Words.{pair_len}
@@ -22,19 +22,19 @@ module _ (p : Packet) where
 
   pub unsayable : is_sayable p.message ≡ false → body_of p ≡ Err faults.NotAMessage
   unsayable e =
-      body_is ∙ ap (λ (b : Bool). sent (cond b (cond (nat_le p.stamp MAX_STAMP) (Ok p) (Err faults.StampTooLarge)) (Err faults.NotAMessage)) (written (term_of_packet p))) e
+      body_is ∙ ap (λ (b : Bool). sent (cond b (cond (nat_le p.stamp max_stamp) (Ok p) (Err faults.StampTooLarge)) (Err faults.NotAMessage)) (written (term_of_packet p))) e
 
   module _ (said : is_sayable p.message ≡ true) where
-    stamped : body_of p ≡ sent (cond (nat_le p.stamp MAX_STAMP) (Ok p) (Err faults.StampTooLarge)) (written (term_of_packet p))
+    stamped : body_of p ≡ sent (cond (nat_le p.stamp max_stamp) (Ok p) (Err faults.StampTooLarge)) (written (term_of_packet p))
     stamped =
-        body_is ∙ ap (λ (b : Bool). sent (cond b (cond (nat_le p.stamp MAX_STAMP) (Ok p) (Err faults.StampTooLarge)) (Err faults.NotAMessage)) (written (term_of_packet p))) said
+        body_is ∙ ap (λ (b : Bool). sent (cond b (cond (nat_le p.stamp max_stamp) (Ok p) (Err faults.StampTooLarge)) (Err faults.NotAMessage)) (written (term_of_packet p))) said
 
-    pub late : MAX_STAMP < p.stamp → body_of p ≡ Err faults.StampTooLarge
-    late h = stamped ∙ ap (λ (b : Bool). sent (cond b (Ok p) (Err faults.StampTooLarge)) (written (term_of_packet p))) (lt-leb p.stamp MAX_STAMP h)
+    pub late : max_stamp < p.stamp → body_of p ≡ Err faults.StampTooLarge
+    late h = stamped ∙ ap (λ (b : Bool). sent (cond b (Ok p) (Err faults.StampTooLarge)) (written (term_of_packet p))) (lt-leb p.stamp max_stamp h)
 
-    module _ (in_time : p.stamp ≤ MAX_STAMP) where
+    module _ (in_time : p.stamp ≤ max_stamp) where
       measured : body_of p ≡ cond (nat_lt 16777216 (length (written (term_of_packet p)))) (Err (faults.Term terms.TooLong)) (Ok (written (term_of_packet p)))
-      measured = stamped ∙ ap (λ (b : Bool). sent (cond b (Ok p) (Err faults.StampTooLarge)) (written (term_of_packet p))) (le-leb p.stamp MAX_STAMP in_time)
+      measured = stamped ∙ ap (λ (b : Bool). sent (cond b (Ok p) (Err faults.StampTooLarge)) (written (term_of_packet p))) (le-leb p.stamp max_stamp in_time)
 
       pub long : 16777216 < length (written (term_of_packet p)) → body_of p ≡ Err (faults.Term terms.TooLong)
       long h = measured ∙ ap (λ (b : Bool). cond b (Err (faults.Term terms.TooLong)) (Ok (written (term_of_packet p)))) (lt-ltb 16777216 (length (written (term_of_packet p))) h)

@@ -11,7 +11,7 @@ use Rattle.pg_message_types.proofs.PgTermIo.Spelled.{written_spelled}
 use Rattle.pg_message_types.specs.declared.fault.MessageFault.{MessageFault}
 use Rattle.pg_message_types.specs.declared.fault.MessageFault.TheVariants.{Term, NotAMessage, StampTooLarge, NameTooLarge}
 use Rattle.pg_message_types.specs.declared.packet.Packet.{Packet}
-use Rattle.pg_message_types.specs.declared.packet.TheConstants.{MAX_STAMP}
+use Rattle.pg_message_types.specs.Limits.{max_stamp}
 use Rattle.pg_message_types.specs.Fault.{Fails}
 use Rattle.pg_message_types.specs.Reading.{spelled, packet_spelled}
 use Rattle.pg_message_types.specs.Writing.{term_of_packet, is_sayable, sent, body_of, length_of}
@@ -58,5 +58,5 @@ settled false c p w h = absurd cc
 pub sent_read : (p : Packet) → IsOk (body_of p) → IsSpelled (term_of_packet p) → packet_spelled (written (term_of_packet p)) ≡ Ok p
 sent_read p h spells =
     let t = term_of_packet p in
-    let s = settled (is_sayable p.message) (nat_le p.stamp MAX_STAMP) p (written t) (ap is_ok (sym (body_is p)) ∙ h) in
+    let s = settled (is_sayable p.message) (nat_le p.stamp max_stamp) p (written t) (ap is_ok (sym (body_is p)) ∙ h) in
     ap spelled (term_again t (written t) (written_spelled t spells (packet_deep p s.0))) ∙ read_back p ∙ s.1

@@ -5,11 +5,11 @@ use Rattle.bytes.specs.Filled.{Filled}
 use Rattle.pg_message_types.specs.PgTermIo.Writing.{written}
 use Rattle.pg_message_types.specs.declared.fault.MessageFault.{MessageFault}
 use Rattle.pg_message_types.specs.declared.packet.Packet.{Packet}
-use Rattle.pg_message_types.specs.declared.packet.TheConstants.{MAX_STAMP}
+use Rattle.pg_message_types.specs.Limits.{max_stamp}
 use Rattle.pg_message_types.specs.Fault.{Gives}
 use Rattle.pg_message_types.specs.Reading.{packet_spelled}
 use Rattle.pg_message_types.specs.Writing.{term_of_packet, is_exchange, is_sayable, body_of, framed}
-use Rattle.pg_message_writer.specs.declared.size.TheConstants.{MAX_SMALL_LEN}
+use Rattle.pg_message_writer.specs.Limits.{max_small_len}
 
 -- the frame of a packet
 abbrev pub frame_of : Packet → List ℕ
@@ -26,7 +26,7 @@ pub record AppendsFrame {T : Type 0} (packet : Packet) (old new : Filled) (resul
   pub read : OnOk result (packet_spelled (written (term_of_packet packet)) ≡ Ok packet)
   -- only room can be missing
   pub succeeds : IsOk (body_of packet) → length (frame_of packet) ≤ old.spare → IsOk result
-  pub succeeds_small : is_sayable packet.message ≡ true → packet.stamp ≤ MAX_STAMP → is_exchange packet.message ≡ false → 4 + MAX_SMALL_LEN ≤ old.spare → IsOk result
+  pub succeeds_small : is_sayable packet.message ≡ true → packet.stamp ≤ max_stamp → is_exchange packet.message ≡ false → 4 + max_small_len ≤ old.spare → IsOk result
   -- it takes no more room than the frame
-  pub few : OnOk result (is_exchange packet.message ≡ false → length (frame_of packet) ≤ 4 + MAX_SMALL_LEN)
+  pub few : OnOk result (is_exchange packet.message ≡ false → length (frame_of packet) ≤ 4 + max_small_len)
   pub spare : MatchResult result (λ done. old.spare ≤ new.spare + length (frame_of packet)) (λ fault. old.spare ≤ new.spare)

@@ -1,3 +1,4 @@
 pub mod Frames
+pub mod Limits
 pub mod Puts
 pub mod Told

@@ -5,17 +5,19 @@ ghost use Rattle.std.specs.Prelude.{Err, IfOk, IsOk, OnOk, OnErr, MatchResult};
 ghost use Rattle.pg_message_types.specs.PgTermIo.Writing.{written, IsSpelled};
 ghost use Rattle.pg_message_types.specs.Fault.{Gives};
 ghost use Rattle.pg_message_types.specs.declared.fault.MessageFault.{MessageFault};
-ghost use Rattle.pg_message_types.specs.declared.packet.TheConstants.{MAX_STAMP};
+ghost use Rattle.pg_message_types.specs.Limits.{max_stamp};
 ghost use Rattle.pg_message_types.specs.Reading.{packet_spelled};
 ghost use Rattle.pg_message_types.specs.Writing.{term_of_packet, is_exchange, is_sayable, body_of};
 ghost use Rattle.pg_message_writer.specs.Frames.{frame_of};
 ghost use Rattle.pg_message_writer.specs.Told.{message_told, packet_told};
+ghost use Rattle.pg_message_types.specs.PgTermIo.Limits.{max_len};
+ghost use Rattle.pg_message_writer.specs.Limits.{max_small_len};
 
 use crate::parts::put_body;
-use crate::size::{MAX_SMALL_LEN, told_len};
+use crate::size::told_len;
 use crate::told::Told;
 use bytes::BytesMut;
-use pg_message_types::{MAX_LEN, MessageFault, Packet};
+use pg_message_types::{MessageFault, Packet};
 use std::alloc::Global;
 
 /// Appends a packet as one whole frame: four bytes of length, the highest first, and the body.
@@ -39,12 +41,12 @@ pub fn write_packet_into(packet: &Packet, out: &mut BytesMut) -> Result<(), Mess
     // Only room can be missing for a body.
     ensures succeeds { IsOk (body_of packet.now)
         → length (frame_of packet.now) ≤ out.old.spare → IsOk result }
-    ensures succeeds_small { is_sayable packet.now.message ≡ true → packet.now.stamp ≤ MAX_STAMP
-        → is_exchange packet.now.message ≡ false → 4 + MAX_SMALL_LEN ≤ out.old.spare → IsOk result }
+    ensures succeeds_small { is_sayable packet.now.message ≡ true → packet.now.stamp ≤ max_stamp
+        → is_exchange packet.now.message ≡ false → 4 + max_small_len ≤ out.old.spare → IsOk result }
 
     // It takes no more room than the frame.
     ensures few { OnOk result (is_exchange packet.now.message ≡ false
-        → length (frame_of packet.now) ≤ 4 + MAX_SMALL_LEN) }
+        → length (frame_of packet.now) ≤ 4 + max_small_len) }
     ensures spare { MatchResult result
         (λ done. out.old.spare ≤ out.new.spare + length (frame_of packet.now))
         (λ fault. out.old.spare ≤ out.new.spare) }
@@ -69,12 +71,12 @@ pub(crate) fn write_told_into(
     // Only room can be missing for a body.
     ensures succeeds { IsOk (body_of (packet_told stamp told.now))
         → length (frame_of (packet_told stamp told.now)) ≤ out.old.spare → IsOk result }
-    ensures succeeds_small { is_sayable (message_told told.now) ≡ true → stamp ≤ MAX_STAMP
-        → is_exchange (message_told told.now) ≡ false → 4 + MAX_SMALL_LEN ≤ out.old.spare → IsOk result }
+    ensures succeeds_small { is_sayable (message_told told.now) ≡ true → stamp ≤ max_stamp
+        → is_exchange (message_told told.now) ≡ false → 4 + max_small_len ≤ out.old.spare → IsOk result }
 
     // It takes no more room than the frame.
     ensures few { OnOk result (is_exchange (message_told told.now) ≡ false
-        → length (frame_of (packet_told stamp told.now)) ≤ 4 + MAX_SMALL_LEN) }
+        → length (frame_of (packet_told stamp told.now)) ≤ 4 + max_small_len) }
     ensures spare { MatchResult result
         (λ done. out.old.spare ≤ out.new.spare + length (frame_of (packet_told stamp told.now)))
         (λ fault. out.old.spare ≤ out.new.spare) }
@@ -88,7 +90,7 @@ pub(crate) fn write_told_into(
 /// Appends a frame in room that was reserved. `len`: how many bytes its body takes.
 pub(crate) fn put_frame(out: &mut BytesMut, len: usize, stamp: u32, told: &Told<'_>)
     requires len { len ≡ length (written (term_of_packet (packet_told stamp told.now))) }
-    requires short { len ≤ MAX_LEN }
+    requires short { len ≤ max_len }
     requires room { 4 + len ≤ out.old.spare }
     ensures items { out.new.items ≡ out.old.items ++ frame_of (packet_told stamp told.now) }
     ensures spare { out.new.spare + 4 + len ≡ out.old.spare }

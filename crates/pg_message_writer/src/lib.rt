@@ -4,6 +4,7 @@
 #![tactic(auto)]
 
 mod frame;
+mod laws;
 mod lent;
 mod parts;
 mod reply;
@@ -11,6 +12,7 @@ mod size;
 mod told;
 
 pub use frame::{write_packet, write_packet_into};
+pub use laws::limit_of_small_packets;
 pub use lent::{write_call_into, write_del_lock_into, write_down_into};
 pub use reply::write_reply_into;
 pub use size::{MAX_SMALL_LEN, packet_len};

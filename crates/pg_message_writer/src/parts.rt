@@ -9,18 +9,19 @@ ghost use Rattle.pg_message_types.specs.Writing.{pair, triple, update_term, requ
 ghost use Rattle.pg_message_types.specs.Writing.{group_term, message_term, term_of_packet, is_plain};
 ghost use Rattle.pg_message_writer.specs.Puts.{Puts, PutsAll, PutsOpening};
 ghost use Rattle.pg_message_writer.specs.Told.{reference_lent, asked_for, message_told, packet_told};
+ghost use Rattle.pg_message_types.specs.PgTermIo.Limits.{max_len};
 
 use crate::told::{Asked, Mark, Told};
 use bytes::BytesMut;
 use pg_message_types::{
-    MAX_LEN, Said, Update, put_atom, put_int, put_item, put_list_head, put_pid, put_reference,
+    Said, Update, put_atom, put_int, put_item, put_list_head, put_pid, put_reference,
 };
 use pg_term::{Atom, Items, Pid, Reference, Term};
 
 /// Appends the body of a packet.
 #[tactic(auto, using(crate::proofs::Words::pair_len))]
 pub(crate) fn put_body(out: &mut BytesMut, stamp: u32, told: &Told<'_>)
-    requires short { length (written (term_of_packet (packet_told stamp told.now))) ≤ MAX_LEN }
+    requires short { length (written (term_of_packet (packet_told stamp told.now))) ≤ max_len }
     requires room { length (written (term_of_packet (packet_told stamp told.now))) ≤ out.old.spare }
     ensures items { out.new.items
         ≡ out.old.items ++ written (term_of_packet (packet_told stamp told.now)) }
@@ -34,7 +35,7 @@ pub(crate) fn put_body(out: &mut BytesMut, stamp: u32, told: &Told<'_>)
 }
 
 fn put_told(out: &mut BytesMut, told: &Told<'_>)
-    requires short { length (item_bytes (message_term (message_told told.now))) ≤ MAX_LEN }
+    requires short { length (item_bytes (message_term (message_told told.now))) ≤ max_len }
     requires room { length (item_bytes (message_term (message_told told.now))) ≤ out.old.spare }
     ensures { Puts out.old out.new (message_term (message_told told.now)) }
 {
@@ -51,7 +52,7 @@ fn put_told(out: &mut BytesMut, told: &Told<'_>)
 #[tactic(auto, using(crate::proofs::Words::triple_len))]
 fn put_call(out: &mut BytesMut, mark: &Mark<'_>, asked: &Asked<'_>)
     requires short { length (item_bytes
-        (message_term (messages.Call (reference_lent mark.now) (asked_for asked.now)))) ≤ MAX_LEN }
+        (message_term (messages.Call (reference_lent mark.now) (asked_for asked.now)))) ≤ max_len }
     requires room { length (item_bytes
         (message_term (messages.Call (reference_lent mark.now) (asked_for asked.now))))
         ≤ out.old.spare }
@@ -64,7 +65,7 @@ fn put_call(out: &mut BytesMut, mark: &Mark<'_>, asked: &Asked<'_>)
 }
 
 fn put_asked(out: &mut BytesMut, asked: &Asked<'_>)
-    requires short { length (item_bytes (request_term (asked_for asked.now))) ≤ MAX_LEN }
+    requires short { length (item_bytes (request_term (asked_for asked.now))) ≤ max_len }
     requires room { length (item_bytes (request_term (asked_for asked.now))) ≤ out.old.spare }
     ensures { Puts out.old out.new (request_term (asked_for asked.now)) }
 {
@@ -75,7 +76,7 @@ fn put_asked(out: &mut BytesMut, asked: &Asked<'_>)
 }
 
 fn put_update(out: &mut BytesMut, update: &Update)
-    requires short { length (item_bytes (update_term update.now)) ≤ MAX_LEN }
+    requires short { length (item_bytes (update_term update.now)) ≤ max_len }
     requires room { length (item_bytes (update_term update.now)) ≤ out.old.spare }
     ensures { Puts out.old out.new (update_term update.now) }
 {
@@ -92,7 +93,7 @@ fn put_update(out: &mut BytesMut, update: &Update)
 fn put_named(out: &mut BytesMut, word: &str, name: &Term)
     requires plain { is_plain word.now ≡ true }
     requires few { length word.now ≤ 255 }
-    requires short { length (item_bytes (pair (terms.Atom word.now) name.now)) ≤ MAX_LEN }
+    requires short { length (item_bytes (pair (terms.Atom word.now) name.now)) ≤ max_len }
     requires room { length (item_bytes (pair (terms.Atom word.now) name.now)) ≤ out.old.spare }
     ensures { Puts out.old out.new (pair (terms.Atom word.now) name.now) }
 {
@@ -106,7 +107,7 @@ fn put_membership(out: &mut BytesMut, word: &str, name: &Term, pid: &Pid)
     requires plain { is_plain word.now ≡ true }
     requires few { length word.now ≤ 255 }
     requires short { length (item_bytes (triple (terms.Atom word.now) name.now (terms.Pid pid.now)))
-        ≤ MAX_LEN }
+        ≤ max_len }
     requires room { length (item_bytes (triple (terms.Atom word.now) name.now (terms.Pid pid.now)))
         ≤ out.old.spare }
     ensures { Puts out.old out.new (triple (terms.Atom word.now) name.now (terms.Pid pid.now)) }
@@ -120,7 +121,7 @@ fn put_membership(out: &mut BytesMut, word: &str, name: &Term, pid: &Pid)
 #[tactic(auto, using(crate::proofs::Words::triple_len))]
 fn put_reply(out: &mut BytesMut, mark: &Mark<'_>, said: Said)
     requires short { length (item_bytes (message_term (messages.Reply (reference_lent mark.now) said)))
-        ≤ MAX_LEN }
+        ≤ max_len }
     requires room { length (item_bytes (message_term (messages.Reply (reference_lent mark.now) said)))
         ≤ out.old.spare }
     ensures { Puts out.old out.new (message_term (messages.Reply (reference_lent mark.now) said)) }
@@ -145,7 +146,7 @@ fn put_said(out: &mut BytesMut, said: Said)
 #[tactic(auto, using(crate::proofs::Words::pair_len, crate::proofs::Words::triple_len))]
 fn put_freed(out: &mut BytesMut, name: &Term, mark: &Mark<'_>)
     requires short { length (item_bytes
-        (message_term (messages.DelLock name.now (reference_lent mark.now)))) ≤ MAX_LEN }
+        (message_term (messages.DelLock name.now (reference_lent mark.now)))) ≤ max_len }
     requires room { length (item_bytes
         (message_term (messages.DelLock name.now (reference_lent mark.now)))) ≤ out.old.spare }
     ensures { Puts out.old out.new
@@ -161,7 +162,7 @@ fn put_freed(out: &mut BytesMut, name: &Term, mark: &Mark<'_>)
 #[tactic(auto, using(crate::proofs::Words::pair_len, crate::proofs::Words::triple_len))]
 fn put_exchange(out: &mut BytesMut, node: &Atom, groups: &[(Term, Items<Pid>)])
     requires short { length (item_bytes (message_term (messages.Exchange node.now groups.now)))
-        ≤ MAX_LEN }
+        ≤ max_len }
     requires room { length (item_bytes (message_term (messages.Exchange node.now groups.now)))
         ≤ out.old.spare }
     ensures { Puts out.old out.new (message_term (messages.Exchange node.now groups.now)) }
@@ -175,7 +176,7 @@ fn put_exchange(out: &mut BytesMut, node: &Atom, groups: &[(Term, Items<Pid>)])
 // {down, Pid}
 #[tactic(auto, using(crate::proofs::Words::pair_len))]
 fn put_down(out: &mut BytesMut, pid: &Pid)
-    requires short { length (item_bytes (message_term (messages.Down pid.now))) ≤ MAX_LEN }
+    requires short { length (item_bytes (message_term (messages.Down pid.now))) ≤ max_len }
     requires room { length (item_bytes (message_term (messages.Down pid.now))) ≤ out.old.spare }
     ensures { Puts out.old out.new (message_term (messages.Down pid.now)) }
 {
@@ -185,7 +186,7 @@ fn put_down(out: &mut BytesMut, pid: &Pid)
 
 // [[Name, Members], ..]
 fn put_groups(out: &mut BytesMut, groups: &[(Term, Items<Pid>)])
-    requires short { length (item_bytes (List (map group_term groups.now))) ≤ MAX_LEN }
+    requires short { length (item_bytes (List (map group_term groups.now))) ≤ max_len }
     requires room { length (item_bytes (List (map group_term groups.now))) ≤ out.old.spare }
     ensures { Puts out.old out.new (List (map group_term groups.now)) }
 {
@@ -195,7 +196,7 @@ fn put_groups(out: &mut BytesMut, groups: &[(Term, Items<Pid>)])
 }
 
 fn put_all_groups(out: &mut BytesMut, groups: &[(Term, Items<Pid>)])
-    requires short { length (all_bytes (map group_term groups.now)) ≤ MAX_LEN }
+    requires short { length (all_bytes (map group_term groups.now)) ≤ max_len }
     requires room { length (all_bytes (map group_term groups.now)) ≤ out.old.spare }
     ensures { PutsAll out.old out.new (map group_term groups.now) }
 {
@@ -207,7 +208,7 @@ fn put_all_groups(out: &mut BytesMut, groups: &[(Term, Items<Pid>)])
 // [Name, Members]
 #[tactic(auto, using(crate::proofs::Words::two_len))]
 fn put_group(out: &mut BytesMut, group: &(Term, Items<Pid>))
-    requires short { length (item_bytes (group_term group.now)) ≤ MAX_LEN }
+    requires short { length (item_bytes (group_term group.now)) ≤ max_len }
     requires room { length (item_bytes (group_term group.now)) ≤ out.old.spare }
     ensures { Puts out.old out.new (group_term group.now) }
 {
@@ -218,7 +219,7 @@ fn put_group(out: &mut BytesMut, group: &(Term, Items<Pid>))
 }
 
 fn put_pids(out: &mut BytesMut, pids: &[Pid])
-    requires short { length (item_bytes (List (map terms.Pid pids.now))) ≤ MAX_LEN }
+    requires short { length (item_bytes (List (map terms.Pid pids.now))) ≤ max_len }
     requires room { length (item_bytes (List (map terms.Pid pids.now))) ≤ out.old.spare }
     ensures { Puts out.old out.new (List (map terms.Pid pids.now)) }
 {
@@ -228,7 +229,7 @@ fn put_pids(out: &mut BytesMut, pids: &[Pid])
 }
 
 fn put_all_pids(out: &mut BytesMut, pids: &[Pid])
-    requires short { length (all_bytes (map terms.Pid pids.now)) ≤ MAX_LEN }
+    requires short { length (all_bytes (map terms.Pid pids.now)) ≤ max_len }
     requires room { length (all_bytes (map terms.Pid pids.now)) ≤ out.old.spare }
     ensures { PutsAll out.old out.new (map terms.Pid pids.now) }
 {
@@ -270,7 +271,7 @@ pub(crate) fn put_stamp(out: &mut BytesMut, stamp: u32)
 }
 
 fn put_name(out: &mut BytesMut, name: &Term)
-    requires short { length (item_bytes name.now) ≤ MAX_LEN }
+    requires short { length (item_bytes name.now) ≤ max_len }
     requires room { length (item_bytes name.now) ≤ out.old.spare }
     ensures { Puts out.old out.new name.now }
 {

@@ -6,12 +6,14 @@ ghost use Rattle.pg_message_types.specs.declared.message.Message.TheVariants as 
 ghost use Rattle.pg_message_types.specs.Reading.{packet_spelled};
 ghost use Rattle.pg_message_types.specs.Writing.{term_of_packet, framed};
 ghost use Rattle.pg_message_writer.specs.Told.{reference_lent};
+ghost use Rattle.pg_message_types.specs.Limits.{max_stamp};
+ghost use Rattle.pg_message_writer.specs.Limits.{max_small_len};
 
 use crate::frame::put_frame;
-use crate::size::{MAX_SMALL_LEN, reply_len, stamp_len};
+use crate::size::{reply_len, stamp_len};
 use crate::told::{Mark, Told};
 use bytes::BytesMut;
-use pg_message_types::{MAX_STAMP, Said};
+use pg_message_types::Said;
 use pg_term::Reference;
 use std::alloc::AllocError;
 
@@ -28,7 +30,7 @@ pub fn write_reply_into(
     said: Said,
     out: &mut BytesMut,
 ) -> Result<(), AllocError>
-    requires { stamp ≤ MAX_STAMP }
+    requires { stamp ≤ max_stamp }
     ensures ok { OnOk result (out.new.items ≡ out.old.items ++ framed (written
         (term_of_packet (record { stamp = stamp; message = messages.Reply reference.now said })))) }
     ensures err { OnErr result (out.new.items ≡ out.old.items) }
@@ -39,7 +41,7 @@ pub fn write_reply_into(
         ≡ Ok (record { stamp = stamp; message = messages.Reply reference.now said })) }
     ensures few { OnOk result (length (framed (written
         (term_of_packet (record { stamp = stamp; message = messages.Reply reference.now said }))))
-        ≤ 4 + MAX_SMALL_LEN) }
+        ≤ 4 + max_small_len) }
 
     // Only room can be missing.
     ensures succeeds { length (framed (written
@@ -57,7 +59,7 @@ pub fn write_reply_into(
 fn reply_packet_len(stamp: u32, mark: &Mark<'_>, said: Said) -> usize
     ensures value { result ≡ length (written (term_of_packet
         (record { stamp = stamp; message = messages.Reply (reference_lent mark.now) said }))) }
-    ensures few { result ≤ MAX_SMALL_LEN }
+    ensures few { result ≤ max_small_len }
 {
     3 + stamp_len(stamp) + reply_len(mark, said)
 }

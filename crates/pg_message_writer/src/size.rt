@@ -12,6 +12,8 @@ ghost use Rattle.pg_message_types.specs.Name.{is_name};
 ghost use Rattle.pg_message_types.specs.Writing.{pair, triple, update_term, said_term, group_term, message_term};
 ghost use Rattle.pg_message_types.specs.Writing.{is_plain, is_exchange, is_sayable, body_of, length_of};
 ghost use Rattle.pg_message_writer.specs.Told.{reference_lent, asked_for, message_told, packet_told};
+ghost use Rattle.pg_message_types.specs.Limits.{max_stamp};
+ghost use Rattle.pg_message_writer.specs.Limits.{max_small_len};
 
 use crate::told::{Asked, Mark, Told};
 use pg_message_types::{
@@ -35,10 +37,10 @@ pub const MAX_SMALL_LEN: usize = 3126;
 pub fn packet_len(packet: &Packet) -> Result<usize, MessageFault>
     ensures exact { result ≡ length_of (body_of packet.now) }
     ensures few { is_exchange packet.now.message ≡ false
-        → IfOk result (λ len. len ≤ MAX_SMALL_LEN) }
+        → IfOk result (λ len. len ≤ max_small_len) }
 
     // Only an exchange can be too long.
-    ensures small { is_sayable packet.now.message ≡ true → packet.now.stamp ≤ MAX_STAMP
+    ensures small { is_sayable packet.now.message ≡ true → packet.now.stamp ≤ max_stamp
         → is_exchange packet.now.message ≡ false → IsOk result }
 {
     told_len(packet.stamp, &Told::of(&packet.message))
@@ -48,8 +50,8 @@ pub fn packet_len(packet: &Packet) -> Result<usize, MessageFault>
 pub(crate) fn told_len(stamp: u32, told: &Told<'_>) -> Result<usize, MessageFault>
     ensures exact { result ≡ length_of (body_of (packet_told stamp told.now)) }
     ensures few { is_exchange (message_told told.now) ≡ false
-        → IfOk result (λ len. len ≤ MAX_SMALL_LEN) }
-    ensures small { is_sayable (message_told told.now) ≡ true → stamp ≤ MAX_STAMP
+        → IfOk result (λ len. len ≤ max_small_len) }
+    ensures small { is_sayable (message_told told.now) ≡ true → stamp ≤ max_stamp
         → is_exchange (message_told told.now) ≡ false → IsOk result }
 {
     let Some(message) = message_len(told) else {
@@ -67,7 +69,7 @@ pub(crate) fn told_len(stamp: u32, told: &Told<'_>) -> Result<usize, MessageFaul
 
 pub(crate) fn stamp_len(stamp: u32) -> usize
     ensures value { result ≡ length (item_bytes (terms.Int (pos stamp))) }
-    ensures few { stamp ≤ MAX_STAMP → result ≤ 5 }
+    ensures few { stamp ≤ max_stamp → result ≤ 5 }
     ensures bound { result ≤ 11 }
 {
     int_len(i64::from(stamp))
