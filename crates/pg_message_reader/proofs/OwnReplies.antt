@@ -18,7 +18,7 @@ use Rattle.pg_term_io.proofs.Again.{word_again, half_again, atom_again}
 use Rattle.pg_term_io.proofs.Written.{tuple_is}
 use Rattle.pg_message_types.specs.declared.message.Said.{Said}
 use Rattle.pg_message_types.specs.declared.message.Said.TheVariants.{Granted, Denied, Applied}
-use Rattle.pg_message_types.specs.declared.packet.TheConstants.{MAX_STAMP}
+use Rattle.pg_message_types.specs.Limits.{max_stamp}
 use Rattle.pg_message_types.specs.Writing.{pair, triple, said_term, term_of_packet, is_plain}
 use Rattle.pg_message_types.proofs.Words.{plain_text}
 use Rattle.pg_refs.specs.Numbered.{numbered, words_in}
@@ -74,26 +74,26 @@ own_stands room own n bytes words rest spelled e h =
 -- ---- the whole body
 
 -- the bytes of a stamp are one or four, behind their tag
-stamp_cases : (m : ℕ) (bytes more : List ℕ) → m ≤ MAX_STAMP → (small word : Bool) → nat_lt m 2147483648 ≡ word → bytes ≡ cond small (97 ∷ m ∷ []) (cond word (98 ∷ to_be_bytes w32 m) (big_bytes 0 m)) ++ more
+stamp_cases : (m : ℕ) (bytes more : List ℕ) → m ≤ max_stamp → (small word : Bool) → nat_lt m 2147483648 ≡ word → bytes ≡ cond small (97 ∷ m ∷ []) (cond word (98 ∷ to_be_bytes w32 m) (big_bytes 0 m)) ++ more
     → (bytes ≡ 97 ∷ m ∷ more) ⊎ (bytes ≡ 98 ∷ to_be_bytes w32 m ++ more)
 stamp_cases m bytes more l true word is e = inl e
 stamp_cases m bytes more l false true is e = inr e
 stamp_cases m bytes more l false false is e = absurd (let no : true ≡ false = sym (lt-ltb m 2147483648 (omega arith)) ∙ is in cc)
 
-pub stamp_laid : (m : ℕ) (bytes more : List ℕ) → m ≤ MAX_STAMP → bytes ≡ int_bytes (pos m) ++ more → (bytes ≡ 97 ∷ m ∷ more) ⊎ (bytes ≡ 98 ∷ to_be_bytes w32 m ++ more)
+pub stamp_laid : (m : ℕ) (bytes more : List ℕ) → m ≤ max_stamp → bytes ≡ int_bytes (pos m) ++ more → (bytes ≡ 97 ∷ m ∷ more) ⊎ (bytes ≡ 98 ∷ to_be_bytes w32 m ++ more)
 stamp_laid m bytes more l e = stamp_cases m bytes more l (nat_lt m 256) (nat_lt m 2147483648) refl e
 
-stamp_stands : (room m : ℕ) (bytes more : List ℕ) → m ≤ MAX_STAMP → (bytes ≡ 97 ∷ m ∷ more) ⊎ (bytes ≡ 98 ∷ to_be_bytes w32 m ++ more) → Stands room (Int (pos m)) bytes more
+stamp_stands : (room m : ℕ) (bytes more : List ℕ) → m ≤ max_stamp → (bytes ≡ 97 ∷ m ∷ more) ⊎ (bytes ≡ 98 ∷ to_be_bytes w32 m ++ more) → Stands room (Int (pos m)) bytes more
 stamp_stands room m bytes more l (inl e) = byte_stands room bytes (m ∷ more) m more e refl
 stamp_stands room m bytes more l (inr e) =
     let digits = to_be_bytes w32 m in
     four_stand room bytes (digits ++ more) m digits more e (omega arith) (sym (take_at digits more 4 refl)) (sym (drop_at digits more 4 refl)) (sym (from_be_bytes-to_be_bytes_4 m (omega arith))) l
 
-pub stamp_once : (n m : ℕ) (bytes rest more : List ℕ) → Stands 62 (Int (pos n)) bytes rest → m ≤ MAX_STAMP → bytes ≡ int_bytes (pos m) ++ more → rest ≡ more
+pub stamp_once : (n m : ℕ) (bytes rest more : List ℕ) → Stands 62 (Int (pos n)) bytes rest → m ≤ max_stamp → bytes ≡ int_bytes (pos m) ++ more → rest ≡ more
 stamp_once n m bytes rest more h l e = ap (λ (x : Term × List ℕ). x.1) (read_once (item_at 63 bytes) (Int (pos n), rest) (Int (pos m), more) h (stamp_stands 62 m bytes more l (stamp_laid m bytes more l e)))
 
 -- a stamp as it is written is read
-pub stamp_found : (P : Type 0) (m : ℕ) (bytes more : List ℕ) → m ≤ MAX_STAMP → ((n : ℕ) (rest : List ℕ) → bytes ≡ 97 ∷ n ∷ rest → P) → ((n : ℕ) (rest : List ℕ) → n ≤ MAX_STAMP → bytes ≡ 98 ∷ to_be_bytes w32 n ++ rest → P)
+pub stamp_found : (P : Type 0) (m : ℕ) (bytes more : List ℕ) → m ≤ max_stamp → ((n : ℕ) (rest : List ℕ) → bytes ≡ 97 ∷ n ∷ rest → P) → ((n : ℕ) (rest : List ℕ) → n ≤ max_stamp → bytes ≡ 98 ∷ to_be_bytes w32 n ++ rest → P)
     → bytes ≡ int_bytes (pos m) ++ more → P
 stamp_found P m bytes more l small large e = go (stamp_laid m bytes more l e)
   where

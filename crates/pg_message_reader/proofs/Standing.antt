@@ -18,7 +18,7 @@ use Rattle.pg_term_io.specs.Spelling as s
 use Rattle.pg_term_io.proofs.Again.{item_again}
 use Rattle.pg_term_io.proofs.Latin.{latin_chars}
 use Rattle.pg_message_types.specs.declared.packet.Packet.{Packet}
-use Rattle.pg_message_types.specs.declared.packet.TheConstants.{MAX_STAMP}
+use Rattle.pg_message_types.specs.Limits.{max_stamp}
 use Rattle.pg_message_types.specs.declared.fault.MessageFault.TheVariants as faults
 use Rattle.pg_message_types.specs.Reading.{spelled, packet_spelled}
 use Rattle.pg_message_reader.specs.Standing.{Stands, IsTupleHead}
@@ -78,7 +78,7 @@ module _ (room : ℕ) where
     unfolding readers item_behind leaf_behind
     byte_stands n rest e h = ap (item_at (suc room)) (e ∙ ap (λ (x : List ℕ). 97 ∷ x) h)
 
-    pub four_stand : (n : ℕ) (digits rest : List ℕ) → bytes ≡ 98 ∷ mid → 4 ≤ length mid → digits ≡ take 4 mid → rest ≡ drop 4 mid → n ≡ from_be_bytes w32 digits → n ≤ MAX_STAMP → Stands room (Int (pos n)) bytes rest
+    pub four_stand : (n : ℕ) (digits rest : List ℕ) → bytes ≡ 98 ∷ mid → 4 ≤ length mid → digits ≡ take 4 mid → rest ≡ drop 4 mid → n ≡ from_be_bytes w32 digits → n ≤ max_stamp → Stands room (Int (pos n)) bytes rest
     unfolding readers item_behind leaf_behind
     four_stand n digits rest e long front behind value in_time =
         let m = from_be_bytes w32 (take 4 mid) in
@@ -105,12 +105,12 @@ whole : (t : Term) (bytes : List ℕ) → Stands 63 t bytes [] → term_of (131 
 unfolding term_of
 whole t bytes h = rw h refl
 
-pub packet_stands : (p : Packet) (bytes mid : List ℕ) → Stands 62 (Int (pos p.stamp)) bytes mid → Stands 62 (message_term p.message) mid [] → p.stamp ≤ MAX_STAMP → is_sayable p.message ≡ true → packet_spelled (131 ∷ 104 ∷ 2 ∷ bytes) ≡ Ok p
+pub packet_stands : (p : Packet) (bytes mid : List ℕ) → Stands 62 (Int (pos p.stamp)) bytes mid → Stands 62 (message_term p.message) mid [] → p.stamp ≤ max_stamp → is_sayable p.message ≡ true → packet_spelled (131 ∷ 104 ∷ 2 ∷ bytes) ≡ Ok p
 packet_stands p bytes mid h k in_time sayable =
     ap spelled (whole (term_of_packet p) (104 ∷ 2 ∷ bytes) (two_stand 62 (Int (pos p.stamp)) (message_term p.message) bytes mid [] h k))
     ∙ read_back p
-    ∙ ap (λ (b : Bool). cond b (cond (nat_le p.stamp MAX_STAMP) (Ok p) (Err faults.StampTooLarge)) (Err faults.NotAMessage)) sayable
-    ∙ ap (λ (b : Bool). cond b (Ok p) (Err faults.StampTooLarge)) (le-leb p.stamp MAX_STAMP in_time)
+    ∙ ap (λ (b : Bool). cond b (cond (nat_le p.stamp max_stamp) (Ok p) (Err faults.StampTooLarge)) (Err faults.NotAMessage)) sayable
+    ∙ ap (λ (b : Bool). cond b (Ok p) (Err faults.StampTooLarge)) (le-leb p.stamp max_stamp in_time)
 
 -- all of the bytes
 pub nothing_left : (rest : List ℕ) → eqb (length rest) 0 ≡ true → rest ≡ []

@@ -10,6 +10,7 @@ ghost use Rattle.pg_message_types.specs.Reading.{packet_spelled};
 ghost use Rattle.pg_message_reader.specs.Standing.{Stands, IsTupleHead, word_bytes, said_bytes};
 ghost use Rattle.pg_message_types.specs.Writing.{message_term, request_term, said_term, is_plain, is_sayable};
 ghost use Rattle.pg_message_types.specs.declared.message.Message.TheVariants as messages;
+ghost use Rattle.pg_message_types.specs.Limits.{max_stamp};
 
 mod groups;
 
@@ -113,9 +114,9 @@ pub(crate) fn opened<'a>(bytes: &'a [u8], arity: u8, word: &str) -> Result<&'a [
 pub(crate) fn stamp_at(bytes: &[u8]) -> Result<(u32, &[u8]), Detour>
     ensures term { (room : ℕ) → IfOk result (λ x.
         Stands room (terms.Int (pos x.0)) bytes.now x.1.now) }
-    ensures in_time { IfOk result (λ x. x.0 ≤ MAX_STAMP) }
+    ensures in_time { IfOk result (λ x. x.0 ≤ max_stamp) }
     ensures small { (stamp : ℕ) (rest : List ℕ) → bytes.now ≡ 97 ∷ stamp ∷ rest → IsOk result }
-    ensures large { (stamp : ℕ) (rest : List ℕ) → stamp ≤ MAX_STAMP → bytes.now ≡ 98 ∷ to_be_bytes w32 stamp ++ rest → IsOk result }
+    ensures large { (stamp : ℕ) (rest : List ℕ) → stamp ≤ max_stamp → bytes.now ≡ 98 ∷ to_be_bytes w32 stamp ++ rest → IsOk result }
 {
     if let Ok(rest) = behind(bytes, &[97]) {
         let Some((stamp, rest)) = rest.split_first() else {
@@ -131,8 +132,8 @@ pub(crate) fn stamp_at(bytes: &[u8]) -> Result<(u32, &[u8]), Detour>
 fn large_stamp_at(bytes: &[u8]) -> Result<(u32, &[u8]), Detour>
     ensures term { (room : ℕ) → IfOk result (λ x.
         Stands room (terms.Int (pos x.0)) bytes.now x.1.now) }
-    ensures in_time { IfOk result (λ x. x.0 ≤ MAX_STAMP) }
-    ensures large { (stamp : ℕ) (rest : List ℕ) → stamp ≤ MAX_STAMP → bytes.now ≡ 98 ∷ to_be_bytes w32 stamp ++ rest → IsOk result }
+    ensures in_time { IfOk result (λ x. x.0 ≤ max_stamp) }
+    ensures large { (stamp : ℕ) (rest : List ℕ) → stamp ≤ max_stamp → bytes.now ≡ 98 ∷ to_be_bytes w32 stamp ++ rest → IsOk result }
 {
     let rest = behind(bytes, &[98])?;
     let Some((digits, rest)) = rest.split_first_chunk::<4>() else {

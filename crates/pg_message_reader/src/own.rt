@@ -8,7 +8,7 @@ ghost use Rattle.pg_term_io.specs.Reading.{items_at, number_at};
 ghost use Rattle.pg_term_io.specs.Spelling.{IsAtom};
 ghost use Rattle.pg_term_io.specs.Writing.{atom_bytes, reference_bytes, written};
 ghost use Rattle.pg_refs.specs.Numbered.{numbered, words_in};
-ghost use Rattle.pg_message_types.specs.declared.packet.TheConstants.{MAX_STAMP};
+ghost use Rattle.pg_message_types.specs.Limits.{max_stamp};
 ghost use Rattle.pg_message_types.specs.Reading.{packet_spelled};
 ghost use Rattle.pg_message_types.specs.Writing.{term_of_packet};
 ghost use Rattle.pg_message_reader.specs.declared.own.OwnReply.{OwnReply};
@@ -39,7 +39,7 @@ pub fn read_own_reply(own: &Atom, body: &[u8]) -> Option<OwnReply>
     // What is read is spelled so.
     ensures found { IfSome result (λ reply. packet_spelled body.now ≡ Ok (own_reply own.now reply)) }
     // What is written so is read.
-    ensures all { (reply : OwnReply) → reply.stamp ≤ MAX_STAMP → reply.number < 2 ^ 32
+    ensures all { (reply : OwnReply) → reply.stamp ≤ max_stamp → reply.number < 2 ^ 32
         → body.now ≡ written (term_of_packet (own_reply own.now reply)) → IsSome result }
 {
     match own_reply_in(own, body) {
@@ -50,7 +50,7 @@ pub fn read_own_reply(own: &Atom, body: &[u8]) -> Option<OwnReply>
 
 fn own_reply_in(own: &Atom, body: &[u8]) -> Result<OwnReply, Detour>
     ensures found { IfOk result (λ reply. packet_spelled body.now ≡ Ok (own_reply own.now reply)) }
-    ensures all { (reply : OwnReply) → reply.stamp ≤ MAX_STAMP → reply.number < 2 ^ 32
+    ensures all { (reply : OwnReply) → reply.stamp ≤ max_stamp → reply.number < 2 ^ 32
         → body.now ≡ written (term_of_packet (own_reply own.now reply)) → IsOk result }
 {
     let rest = behind(body, &[131, 104, 2])?;
