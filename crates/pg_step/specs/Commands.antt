@@ -14,7 +14,7 @@ use Rattle.pg_message_types.specs.PgGroup.Scope.{anywhere, at_node}
 use Rattle.pg_message_types.specs.PgGroup.Members.{IsMemberList}
 use Rattle.pg_message_types.specs.PgGroup.Table.{Table, AreNames}
 use Rattle.pg_query.specs.Closest.{IsClosest}
-use Rattle.pg_ends.specs.declared.processes.TheConstants.{MAX_PROCESSES}
+use Rattle.pg_ends.specs.Limits.{max_processes}
 use Rattle.pg_ends.specs.Numbers.{pid_of, is_among}
 use Rattle.pg_message_types.specs.Name.{is_name}
 use Rattle.pg_message_types.specs.declared.message.Message.TheVariants.{Down}
@@ -85,7 +85,7 @@ ends_again s _ = false
 
 -- no number is left for a further process
 abbrev pub passes_limit : State → Command → Bool
-passes_limit s Make = nat_le MAX_PROCESSES s.processes
+passes_limit s Make = nat_le max_processes s.processes
 passes_limit s _ = false
 
 -- Which fault a command is refused by, the first that holds: NameTooLarge, ForeignPid, NotFormed, NotMade, AlreadyEnded,

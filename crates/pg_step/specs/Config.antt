@@ -9,7 +9,7 @@ use Rattle.pg_exchange.specs.GroupList.{GroupList, all_merged, announced_names}
 use Rattle.pg_message_types.specs.Name.{is_name}
 use Rattle.pg_step.specs.declared.start.Start.{Start}
 use Rattle.pg_step.specs.Nodes.{Node, Nodes}
-use Rattle.pg_ends.specs.declared.processes.TheConstants.{MAX_PROCESSES}
+use Rattle.pg_ends.specs.Limits.{max_processes}
 
 -- the nodes of a set as they start, by their places
 abbrev pub Config : Type 0
@@ -46,7 +46,7 @@ was_made config pid = list_any (λ start. same_atom pid.node start.name && is_am
 -- what a world asks of a node as it starts
 pub record IsStart (config : Config) (start : Start) : Type 0 where
   pub ports : start.ports ≤ 64
-  pub made : start.made ≤ MAX_PROCESSES
+  pub made : start.made ≤ max_processes
   -- no group is named twice, and each name can be sent
   pub groups : IsDistinct same_term (announced_names start.groups)
   pub names : AllByRecursion (λ name. is_name name ≡ true) (announced_names start.groups)

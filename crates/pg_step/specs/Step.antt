@@ -1,7 +1,7 @@
 -- The step of one node: what it makes of a packet, a command or a retry. It looks at that node and that one event.
 use Rattle.std.specs.Prelude.{ℕ, ◌+◌, cond, max, nat_le, nat_lt, List, Result, Ok, Err}
 use Rattle.pg_message_types.specs.declared.message.Message.{Message}
-use Rattle.pg_message_types.specs.declared.packet.TheConstants.{MAX_STAMP}
+use Rattle.pg_message_types.specs.Limits.{max_stamp}
 use Rattle.pg_message_types.specs.declared.message.Message.TheVariants.{Call, Reply, DelLock, Exchange, Down}
 use Rattle.pg_message_types.specs.declared.message.Request.TheVariants.{SetLock, Change}
 use Rattle.pg_step.specs.declared.command.Command.{Command}
@@ -50,7 +50,7 @@ node_acts m ports action s = acted m (live_nodes m s) ports action s
 
 -- the greatest clock of a node: the greatest stamp that a packet can carry
 abbrev pub CLOCK_LIMIT : ℕ
-CLOCK_LIMIT = MAX_STAMP
+CLOCK_LIMIT = max_stamp
 
 pub record TimedTurn : Type 0 where
   pub state : Timed State
