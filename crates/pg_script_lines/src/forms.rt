@@ -282,7 +282,7 @@ impl LineWords<'_> {
         ensures err { IfErr result (λ fault. fault ≡ BadText → number_in (words_left self.old.words) ≡ None) }
     {
         match self.words.next() {
-            Some(word) => read_number(self.alloc, word),
+            Some(word) => read_number(word),
             None => Err(TextFault::BadText),
         }
     }
@@ -293,7 +293,7 @@ impl LineWords<'_> {
         ensures err { IfErr result (λ fault. fault ≡ BadText → number_or default (words_left self.old.words) ≡ None) }
     {
         match self.words.next() {
-            Some(word) => read_number(self.alloc, word),
+            Some(word) => read_number(word),
             None => Ok(default),
         }
     }

@@ -1,5 +1,6 @@
 pub mod Adding
 pub mod AtomsBack
+pub mod Characters
 pub mod Fronts
 pub mod JustThose
 pub mod NumbersBack
@@ -9,3 +10,4 @@ pub mod QuotedJust
 pub mod Quoting
 pub mod TermsBack
 pub mod TermsJust
+pub mod Words

@@ -1,13 +1,13 @@
 -- Characters that are gathered one after another.
-use Rattle.std.proofs.Common.{◌≡◌, ℕ, ◌+◌, ◌<◌, List, [], ◌∷◌, ◌++◌, length, get_or, drop, sym, ap, ◌∙◌}
-use Rattle.std.proofs.lemmas.List.{append-nil, at_drop_more}
+use Rattle.std.proofs.Common.{◌≡◌, ℕ, List, [], ◌∷◌, ◌++◌, sym, ap, ◌∙◌, Some, None}
+use Rattle.std.proofs.lemmas.List.{append-nil}
 use Rattle.std.proofs.lemmas.Str.{chars_from_encodes, encodes-append, encodes-chars, IsUtf8-string_bytes, chars-nil}
 use Rattle.std.specs.Str.{chars, encode_utf8_all}
 use Rattle.std.specs.Char.{encode_utf8}
 use Rattle.std.specs.String.{string_bytes}
 use Rattle.std.specs.declared.string.String.{String}
 use Rattle.pg_text.specs.declared.reading.quoted.Place.{Place}
-use Rattle.pg_text.specs.declared.reading.quoted.Quoted.TheVariants.{Character, Within}
+use Rattle.pg_text.specs.declared.reading.quoted.Quoted.TheVariants.{Close, Character, Within, Bad}
 use Rattle.pg_text.specs.declared.reading.quoted.Place.TheVariants.{Plain}
 use Rattle.pg_text.proofs.Fronts.{front_more}
 use Rattle.pg_text.specs.Reading.{quoted_at, quoted_step, quoted_next, with_front}
@@ -22,20 +22,32 @@ chars_push s t c e =
 pub chars_none : (bytes : List ℕ) → bytes ≡ [] → chars bytes ≡ []
 chars_none bytes e = ap chars e ∙ chars-nil
 
--- what is read of the rest goes on with the character that is next
-pub quoted_turn : (text : List ℕ) (at : ℕ) (x : ℕ) (place : Place) → at < length text → x ≡ get_or text at x
-    → quoted_at (drop at text) place ≡ quoted_next (quoted_step place x) (drop (at + 1) text) (λ next. quoted_at (drop (at + 1) text) next)
-quoted_turn text at x place lt e = at_drop_more (λ t. quoted_at t place) text at x lt ∙ ap (λ y. quoted_at (y ∷ drop (at + 1) text) place) (sym e)
-
 -- a character more
-pub quoted_grows : (text front front2 : List ℕ) (at x : ℕ) (place : Place) (c : ℕ) → at < length text → x ≡ get_or text at x → quoted_step place x ≡ Character c → front2 ≡ front ++ c ∷ []
-    → quoted_at text Plain ≡ with_front front (quoted_at (drop at text) place) → quoted_at text Plain ≡ with_front front2 (quoted_at (drop (at + 1) text) Plain)
-quoted_grows text front front2 at x place c lt e step f h =
-    h ∙ ap (with_front front) (quoted_turn text at x place lt e ∙ ap (λ q. quoted_next q (drop (at + 1) text) (λ next. quoted_at (drop (at + 1) text) next)) step)
-    ∙ front_more front c (quoted_at (drop (at + 1) text) Plain) ∙ ap (λ y. with_front y (quoted_at (drop (at + 1) text) Plain)) (sym f)
+pub quoted_grows : (text front front2 rest follows : List ℕ) (x : ℕ) (place : Place) (c : ℕ) → rest ≡ x ∷ follows → quoted_step place x ≡ Character c → front2 ≡ front ++ c ∷ []
+    → quoted_at text Plain ≡ with_front front (quoted_at rest place) → quoted_at text Plain ≡ with_front front2 (quoted_at follows Plain)
+quoted_grows text front front2 rest follows x place c e step f h =
+    h ∙ ap (with_front front) (ap (λ t. quoted_at t place) e ∙ ap (λ q. quoted_next q follows (λ next. quoted_at follows next)) step)
+    ∙ front_more front c (quoted_at follows Plain) ∙ ap (λ y. with_front y (quoted_at follows Plain)) (sym f)
 
 -- no character yet
-pub quoted_goes : (text front : List ℕ) (at x : ℕ) (place next : Place) → at < length text → x ≡ get_or text at x → quoted_step place x ≡ Within next
-    → quoted_at text Plain ≡ with_front front (quoted_at (drop at text) place) → quoted_at text Plain ≡ with_front front (quoted_at (drop (at + 1) text) next)
-quoted_goes text front at x place next lt e step h =
-    h ∙ ap (with_front front) (quoted_turn text at x place lt e ∙ ap (λ q. quoted_next q (drop (at + 1) text) (λ p. quoted_at (drop (at + 1) text) p)) step)
+pub quoted_goes : (text front rest follows : List ℕ) (x : ℕ) (place next : Place) → rest ≡ x ∷ follows → quoted_step place x ≡ Within next
+    → quoted_at text Plain ≡ with_front front (quoted_at rest place) → quoted_at text Plain ≡ with_front front (quoted_at follows next)
+quoted_goes text front rest follows x place next e step h =
+    h ∙ ap (with_front front) (ap (λ t. quoted_at t place) e ∙ ap (λ q. quoted_next q follows (λ p. quoted_at follows p)) step)
+
+-- the closing quote
+pub quoted_closes : (text front rest follows : List ℕ) (x : ℕ) (place : Place) → rest ≡ x ∷ follows → quoted_step place x ≡ Close
+    → quoted_at text Plain ≡ with_front front (quoted_at rest place) → quoted_at text Plain ≡ Some (front, follows)
+quoted_closes text front rest follows x place e step h =
+    h ∙ ap (with_front front) (ap (λ t. quoted_at t place) e ∙ ap (λ q. quoted_next q follows (λ p. quoted_at follows p)) step) ∙ ap (λ y. Some (y, follows)) (append-nil front)
+
+-- a character that cannot stand there
+pub quoted_spoilt : (text front rest follows : List ℕ) (x : ℕ) (place : Place) → rest ≡ x ∷ follows → quoted_step place x ≡ Bad
+    → quoted_at text Plain ≡ with_front front (quoted_at rest place) → quoted_at text Plain ≡ None
+quoted_spoilt text front rest follows x place e step h =
+    h ∙ ap (with_front front) (ap (λ t. quoted_at t place) e ∙ ap (λ q. quoted_next q follows (λ p. quoted_at follows p)) step)
+
+-- no closing quote
+pub quoted_open : (text front rest : List ℕ) (place : Place) → rest ≡ []
+    → quoted_at text Plain ≡ with_front front (quoted_at rest place) → quoted_at text Plain ≡ None
+quoted_open text front rest place e h = h ∙ ap (with_front front) (ap (λ t. quoted_at t place) e)

@@ -15,7 +15,6 @@ use Rattle.pg_text.specs.declared.reading.quoted.Place.TheVariants.{Plain, Escap
 use Rattle.pg_text.specs.declared.reading.quoted.Hex.{Hex}
 use Rattle.pg_text.specs.declared.reading.quoted.Quoted.{Quoted}
 use Rattle.pg_text.specs.declared.reading.quoted.Quoted.TheVariants.{Close, Character, Within, Bad}
-use Rattle.pg_text.specs.declared.reading.TheConstants.{MAX_DEPTH}
 use Rattle.pg_text.specs.Writing.{is_word_byte, needs_no_quotes, begins_lower}
 
 -- what is read at the front, and what follows it; nothing where no such value stands there
@@ -233,9 +232,9 @@ abbrev pub whole : {A : Type 0} → Read A → Option A
 whole None = None
 whole (Some x) = if length x.1 == 0 then Some x.0 else None
 
--- the term of a text, where it has one
+-- the term of a text, where it has one: it nests at most 64 levels deep
 abbrev pub term_of : List ℕ → Option Term
-term_of text = whole (term_at MAX_DEPTH text)
+term_of text = whole (term_at 64 text)
 
 abbrev pub atom_from_text : List ℕ → Option (List ℕ)
 atom_from_text text = whole (atom_at text)

@@ -6,6 +6,7 @@ ghost use Rattle.pg_text.specs.Reading.{term_of, atom_from_text, pid_of, number_
 ghost use Rattle.pg_text.specs.declared.fault.TextFault.TheVariants.{BadText};
 
 mod atoms;
+mod fronts;
 mod numerals;
 mod parts;
 mod quoted;
@@ -13,30 +14,25 @@ mod terms;
 
 use crate::fault::TextFault;
 use crate::reading::atoms::atom_at;
+use crate::reading::fronts::is_over;
 use crate::reading::numerals::number_at;
 use crate::reading::parts::pid_at;
 use crate::reading::terms::term_at;
 use pg_term::{Atom, Pid, Term};
-use std::alloc::{AllocError, Global};
+use std::alloc::Global;
 
 /// How many levels deep a term nests at most.
 pub const MAX_DEPTH: usize = 64;
 
 // What is at the start of a text, and what follows it.
-pub(crate) type Read<'a, T> = Result<(T, &'a [char]), TextFault>;
-
-fn characters_of(alloc: Global, text: &str) -> Result<Vec<char>, AllocError>
-    ensures { IfOk result (λ characters. characters.items ≡ chars text.now) }
-{
-    text.chars().collect(alloc)
-}
+pub(crate) type Read<'a, T> = Result<(T, &'a str), TextFault>;
 
 // What was read, where nothing follows it.
-fn whole<T: Drop>(value: T, rest: &[char]) -> Result<T, TextFault>
-    ensures ok { IfOk result (λ whole. (whole ≡ value) × (length rest.now ≡ 0)) }
-    ensures err { IfErr result (λ fault. (fault ≡ BadText) × (length rest.now ≢ 0)) }
+fn whole<T: Drop>(value: T, rest: &str) -> Result<T, TextFault>
+    ensures ok { IfOk result (λ whole. (whole ≡ value) × (length (chars rest.now) ≡ 0)) }
+    ensures err { IfErr result (λ fault. (fault ≡ BadText) × (length (chars rest.now) ≢ 0)) }
 {
-    if rest.is_empty() {
+    if is_over(rest) {
         Ok(value)
     } else {
         Err(TextFault::BadText)
@@ -52,8 +48,7 @@ pub fn read_term(alloc: Global, text: &str) -> Result<Term, TextFault>
     ensures ok { IfOk result (λ term. term_of (chars text.now) ≡ Some term) }
     ensures err { IfErr result (λ fault. fault ≡ BadText → term_of (chars text.now) ≡ None) }
 {
-    let characters = characters_of(alloc, text)?;
-    let (term, rest) = term_at(alloc, characters.as_slice(), MAX_DEPTH)?;
+    let (term, rest) = term_at(alloc, text, MAX_DEPTH)?;
     whole(term, rest)
 }
 
@@ -66,8 +61,7 @@ pub fn read_atom(alloc: Global, text: &str) -> Result<Atom, TextFault>
     ensures ok { IfOk result (λ atom. atom_from_text (chars text.now) ≡ Some atom) }
     ensures err { IfErr result (λ fault. fault ≡ BadText → atom_from_text (chars text.now) ≡ None) }
 {
-    let characters = characters_of(alloc, text)?;
-    let (atom, rest) = atom_at(alloc, characters.as_slice())?;
+    let (atom, rest) = atom_at(alloc, text)?;
     whole(atom, rest)
 }
 
@@ -80,21 +74,19 @@ pub fn read_pid(alloc: Global, text: &str) -> Result<Pid, TextFault>
     ensures ok { IfOk result (λ pid. pid_of (chars text.now) ≡ Some pid) }
     ensures err { IfErr result (λ fault. fault ≡ BadText → pid_of (chars text.now) ≡ None) }
 {
-    let characters = characters_of(alloc, text)?;
-    let (pid, rest) = pid_at(alloc, characters.as_slice())?;
+    let (pid, rest) = pid_at(alloc, text)?;
     whole(pid, rest)
 }
 
 /// Reads a number of 32 bits in decimal, without sign and leading zeros.
 ///
-/// Errors: `BadText` where this is the text of no such number; else `OutOfMemory`.
+/// Errors: `BadText` where this is the text of no such number, and nothing else.
 ///
-/// Cost: memory for the characters of the text.
-pub fn read_number(alloc: Global, text: &str) -> Result<u32, TextFault>
+/// Cost: no memory.
+pub fn read_number(text: &str) -> Result<u32, TextFault>
     ensures ok { IfOk result (λ number. number_of (chars text.now) ≡ Some number) }
-    ensures err { IfErr result (λ fault. fault ≡ BadText → number_of (chars text.now) ≡ None) }
+    ensures err { IfErr result (λ fault. (fault ≡ BadText) × (number_of (chars text.now) ≡ None)) }
 {
-    let characters = characters_of(alloc, text)?;
-    let (number, rest) = number_at(characters.as_slice())?;
+    let (number, rest) = number_at(text)?;
     whole(number, rest)
 }

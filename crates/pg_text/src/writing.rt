@@ -64,7 +64,7 @@ pub(crate) fn is_bare(text: &str) -> bool
 }
 
 // Whether a letter from a to z comes first.
-fn begins_small(text: &str) -> bool
+pub(crate) fn begins_small(text: &str) -> bool
     ensures { result ≡ begins_lower (chars text.now) }
 {
     match text.chars().next() {
