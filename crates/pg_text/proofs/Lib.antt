@@ -6,6 +6,7 @@ pub mod JustThose
 pub mod NumbersBack
 pub mod Numerals
 pub mod PartsBack
+pub mod Passing
 pub mod QuotedJust
 pub mod Quoting
 pub mod TermsBack

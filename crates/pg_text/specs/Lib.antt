@@ -1,4 +1,5 @@
 pub mod Again
+pub mod Ends
 pub mod Faults
 pub mod Reading
 pub mod Spelling

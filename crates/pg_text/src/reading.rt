@@ -3,9 +3,10 @@
 ghost use Rattle.std.specs.Prelude.{◌≡◌, ◌≢◌, length, Some, None, IfOk, IfErr};
 ghost use Rattle.std.specs.Str.{chars};
 ghost use Rattle.pg_text.specs.Reading.{term_of, atom_from_text, pid_of, number_of};
-ghost use Rattle.pg_text.specs.declared.fault.TextFault.TheVariants.{BadText};
+ghost use Rattle.pg_text.specs.declared.fault.TextFault.TheVariants.{BadText, OutOfMemory};
 
 mod atoms;
+mod ends;
 mod fronts;
 mod numerals;
 mod parts;
@@ -14,6 +15,7 @@ mod terms;
 
 use crate::fault::TextFault;
 use crate::reading::atoms::atom_at;
+use crate::reading::ends::{is_atom, is_pid, is_term};
 use crate::reading::fronts::is_over;
 use crate::reading::numerals::number_at;
 use crate::reading::parts::pid_at;
@@ -41,41 +43,53 @@ fn whole<T: Drop>(value: T, rest: &str) -> Result<T, TextFault>
 
 /// Reads a term.
 ///
-/// Errors: `BadText` where this is the text of no term of at most 64 levels; else `OutOfMemory`.
+/// Errors: `BadText` exactly where this is the text of no term of at most 64 levels; else `OutOfMemory`.
 ///
-/// Cost: memory for the characters of the text, and for the term.
+/// Cost: memory for the term. Where memory is refused, the text is walked through a second time.
 pub fn read_term(alloc: Global, text: &str) -> Result<Term, TextFault>
     ensures ok { IfOk result (λ term. term_of (chars text.now) ≡ Some term) }
     ensures err { IfErr result (λ fault. fault ≡ BadText → term_of (chars text.now) ≡ None) }
+    ensures memory { IfErr result (λ fault. fault ≡ OutOfMemory → term_of (chars text.now) ≢ None) }
 {
-    let (term, rest) = term_at(alloc, text, MAX_DEPTH)?;
-    whole(term, rest)
+    match term_at(alloc, text, MAX_DEPTH) {
+        Ok((term, rest)) => whole(term, rest),
+        Err(TextFault::OutOfMemory) if is_term(text) => Err(TextFault::OutOfMemory),
+        Err(_) => Err(TextFault::BadText),
+    }
 }
 
 /// Reads an atom.
 ///
-/// Errors: `BadText` where this is the text of no atom; else `OutOfMemory`.
+/// Errors: `BadText` exactly where this is the text of no atom; else `OutOfMemory`.
 ///
-/// Cost: memory for the characters of the text, and for the atom.
+/// Cost: memory for the atom. Where memory is refused, the text is walked through a second time.
 pub fn read_atom(alloc: Global, text: &str) -> Result<Atom, TextFault>
     ensures ok { IfOk result (λ atom. atom_from_text (chars text.now) ≡ Some atom) }
     ensures err { IfErr result (λ fault. fault ≡ BadText → atom_from_text (chars text.now) ≡ None) }
+    ensures memory { IfErr result (λ fault. fault ≡ OutOfMemory → atom_from_text (chars text.now) ≢ None) }
 {
-    let (atom, rest) = atom_at(alloc, text)?;
-    whole(atom, rest)
+    match atom_at(alloc, text) {
+        Ok((atom, rest)) => whole(atom, rest),
+        Err(TextFault::OutOfMemory) if is_atom(text) => Err(TextFault::OutOfMemory),
+        Err(_) => Err(TextFault::BadText),
+    }
 }
 
 /// Reads a pid.
 ///
-/// Errors: `BadText` where this is the text of no pid; else `OutOfMemory`.
+/// Errors: `BadText` exactly where this is the text of no pid; else `OutOfMemory`.
 ///
-/// Cost: memory for the characters of the text, and for the pid.
+/// Cost: memory for the pid. Where memory is refused, the text is walked through a second time.
 pub fn read_pid(alloc: Global, text: &str) -> Result<Pid, TextFault>
     ensures ok { IfOk result (λ pid. pid_of (chars text.now) ≡ Some pid) }
     ensures err { IfErr result (λ fault. fault ≡ BadText → pid_of (chars text.now) ≡ None) }
+    ensures memory { IfErr result (λ fault. fault ≡ OutOfMemory → pid_of (chars text.now) ≢ None) }
 {
-    let (pid, rest) = pid_at(alloc, text)?;
-    whole(pid, rest)
+    match pid_at(alloc, text) {
+        Ok((pid, rest)) => whole(pid, rest),
+        Err(TextFault::OutOfMemory) if is_pid(text) => Err(TextFault::OutOfMemory),
+        Err(_) => Err(TextFault::BadText),
+    }
 }
 
 /// Reads a number of 32 bits in decimal, without sign and leading zeros.

@@ -30,7 +30,7 @@ fn word_first(text: &str) -> Option<(char, &str)>
 }
 
 // The characters of a bare atom at the start, which may be none, and what follows them.
-fn word_of(text: &str) -> (&str, &str)
+pub fn word_of(text: &str) -> (&str, &str)
     ensures word { chars result.0.now ≡ take (prefix_len counts_as_word (chars text.now)) (chars text.now) }
     ensures rest { chars result.1.now ≡ drop (prefix_len counts_as_word (chars text.now)) (chars text.now) }
 {

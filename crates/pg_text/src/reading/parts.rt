@@ -17,9 +17,9 @@ use pg_term::{Atom, Pid, Reference, TermFault};
 use std::alloc::Global;
 
 // A number, after this character.
-fn part_at(text: &str, before: char) -> Read<'_, u32>
+pub fn part_at(text: &str, before: char) -> Read<'_, u32>
     ensures ok { IfOk result (λ read. part_read before (chars text.now) ≡ Some (read.0, chars read.1.now)) }
-    ensures err { IfErr result (λ fault. fault ≡ BadText → part_read before (chars text.now) ≡ None) }
+    ensures err { IfErr result (λ fault. (fault ≡ BadText) × (part_read before (chars text.now) ≡ None)) }
     ensures shorter { IfOk result (λ read. length (chars read.1.now) < length (chars text.now)) }
 {
     number_at(behind(text, before)?)
@@ -29,7 +29,7 @@ fn part_at(text: &str, before: char) -> Read<'_, u32>
 #[tactic(auto, unfolding(crate::specs::Reading::creation_at))]
 fn creation_at(text: &str) -> Read<'_, u32>
     ensures ok { IfOk result (λ read. creation_read (chars text.now) ≡ Some (read.0, chars read.1.now)) }
-    ensures err { IfErr result (λ fault. fault ≡ BadText → creation_read (chars text.now) ≡ None) }
+    ensures err { IfErr result (λ fault. (fault ≡ BadText) × (creation_read (chars text.now) ≡ None)) }
     ensures shorter { IfOk result (λ read. length (chars read.1.now) ≤ length (chars text.now)) }
 {
     match after(text, '/') {
@@ -45,9 +45,9 @@ fn creation_at(text: &str) -> Read<'_, u32>
 }
 
 // The numbers of a pid, after its node: id, serial and creation, and what follows them.
-fn numbers_at(text: &str) -> Result<(u32, u32, u32, &str), TextFault>
+pub fn numbers_at(text: &str) -> Result<(u32, u32, u32, &str), TextFault>
     ensures ok { IfOk result (λ read. numbers_read (chars text.now) ≡ Some ((read.0, read.1, read.2), chars read.3.now)) }
-    ensures err { IfErr result (λ fault. fault ≡ BadText → numbers_read (chars text.now) ≡ None) }
+    ensures err { IfErr result (λ fault. (fault ≡ BadText) × (numbers_read (chars text.now) ≡ None)) }
     ensures shorter { IfOk result (λ read. length (chars read.3.now) ≤ length (chars text.now)) }
 {
     let (id, rest) = part_at(text, '.')?;

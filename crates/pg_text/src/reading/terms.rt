@@ -60,7 +60,7 @@ fn elements_at(alloc: Global, text: &str, last: char, room: usize) -> Read<'_, V
 }
 
 // Whether a minus or a digit comes first.
-fn begins_number(text: &str) -> bool
+pub fn begins_number(text: &str) -> bool
     ensures { result ≡ number_begins (chars text.now) }
 {
     match first_of(text) {
