@@ -70,7 +70,6 @@ module _ {A : Type 0} where
   past_some None rest e = absurd (cc)
   past_some (Some x) rest e = (x.0, ap (λ r. Some (x.0, r)) (cc))
 
-
 -- ---- atoms
 
 pub unless_past : (front rest : List ℕ) → past (unless_bare front rest) ≡ cond (needs_no_quotes front) None (cond (nat_lt 255 (length front)) None (Some rest))
@@ -90,8 +89,10 @@ quote_long front (Some x) long =
   where
     larger : (n : ℕ) → 255 < n → nat_lt 255 n ≡ true
     larger n lt = grind (arith, nat_tests)
+
     nothing : Option (List ℕ)
     nothing = None
+
     step : (a : Bool) → cond a nothing nothing ≡ nothing
     step true = refl
     step false = refl
@@ -111,9 +112,11 @@ bare_one (d ∷ ds) c =
     true_and : (b : Bool) → (b && true) ≡ b
     true_and true = refl
     true_and false = refl
+
     regroup : (a b c : Bool) → (a && (b && c)) ≡ ((a && b) && c)
     regroup true b c = refl
     regroup false b c = refl
+
     some : (n : ℕ) → (suc n == 0) ≡ false
     some n = grind (arith, nat_tests)
 
@@ -131,7 +134,7 @@ pub seen_one : (characters : List ℕ) (seen next : Seen) (c : ℕ) → next.cou
 seen_one characters seen next c e f g = record {
   count = omega (arith, e, g.count, length-append characters (c ∷ []));
   bare = f ∙ ap (λ n. cond (n == 0) (is_ascii_lowercase c) seen.bare && is_word_byte c) g.count ∙ ap (λ b. cond (length characters == 0) (is_ascii_lowercase c) b && is_word_byte c) g.bare
-    ∙ sym (bare_one characters c);
+      ∙ sym (bare_one characters c);
 }
 
 pub counts_one : (text rest follows : List ℕ) (x : ℕ) (place : Place) (c : ℕ) (seen next : Seen) → rest ≡ x ∷ follows → quoted_step place x ≡ Character c
@@ -224,20 +227,25 @@ some_past node creation text = step (begins 46 text) refl
   where
     nothing : Option (List ℕ)
     nothing = None
+
     zero_words : (b : Bool) → past (then_read {A = List ℕ} (cond b (Some ([], drop 1 text)) None) (λ words rest. some_words node creation words rest)) ≡ nothing
     zero_words true = refl
     zero_words false = refl
+
     not_zero : (n : ℕ) → (suc n == 0) ≡ false
     not_zero n = grind (arith, nat_tests)
+
     more : (word : ℕ) (read : Read (List ℕ)) → past (then_read (with_front (word ∷ []) read) (λ words rest. some_words node creation words rest)) ≡ past (with_front (word ∷ []) read)
     more word None = refl
     more word (Some x) = ap (λ b. past {A = RefParts} (cond b None (Some (record { node = node; creation = creation; words = word ∷ x.0 }, x.1)))) (not_zero (length x.0))
+
     word_first : (read : Read ℕ) → past (then_read (then_read read (λ w rest. with_front (w ∷ []) (words_at 2 rest))) (λ words rest. some_words node creation words rest)) ≡ past (then_read read (λ w rest. with_front (w ∷ []) (words_at 2 rest)))
     word_first None = refl
     word_first (Some x) = more x.0 (words_at 2 x.1)
+
     step : (b : Bool) → begins 46 text ≡ b
         → past (then_read (cond (begins 46 text) (then_read (number_at (drop 1 text)) (λ w rest. with_front (w ∷ []) (words_at 2 rest))) (ended 62 [] text)) (λ words rest. some_words node creation words rest))
-          ≡ cond (begins 46 text) (past (cond (begins 46 text) (then_read (number_at (drop 1 text)) (λ w rest. with_front (w ∷ []) (words_at 2 rest))) (ended 62 [] text))) None
+        ≡ cond (begins 46 text) (past (cond (begins 46 text) (then_read (number_at (drop 1 text)) (λ w rest. with_front (w ∷ []) (words_at 2 rest))) (ended 62 [] text))) None
     step true e =
         ap (λ b. past (then_read (cond b (then_read (number_at (drop 1 text)) (λ w rest. with_front (w ∷ []) (words_at 2 rest))) (ended 62 [] text)) (λ words rest. some_words node creation words rest))) e
         ∙ word_first (number_at (drop 1 text))

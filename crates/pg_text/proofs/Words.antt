@@ -38,7 +38,7 @@ passes_on text rest follows c e word g =
       utf8 = IsUtf8-append g.front (encode_utf8 c) g.utf8 (IsUtf8-encode c s);
       whole = g.whole ∙ ap (λ t. g.front ++ t) e ∙ sym (append_assoc g.front (encode_utf8 c) follows);
       words = ap (list_all is_word_byte) (chars-append g.front (encode_utf8 c) g.utf8 ∙ ap (λ cs. chars g.front ++ cs) (one_char c s))
-        ∙ list_all-append is_word_byte (chars g.front) (c ∷ []) ∙ ap (λ b. b && (is_word_byte c && true)) g.words ∙ ap (λ b. b && true) word;
+          ∙ list_all-append is_word_byte (chars g.front) (c ∷ []) ∙ ap (λ b. b && (is_word_byte c && true)) g.words ∙ ap (λ b. b && true) word;
     }
 
 span : (xs ys : List ℕ) → list_all is_word_byte xs ≡ true → word_len ys ≡ 0 → word_len (xs ++ ys) ≡ length xs

@@ -94,12 +94,7 @@ fn words_at(alloc: Global, text: &str) -> Read<'_, Vec<u32>>
 }
 
 // The reference of these parts, and what follows it.
-fn reference_of<'a>(
-    node: Atom,
-    creation: u32,
-    words: &[u32],
-    rest: &'a str,
-) -> Read<'a, Reference>
+fn reference_of<'a>(node: Atom, creation: u32, words: &[u32], rest: &'a str) -> Read<'a, Reference>
     requires { length words.now ≤ 3 }
     ensures ok { IfOk result (λ read. some_words node creation words.now (chars rest.now) ≡ Some (read.0, chars read.1.now)) }
     ensures err { IfErr result (λ fault. (fault ≡ BadText) × (some_words node creation words.now (chars rest.now) ≡ None)) }

@@ -5,7 +5,6 @@ use Rattle.pg_text.proofs.Passing.{WordsPast, words_begun, words_past_on, words_
 use Rattle.pg_text.proofs.reading.ends.words_end.Goals as goal
 use Rattle.pg_text.proofs.reading.ends.words_end.Goals.{in-Some+in-Ok, in_default}
 
-
 pub returns-in_default-number_at-clause-none : goal.returns-in_default-number_at-clause-none
 returns-in_default-number_at-clause-none c = λ none.
     let n : 3 - c.loop.counter ≡ suc (3 - (c.loop.counter + 1)) = omega (arith, c.loop-test.true) in
