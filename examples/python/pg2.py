@@ -77,7 +77,7 @@ class Waiting:
 
 class Cluster:
     """A cluster of nodes with these names, each with so many ports. `timeout`: after how many seconds without a reply a call gives up by
-    TimeoutError; the request stays under way."""
+    TimeoutError; the request stays under way. `./pg2sim` of a fresh clone is built first, which takes minutes: run `./pg2sim --version` before."""
 
     def __init__(self, program, names, ports=1, words=(), timeout=60):
         named = [word for name in names for word in ("--name", name)]
@@ -281,7 +281,8 @@ class Node:
 
 
 def encode(term):
-    if isinstance(term, Atom):
+    # (a plain text is an atom, too)
+    if isinstance(term, str):
         text = term.encode()
         return (b"w" + bytes([len(text)]) if len(text) < 256 else b"v" + struct.pack(">H", len(text))) + text
     if isinstance(term, Pid):

@@ -13,18 +13,18 @@ use std::alloc::{AllocError, Global};
 ///
 /// Errors: `AllocError`.
 ///
-/// Cost: that of the table's `groups`, and of its `list` for each group.
+/// Cost: that of the table's `groups`, whose names are those told, and of its `list` for each group.
 pub fn snapshot<T: GroupTable>(
     alloc: Global,
     table: &T,
 ) -> Result<Items<(Term, Items<Pid>)>, AllocError>
     ensures { IfOk result (IsSnapshot (T.contents table.now)) }
 {
-    let names = which_groups(table)?;
+    let names = which_groups(table)?.into_vec();
     let mut groups = Vec::new(alloc);
-    for name in names.as_slice() {
-        let pids = members_of(alloc, table, name)?;
-        groups.push((name.copy(alloc)?, pids))?;
+    for name in names {
+        let pids = members_of(alloc, table, &name)?;
+        groups.push((name, pids))?;
     }
     Ok(Items::from_vec(groups))
 }

@@ -17,7 +17,7 @@ use Rattle.pg_index.specs.declared.listing.Listing.{Listing}
 use Rattle.pg_index.specs.Groups.{Numbered, counts_changed, without_pid, without_node, without_nodes}
 use Rattle.pg_index.specs.Listings.{process_of, listing_of, listing_cmp, listed_in, AreGroupsOf, ListsByMember}
 use Rattle.pg_index.proofs.Numbers.{number_is, number_itself}
-use Rattle.pg_index.proofs.Listed.{Nodes, has, at_group, apart, same_node, node_is, listing_is, node_alike, nodes_tie}
+use Rattle.pg_index.proofs.Listed.{Nodes, has, at_group, apart, same_node, node_is, listing_is, node_alike, nodes_tie, pid_from}
 
 pub none_if : (n : ℕ) → nat_lt 0 n ≡ false → n ≡ 0
 none_if n e = grind (arith, nat_tests)
@@ -127,61 +127,63 @@ listed_without old new pid was now before after listed had put counts none other
 
 -- ---- one node
 
-abbrev pub in_group : ℕ → Listing → Bool
-in_group n l = nat_eq l.group n
-
-any_less : (p q : Listing → Bool) → ((l : Listing) → p l ≡ true → q l ≡ true) → (ls : List Listing) → list_any q ls ≡ false → list_any p ls ≡ false
-any_less p q h [] e = refl
-any_less p q h (l ∷ ls) e = go (p l) (q l) (h l) e (λ f. any_less p q h ls f)
-  where
-    go : (a b : Bool) → (a ≡ true → b ≡ true) → (b || list_any q ls) ≡ false → (list_any q ls ≡ false → list_any p ls ≡ false) → (a || list_any p ls) ≡ false
-    go true true f g next = absurd cc
-    go true false f g next = absurd (let k = f refl in cc)
-    go false true f g next = absurd cc
-    go false false f g next = next g
-
--- the pids of a node are out of some groups, and left in groups of these listings alone
+-- the pids of a node are out of the groups that they were listed in, but for these listings, which are to come
 pub record NodePartlyDropped (node : List ℕ) (left : List Listing) (before after : Numbered) : Type 0 where
-  pub mine : (pid : Pid) (n : ℕ) → at_node node pid ≡ true → list_any (in_group n) left ≡ false → after n pid ≡ 0
+  pub mine : (pid : Pid) (n : ℕ) → at_node node pid ≡ true → list_any (is_at (listing_cmp (listing_of pid n))) left ≡ false → after n pid ≡ 0
   pub others : (pid : Pid) (n : ℕ) → at_node node pid ≡ false → after n pid ≡ before n pid
 
 pub node_undropped : (node : List ℕ) (set : BTreeSet Listing) (left : List Listing) (counts : Numbered) → left ≡ set.keys → ((pid : Pid) → at_node node pid ≡ true → AreGroupsOf set counts pid) → NodePartlyDropped node left counts counts
 node_undropped node set left counts all h = record {
-  mine = λ pid n at none.
-      let none_there : list_any (in_group n) set.keys ≡ false = ap (λ (ls : List Listing). list_any (in_group n) ls) (sym all) ∙ none in
-      none_if (counts n pid) (sym (h pid at n) ∙ any_less (is_at (listing_cmp (listing_of pid n))) (in_group n) (λ l e. ap (λ (k : Listing). nat_eq k.group n) (sym (listing_is (listing_of pid n) l e)) ∙ number_itself n) set.keys none_there);
+  mine = λ pid n at none. none_if (counts n pid) (sym (h pid at n) ∙ ap (λ (ls : List Listing). list_any (is_at (listing_cmp (listing_of pid n))) ls) (sym all) ∙ none);
   others = λ pid n e. refl;
 }
 
-pub group_dropped : (node : List ℕ) (found left : List Listing) (l : Listing) (before after then : Numbered) → NodePartlyDropped node found before after → found ≡ l ∷ left → then ≡ upd nat_eq after l.group (without_node (after l.group) node) → NodePartlyDropped node left before then
-group_dropped node found left l before after then h is counts = record {
-  mine = λ pid n at none. mine pid n at none (nat_eq l.group n) refl;
-  others = λ pid n e. others pid n e (nat_eq l.group n) refl;
+-- what is in no group stays so, where one count becomes none
+still_none : (counts : Numbered) (group : ℕ) (p : Pid) (n : ℕ) (q : Pid) → counts n q ≡ 0 → counts_changed counts group p 0 n q ≡ 0
+still_none counts group p n q zero = go (same_pid p q) refl (nat_eq group n) refl
+  where
+    go : (s : Bool) → same_pid p q ≡ s → (t : Bool) → nat_eq group n ≡ t → counts_changed counts group p 0 n q ≡ 0
+    go false e t f = changed_of_others counts group p 0 n q e ∙ zero
+    go true e false f = changed_elsewhere counts group p 0 n q f ∙ zero
+    go true e true f =
+        ap (λ m. counts_changed counts group p 0 m q) (sym (number_is group n f))
+        ∙ ap (counts_changed counts group p 0 group) (sym (pid_is p q e))
+        ∙ changed_here counts group p 0
+
+nodes_tie_here : (p : Pid) → at_node p.node p ≡ true
+nodes_tie_here p = sym (nodes_tie p.node p.node) ∙ node_is p.node
+
+pub listing_dropped : (node : List ℕ) (found left : List Listing) (l : Listing) (p : Pid) (before after then : Numbered)
+    → NodePartlyDropped node found before after → found ≡ l ∷ left → p.node ≡ node → process_of p ≡ l.process
+    → then ≡ counts_changed after l.group p 0
+    → NodePartlyDropped node left before then
+listing_dropped node found left l p before after then h is home process counts = record {
+  mine = λ pid n at none. ap (λ f. f n pid) counts ∙ mine pid n at none (is_at (listing_cmp (listing_of pid n)) l) refl;
+  others = λ pid n e. ap (λ f. f n pid) counts ∙ others pid n e (same_pid p pid) refl ∙ h.others pid n e;
 }
   where
-    here : (n : ℕ) (pid : Pid) → nat_eq l.group n ≡ true → then n pid ≡ cond (at_node node pid) 0 (after n pid)
-    here n pid e =
-        ap (λ f. f n pid) counts
-        ∙ ap (λ m. upd nat_eq after l.group (without_node (after l.group) node) m pid) (sym (number_is l.group n e))
-        ∙ ap (λ f. f pid) (upd_at nat_eq after l.group (without_node (after l.group) node) (number_itself l.group))
-        ∙ ap (λ m. cond (at_node node pid) 0 (after m pid)) (number_is l.group n e)
+    mine : (pid : Pid) (n : ℕ) → at_node node pid ≡ true → list_any (is_at (listing_cmp (listing_of pid n))) left ≡ false → (t : Bool) → is_at (listing_cmp (listing_of pid n)) l ≡ t → counts_changed after l.group p 0 n pid ≡ 0
+    mine pid n at none true e =
+        let listed : listing_of pid n ≡ l = listing_is (listing_of pid n) l e in
+        let group : l.group ≡ n = ap (λ (k : Listing). k.group) (sym listed) in
+        let same : p ≡ pid = pid_from p pid (home ∙ node_alike node pid.node at) (process ∙ ap (λ (k : Listing). k.process) (sym listed)) in
+        ap (λ m. counts_changed after l.group p 0 m pid) (sym group)
+        ∙ ap (counts_changed after l.group p 0 l.group) (sym same)
+        ∙ changed_here after l.group p 0
+    mine pid n at none false e = still_none after l.group p n pid (h.mine pid n at (ap (λ (ls : List Listing). list_any (is_at (listing_cmp (listing_of pid n))) ls) is ∙ ap (λ t. t || list_any (is_at (listing_cmp (listing_of pid n))) left) e ∙ none))
 
-    there : (n : ℕ) (pid : Pid) → nat_eq l.group n ≡ false → then n pid ≡ after n pid
-    there n pid e = ap (λ f. f n pid) counts ∙ ap (λ f. f pid) (upd_other nat_eq after l.group (without_node (after l.group) node) n e)
-
-    mine : (pid : Pid) (n : ℕ) → at_node node pid ≡ true → list_any (in_group n) left ≡ false → (t : Bool) → nat_eq l.group n ≡ t → then n pid ≡ 0
-    mine pid n at none true e = here n pid e ∙ ap (λ t. cond t 0 (after n pid)) at
-    mine pid n at none false e = there n pid e ∙ h.mine pid n at (ap (λ (ls : List Listing). list_any (in_group n) ls) is ∙ ap (λ t. t || list_any (in_group n) left) e ∙ none)
-
-    others : (pid : Pid) (n : ℕ) → at_node node pid ≡ false → (t : Bool) → nat_eq l.group n ≡ t → then n pid ≡ before n pid
-    others pid n e true f = here n pid f ∙ ap (λ t. cond t 0 (after n pid)) e ∙ h.others pid n e
-    others pid n e false f = there n pid f ∙ h.others pid n e
+    others : (pid : Pid) (n : ℕ) → at_node node pid ≡ false → (t : Bool) → same_pid p pid ≡ t → counts_changed after l.group p 0 n pid ≡ after n pid
+    others pid n e false f = changed_of_others after l.group p 0 n pid f
+    others pid n e true f = absurd (
+        let here : at_node node pid ≡ true = ap (λ (q : Pid). at_node node q) (sym (pid_is p pid f)) ∙ ap (λ (a : List ℕ). at_node a p) (sym home) ∙ nodes_tie_here p in
+        let no : true ≡ false = sym here ∙ e in
+        cc)
 
 pub node_dropped : (node : List ℕ) (left : List Listing) (before after : Numbered) → NodePartlyDropped node left before after → left ≡ [] → after ≡ without_nodes before node
 node_dropped node left before after h is = fun_ext (λ n. fun_ext (λ pid. go n pid (at_node node pid) refl))
   where
     go : (n : ℕ) (pid : Pid) (t : Bool) → at_node node pid ≡ t → after n pid ≡ cond t 0 (before n pid)
-    go n pid true e = h.mine pid n e (ap (λ (ls : List Listing). list_any (in_group n) ls) is)
+    go n pid true e = h.mine pid n e (ap (λ (ls : List Listing). list_any (is_at (listing_cmp (listing_of pid n))) ls) is)
     go n pid false e = h.others pid n e
 
 at_node_is : (node : List ℕ) (pid : Pid) → at_node node pid ≡ true → pid.node ≡ node

@@ -2,11 +2,11 @@ ghost use Rattle.std.specs.Prelude.{◌≡◌, ◌+◌, ◌<◌, ◌⊎◌, true
 ghost use Rattle.pg_term.specs.Same.{same_pid};
 ghost use Rattle.pg_group.specs.Functions.{upd};
 ghost use Rattle.pg_group.specs.Value.{with_one_less};
-ghost use Rattle.pg_index.specs.Groups.{counts_by_number, is_used, counts_changed, without_node};
+ghost use Rattle.pg_index.specs.Groups.{counts_by_number, is_used, counts_changed};
 ghost use Rattle.pg_group.specs.Table.{LacksRoom};
 
 use pg_index_members::Members;
-use pg_term::{Atom, Pid};
+use pg_term::Pid;
 use slab::Slab;
 use std::alloc::AllocError;
 
@@ -69,20 +69,6 @@ pub fn remove(groups: &mut Groups, group: u32, pid: &Pid)
 {
     match groups.get_mut(group as usize) {
         Some(members) => members.remove(pid),
-        None => (),
-    }
-}
-
-/// Takes the pids of a node out of a group.
-///
-/// Cost: no memory.
-pub fn drop_node(groups: &mut Groups, group: u32, node: &Atom)
-    ensures counts { counts_by_number groups.new
-        ≡ upd nat_eq (counts_by_number groups.old) group (without_node (counts_by_number groups.old group) node.now) }
-    ensures used { is_used groups.new ≡ is_used groups.old }
-{
-    match groups.get_mut(group as usize) {
-        Some(members) => members.drop_node(node),
         None => (),
     }
 }

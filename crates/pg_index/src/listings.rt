@@ -25,7 +25,7 @@ pub fn process_in(pid: &Pid) -> Process
     Process {
         serial: pid.serial,
         id: pid.id,
-        creation: u32::from(pid.creation),
+        creation: pid.creation,
     }
 }
 
@@ -150,16 +150,26 @@ pub fn drop_pid(listings: &mut Listings, groups: &mut Groups, pid: &Pid)
     }
 }
 
-/// Takes the pids of a node out of each group that is listed in one of these listings, which are the node's.
+/// Takes each process of a node that one of these listings, which are the node's, names out of the group of that
+/// listing.
 ///
-/// Cost: no memory.
-pub fn drop_each(groups: &mut Groups, set: BTreeSet<Listing>, node: &Atom)
-    requires { (pid : Pid) → at_node node.now pid ≡ true → AreGroupsOf set (counts_by_number groups.old) pid }
-    ensures counts { counts_by_number groups.new ≡ without_nodes (counts_by_number groups.old) node.now }
+/// Cost: no memory; once over the listings.
+pub fn drop_each(groups: &mut Groups, set: BTreeSet<Listing>, node: Atom)
+    requires { (pid : Pid) → at_node node pid ≡ true → AreGroupsOf set (counts_by_number groups.old) pid }
+    ensures counts { counts_by_number groups.new ≡ without_nodes (counts_by_number groups.old) node }
     ensures used { is_used groups.new ≡ is_used groups.old }
 {
+    let mut pid = Pid {
+        node,
+        id: 0,
+        serial: 0,
+        creation: 0,
+    };
     for listing in set {
-        groups::drop_node(groups, listing.group, node);
+        pid.id = listing.process.id;
+        pid.serial = listing.process.serial;
+        pid.creation = listing.process.creation;
+        groups::remove(groups, listing.group, &pid);
     }
 }
 
@@ -172,7 +182,7 @@ pub fn drop_node(listings: &mut Listings, groups: &mut Groups, node: &Atom)
     ensures used { is_used groups.new ≡ is_used groups.old }
     ensures listed { ListsByMember (listed_in listings.new) (counts_by_number groups.new) }
 {
-    if let Some(set) = listings.remove(node) {
-        drop_each(groups, set, node);
+    if let Some((owner, set)) = listings.remove_entry(node) {
+        drop_each(groups, set, owner);
     }
 }

@@ -3,7 +3,6 @@ pub mod Asked
 pub mod Counts
 pub mod Cut
 pub mod Flat
-pub mod Kept
 pub mod Last
 pub mod Nodes
 pub mod Order

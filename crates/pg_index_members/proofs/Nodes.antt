@@ -1,8 +1,8 @@
 -- The members of one node among all.
-use Rattle.std.proofs.Common.{◌≡◌, ℕ, suc, zero, ◌+◌, ◌-◌, ◌<◌, ◌≤◌, Bool, true, false, cond, not}
+use Rattle.std.proofs.Common.{◌≡◌, ℕ, suc, zero, ◌+◌, ◌-◌, ◌<◌, ◌≤◌, Bool, true, false, cond}
 use Rattle.std.proofs.Common.{None, Some, List, [], ◌∷◌, length, refl, sym, ap, subst, ◌∙◌, arith}
 use Rattle.std.specs.Prelude.{slice_get, nat_le}
-use Rattle.std.specs.List.{AllByRecursion, filter}
+use Rattle.std.specs.List.{AllByRecursion}
 use Rattle.std.specs.Ordering.{is_lt, is_le, is_eq}
 use Rattle.std.proofs.lemmas.Bool.Decides.{nat_tests}
 use Rattle.std.specs.declared.cmp.Ordering.{Ordering}
@@ -11,7 +11,7 @@ use Rattle.pg_term.specs.declared.pid.Pid.{Pid}
 use Rattle.pg_term.specs.Same.{atom_cmp}
 use Rattle.pg_group.specs.Scope.{anywhere, at_node}
 use Rattle.pg_index_members.specs.declared.row.Row.{Row}
-use Rattle.pg_index_members.specs.Rows.{spread, is_off, AreRows}
+use Rattle.pg_index_members.specs.Rows.{spread, AreRows}
 use Rattle.pg_index_members.proofs.Order.{at_node_is, downward_node, downward_past}
 use Rattle.pg_group.specs.Members.{put}
 use Rattle.pg_group.proofs.Put.{length-put, get-put_low, get-put_high, all-put}
@@ -43,18 +43,6 @@ module _ (node : List ℕ) where
 
   none_at : (rows : List Row) → AllByRecursion (λ r. through r.pid ≡ false) rows → length (spread (at_node node) rows) ≡ 0
   none_at rows h = let e = between rows in let f = length_after through rows h in omega arith
-
-  -- no row of the node, where it has no member
-  pub none_off : (rows : List Row) → AreRows rows → length (spread (at_node node) rows) ≡ 0 → filter (is_off node) rows ≡ rows
-  none_off [] h e = refl
-  none_off (r ∷ rs) h e = go (at_node node r.pid) refl (λ k. none_off rs h.2 k)
-    where
-      sum : length (spread (at_node node) (r ∷ rs)) ≡ cond (at_node node r.pid) r.count 0 + length (spread (at_node node) rs)
-      sum = length-put (cond (at_node node r.pid) r.count 0) r.pid (spread (at_node node) rs)
-
-      go : (t : Bool) → at_node node r.pid ≡ t → (length (spread (at_node node) rs) ≡ 0 → filter (is_off node) rs ≡ rs) → filter (is_off node) (r ∷ rs) ≡ r ∷ rs
-      go true f next = absurd (let one : cond (at_node node r.pid) r.count 0 ≡ r.count = ap (λ t. cond t r.count 0) f in let k = h.0 in let s = sum in omega arith)
-      go false f next = ap (λ t. cond (not t) (r ∷ filter (is_off node) rs) (filter (is_off node) rs)) f ∙ ap (λ l. r ∷ l) (next (let s = sum in omega arith))
 
   -- a place among the members of the node, among all
   pub placed : (rows : List Row) (k : ℕ) → AreRows rows → k < length (spread (at_node node) rows) → slice_get (spread anywhere rows) (length (spread front rows) + k) ≡ slice_get (spread (at_node node) rows) k

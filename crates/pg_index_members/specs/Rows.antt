@@ -67,10 +67,6 @@ abbrev pub one_taken : List Row → Pid → ℕ → List Row
 one_taken [] pid n = []
 one_taken (row ∷ rows) pid n = taken_by (pid_cmp row.pid pid) row rows (one_taken rows pid n) n
 
--- whether a row is of another node
-abbrev pub is_off : List ℕ → Row → Bool
-is_off node row = not (at_node node row.pid)
-
 -- whether there is a row
 abbrev pub has_rows : List Row → Bool
 has_rows [] = false

@@ -3,7 +3,7 @@ ghost use Rattle.std.specs.Prelude.{slice_get, option_copied, Some, IsTrue};
 ghost use Rattle.std.specs.List.{AllByRecursion};
 ghost use Rattle.pg_index_members.specs.declared.row.Row.{Row};
 ghost use Rattle.pg_index_members.specs.Edges.{before, IsOnNode};
-ghost use Rattle.pg_index_members.specs.Rows.{AreRows, IsCut, is_here, is_off, total_of};
+ghost use Rattle.pg_index_members.specs.Rows.{AreRows, IsCut, is_here, total_of};
 
 use crate::edge::Edge;
 use crate::part::Part;
@@ -134,7 +134,7 @@ impl Block {
     /// What it takes its memory from.
     ///
     /// Cost: no memory.
-    pub fn allocator(&self) -> Global {
+    pub(crate) fn allocator(&self) -> Global {
         self.alloc
     }
 }
@@ -264,11 +264,6 @@ impl Part for Block {
         })
     }
 
-    fn drop_node(&mut self, node: &Atom) {
-        self.rows.retain(|row| is_elsewhere(row, node));
-        self.total = sum(&self.rows);
-    }
-
     fn list(&self, scope: Scope<'_>, pids: &mut Vec<Pid>) -> Result<(), AllocError> {
         for row in &self.rows {
             if scope.has(&row.pid) {
@@ -277,11 +272,4 @@ impl Part for Block {
         }
         Ok(())
     }
-}
-
-/// Whether a row is of another node.
-fn is_elsewhere(row: &Row, node: &Atom) -> bool
-    ensures { result ≡ is_off node.now row.now }
-{
-    !(*node == row.pid.node)
 }

@@ -155,14 +155,4 @@ impl Part for Form {
             Form::Many(levels) => levels.list(scope, pids),
         }
     }
-
-    fn drop_node(&mut self, node: &Atom) {
-        match self {
-            Form::Few(block) => {
-                block.drop_node(node);
-                block.shrink();
-            }
-            Form::Many(levels) => levels.drop_node(node),
-        }
-    }
 }

@@ -1,9 +1,9 @@
 ghost use Rattle.std.specs.Prelude.{◌≡◌, ◌+◌, ◌-◌, ◌<◌, ◌≤◌, ◌^◌, length, take, drop, OnOk, OnErr};
 ghost use Rattle.std.specs.Prelude.{IfOk, IfSome, IfNone, [], ◌∷◌, ◌++◌, vec_len, vec_capacity};
-ghost use Rattle.std.specs.List.{filter, flat_map};
+ghost use Rattle.std.specs.List.{flat_map};
 ghost use Rattle.pg_group.specs.Scope.{in_scope, at_node};
 ghost use Rattle.pg_index_members.specs.Edges.{before};
-ghost use Rattle.pg_index_members.specs.Rows.{AreRows, counts_of, total_of, spread, added, one_taken, is_off, has_rows};
+ghost use Rattle.pg_index_members.specs.Rows.{AreRows, counts_of, total_of, spread, added, one_taken};
 ghost use Rattle.pg_index_members.specs.Levels.{IsChoice, IsHome, NoneEmpty};
 
 use crate::edge::Edge;
@@ -187,23 +187,6 @@ fn take_last_of<P: Part>(parts: &mut Vec<P>) -> Option<Row>
     row
 }
 
-/// Whether a part has a row.
-fn is_some<P: Part>(part: &P) -> bool
-    ensures { result ≡ has_rows (P.rows part.now) }
-{
-    !part.is_empty()
-}
-
-/// Takes the members of a node out of each part.
-fn drop_each<P: Part>(parts: &mut Vec<P>, node: &Atom)
-    ensures { flat_map P.rows parts.new.items ≡ filter (is_off node.now) (flat_map P.rows parts.old.items) }
-{
-    let len = parts.as_slice().len();
-    for at in 0..len {
-        parts[at].drop_node(node);
-    }
-}
-
 impl<P: Part> Level<P> {
     /// A level of the rows of one part, which is split if it has too many. There is room for the part.
     ///
@@ -336,16 +319,6 @@ impl<P: Part> Part for Level<P> {
             total: self.total,
             alloc: self.alloc,
         })
-    }
-
-    fn drop_node(&mut self, node: &Atom) {
-        self.total();
-        if self.rank(Edge::AtNode(node)) == self.rank(Edge::PastNode(node)) {
-            return;
-        }
-        drop_each(&mut self.parts, node);
-        self.parts.retain(|part| is_some(part));
-        self.total = sum(&self.parts);
     }
 
     fn list(&self, scope: Scope<'_>, pids: &mut Vec<Pid>) -> Result<(), AllocError> {

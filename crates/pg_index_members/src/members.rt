@@ -3,7 +3,7 @@ ghost use Rattle.std.specs.Prelude.{slice_get, option_copied, IsErr, OnOk, OnErr
 ghost use Rattle.pg_term.specs.declared.pid.Pid.{Pid};
 ghost use Rattle.pg_term.specs.Same.{same_pid};
 ghost use Rattle.pg_group.specs.Functions.{upd};
-ghost use Rattle.pg_group.specs.Value.{with_one_less, less};
+ghost use Rattle.pg_group.specs.Value.{with_one_less};
 ghost use Rattle.pg_group.specs.Scope.{in_scope, anywhere, at_node};
 ghost use Rattle.pg_group.specs.Members.{IsMemberList};
 ghost use Rattle.pg_index_members.specs.Edges.{before};
@@ -179,15 +179,6 @@ impl Members {
         self.rows.total();
         self.rows.list(scope, &mut pids)?;
         Ok(pids)
-    }
-
-    /// Takes out all members of a node.
-    ///
-    /// Cost: no memory; a walk over the rows of the blocks that are in one part with theirs.
-    pub fn drop_node(&mut self, node: &Atom)
-        ensures { Some (counts_of self.new) ≡ less (Some (counts_of self.old)) (at_node node.now) }
-    {
-        self.rows.drop_node(node);
     }
 
     fn size_at(&self, node: &Atom) -> u64

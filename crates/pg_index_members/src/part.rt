@@ -1,10 +1,9 @@
 ghost use Rattle.std.specs.Prelude.{◌≡◌, ◌↔◌, ◌+◌, ◌<◌, ◌≤◌, ◌^◌, ◌++◌, IsTrue, List, [], ◌∷◌, IfSome};
 ghost use Rattle.std.specs.Prelude.{IfNone, length, slice_get, option_copied, OnOk, OnErr, IfOk, MatchOption};
-ghost use Rattle.std.specs.List.{filter};
 ghost use Rattle.pg_index_members.specs.declared.row.Row.{Row};
 ghost use Rattle.pg_index_members.specs.Edges.{before};
 ghost use Rattle.pg_index_members.specs.Rows.{counts_of, total_of, spread, AreRows};
-ghost use Rattle.pg_index_members.specs.Rows.{is_off, all_before, added, one_taken, IsSplit};
+ghost use Rattle.pg_index_members.specs.Rows.{all_before, added, one_taken, IsSplit};
 ghost use Rattle.pg_group.specs.Scope.{anywhere, in_scope};
 
 use crate::edge::Edge;
@@ -103,10 +102,4 @@ pub trait Part: Drop {
     /// Cost: memory for each, and for the name of its node.
     fn list(&self, scope: Scope<'_>, pids: &mut Vec<Pid>) -> Result<(), AllocError>
         ensures { OnOk result (pids.new.items ≡ pids.old.items ++ spread (in_scope scope.entry) (rows self.now)) };
-
-    /// Takes out all members of a node.
-    ///
-    /// Cost: no memory.
-    fn drop_node(&mut self, node: &Atom)
-        ensures { rows self.new ≡ filter (is_off node.now) (rows self.old) };
 }

@@ -9,7 +9,7 @@ pub(crate) const ABOUT: &str =
 
 Status 0: done. Status 1: the run was refused. Status 2: the words, the script or its configuration
 were refused. A refusal is a line `refused N` on standard error, a faulty line of a script `line L
-refused N`. With --explain, and where standard error is a terminal, a second line says it in words.
+refused N`. With --explain, or where standard error is a terminal, a second line says it in words.
 
 Questions about the program, answered on standard output: `fault [N]`, what a fault is, or all;
 `help [WORD]`; `version`.";

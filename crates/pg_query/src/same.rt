@@ -12,8 +12,8 @@ use std::alloc::{AllocError, Global};
 ///
 /// Errors: `AllocError`.
 ///
-/// Cost: a `groups` of each table, a `has` of each for each name, and a `list` of each for each group of both, up to
-/// the first that differs.
+/// Cost: a `groups` of one table and then of the other, so that the names of one are held at a time; a `has` of each
+/// for each name, and a `list` of each for each group of the first, up to the first that differs.
 pub fn same_groups<T: GroupTable, U: GroupTable>(
     alloc: Global,
     one: &T,
@@ -22,11 +22,12 @@ pub fn same_groups<T: GroupTable, U: GroupTable>(
     ensures { IfOk result (λ same. IsTrue same ↔ (T.contents one.now ≡ U.contents other.now)) }
 {
     let names = one.groups()?;
-    let others = other.groups()?;
-    if !has_all(one, others.as_slice()) {
-        return Ok(false);
+    let agree = agree_on(alloc, one, other, names.as_slice());
+    drop(names);
+    match agree {
+        Ok(true) => Ok(has_all(one, other.groups()?.as_slice())),
+        other => other,
     }
-    agree_on(alloc, one, other, names.as_slice())
 }
 
 /// Whether a table has all groups of these names.
