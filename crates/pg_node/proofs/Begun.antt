@@ -3,7 +3,7 @@ use Rattle.std.proofs.Common.{◌≡◌, ◌<◌, ◌+◌, inl, inr, ℕ, zero, 
 use Rattle.std.proofs.Common.{nat_lt, List, [], ◌∷◌, ◌++◌, length, Result, Ok, Err, refl, ap, arith}
 use Rattle.std.specs.Prelude.{IfOk, OnOk}
 use Rattle.pg_node_state.specs.PgGroup.Table.{Table}
-use Rattle.pg_node_state.specs.PgTermIo.declared.limits.TheConstants.{MAX_LEN}
+use Rattle.pg_node_state.specs.PgTermIo.Limits.{max_len}
 use Rattle.pg_node_state.specs.PgTermIo.Writing.{written}
 use Rattle.pg_term.specs.declared.fault.TermFault.TheVariants as term
 use Rattle.pg_node_state.specs.PgMessageTypes.declared.fault.MessageFault.{MessageFault}
@@ -75,7 +75,7 @@ has_body packet n e = go (packet_of (term_of_packet packet)) e
     fits p false f = refl
 
     go : (r : Result Packet MessageFault) → Ok n ≡ length_of (sent r body) → sent r body ≡ Ok body
-    go (Ok p) f = fits p (nat_lt MAX_LEN (length body)) f
+    go (Ok p) f = fits p (nat_lt max_len (length body)) f
     go (Err fault) f = absurd cc
 
 -- all links are opened, and what goes out there can be written

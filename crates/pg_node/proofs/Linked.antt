@@ -12,7 +12,7 @@ use Rattle.pg_node_state.specs.PgGroup.Functions.{upd}
 use Rattle.pg_node_state.specs.PgMessageTypes.declared.packet.Packet.{Packet}
 use Rattle.pg_node_state.specs.PgMulticall.Places.{has_of}
 use Rattle.pg_node_state.specs.PgMulticall.declared.places.Places.{Places}
-use Rattle.pg_node_state.specs.PgMessageWriter.declared.size.TheConstants.{MAX_SMALL_LEN}
+use Rattle.pg_node_state.specs.PgMessageWriter.Limits.{max_small_len}
 use Rattle.pg_node_state.specs.PgMessageWriter.Frames.{frame_of}
 use Rattle.pg_node.specs.declared.node.wire.Wire.{Wire}
 use Rattle.pg_node_state.specs.PgNodeSends.declared.framed.Framed.{Framed}
@@ -81,29 +81,29 @@ on_err (Err e) P Q f p = f p
 
 -- room at the places below one
 abbrev pub RoomBelow : ℕ → List Wire → Type 0
-RoomBelow bound wires = (place : ℕ) → place < bound → 4 + MAX_SMALL_LEN ≤ room_in wires place
+RoomBelow bound wires = (place : ℕ) → place < bound → 4 + max_small_len ≤ room_in wires place
 
 pub room_more : (wires : List Wire) (k : ℕ) (new : Wire) → k < length wires → HasFrameRoom new → RoomBelow k wires → RoomBelow (k + 1) (slice_set wires k new)
-room_more wires k new within room below place l = subst (λ n. 4 + MAX_SMALL_LEN ≤ n) (sym (part_set (λ wire. wire.outbox.spare) 0 wires k new within place)) (go (nat_eq k place) (eq-eqb k place))
+room_more wires k new within room below place l = subst (λ n. 4 + max_small_len ≤ n) (sym (part_set (λ wire. wire.outbox.spare) 0 wires k new within place)) (go (nat_eq k place) (eq-eqb k place))
   where
     sooner : (k ≡ place → ⊥) → place < k
     sooner other = grind (arith, l, other)
 
-    go : (b : Bool) → (k ≡ place → b ≡ true) → 4 + MAX_SMALL_LEN ≤ cond b new.outbox.spare (room_in wires place)
+    go : (b : Bool) → (k ≡ place → b ≡ true) → 4 + max_small_len ≤ cond b new.outbox.spare (room_in wires place)
     go true is = room
     go false is = below place (sooner (λ e. absurd (let f : false ≡ true = is e in cc)))
 
 -- the room stays where it does at a place that changes
 pub still_room : (wires : List Wire) (k : ℕ) (old new : Wire) → k < length wires → old ≡ get_or wires k old → old.outbox.spare ≤ new.outbox.spare → HaveFrameRoom wires → HaveFrameRoom (slice_set wires k new)
-still_room wires k old new within here more room place l = subst (λ n. 4 + MAX_SMALL_LEN ≤ n) (sym (part_set (λ wire. wire.outbox.spare) 0 wires k new within place)) (go (nat_eq k place))
+still_room wires k old new within here more room place l = subst (λ n. 4 + max_small_len ≤ n) (sym (part_set (λ wire. wire.outbox.spare) 0 wires k new within place)) (go (nat_eq k place))
   where
-    its : 4 + MAX_SMALL_LEN ≤ old.outbox.spare
-    its = subst (λ n. 4 + MAX_SMALL_LEN ≤ n) (part_here (λ wire. wire.outbox.spare) 0 wires k old within here) (room k within)
+    its : 4 + max_small_len ≤ old.outbox.spare
+    its = subst (λ n. 4 + max_small_len ≤ n) (part_here (λ wire. wire.outbox.spare) 0 wires k old within here) (room k within)
 
     same : length (slice_set wires k new) ≡ length wires
     same = length-set wires k new
 
-    go : (b : Bool) → 4 + MAX_SMALL_LEN ≤ cond b new.outbox.spare (room_in wires place)
+    go : (b : Bool) → 4 + max_small_len ≤ cond b new.outbox.spare (room_in wires place)
     go true = omega (arith, its, more)
     go false = room place (omega (arith, l, same))
 
@@ -128,8 +128,8 @@ frames_one : (frame : List ℕ) (packet : Packet) (b : Bool) (peer place : ℕ) 
 frames_one frame packet true peer place is = append-nil (cond (nat_eq peer place) (frame_of packet) []) ∙ sym (ap (λ (bytes : List ℕ). cond (nat_eq peer place) bytes []) is)
 frames_one frame packet false peer place is = refl
 
-pub frame_short : (frame : List ℕ) (packet : Packet) → IsFrame frame packet → length frame ≤ 4 + MAX_SMALL_LEN
-frame_short frame packet is = subst (λ (bytes : List ℕ). length bytes ≤ 4 + MAX_SMALL_LEN) (sym is.is) is.small.small
+pub frame_short : (frame : List ℕ) (packet : Packet) → IsFrame frame packet → length frame ≤ 4 + max_small_len
+frame_short frame packet is = subst (λ (bytes : List ℕ). length bytes ≤ 4 + max_small_len) (sym is.is) is.small.small
 
 -- the frame was appended at one place
 pub appended_there : (wires : List Wire) (peer : ℕ) (old new : Wire) (frame : List ℕ) → peer < length wires → old ≡ get_or wires peer old → link_of new ≡ with_more (link_of old) frame
@@ -148,13 +148,13 @@ room_past wires peer new within place past = part_set (λ wire. wire.outbox.spar
     unlike : peer ≡ place → ⊥
     unlike e = omega (arith, past, e)
 
-pub room_here : (wires : List Wire) (peer : ℕ) (wire : Wire) → peer < length wires → wire ≡ get_or wires peer wire → 4 + MAX_SMALL_LEN ≤ room_in wires peer → HasFrameRoom wire
-room_here wires peer wire within here room = subst (λ n. 4 + MAX_SMALL_LEN ≤ n) (part_here (λ w. w.outbox.spare) 0 wires peer wire within here) room
+pub room_here : (wires : List Wire) (peer : ℕ) (wire : Wire) → peer < length wires → wire ≡ get_or wires peer wire → 4 + max_small_len ≤ room_in wires peer → HasFrameRoom wire
+room_here wires peer wire within here room = subst (λ n. 4 + max_small_len ≤ n) (part_here (λ w. w.outbox.spare) 0 wires peer wire within here) room
 
 -- what goes out to the marked peers at the places below n
 pub record IsOut (start : List Wire) (frame : List ℕ) (marked : Places) (peers n : ℕ) (wires : List Wire) : Type 0 where
   pub len : length wires ≡ length start
-  pub room : (place : ℕ) → n ≤ place → place < length wires → 4 + MAX_SMALL_LEN ≤ room_in wires place
+  pub room : (place : ℕ) → n ≤ place → place < length wires → 4 + max_small_len ≤ room_in wires place
   pub sent : (packet : Packet) → frame ≡ frame_of packet → (place : ℕ)
       → links_in wires place ≡ with_more (links_in start place) (frames_to (sent_below packet.stamp packet.message (marks_of marked peers) n) place)
 
@@ -179,7 +179,7 @@ pub one_more_out : (start wires wires2 : List Wire) (frame : List ℕ) (marked :
     → IsOut start frame marked peers n wires → IsOut start frame marked peers (n + 1) wires2
 one_more_out start wires wires2 frame marked peers n b l is same sent others before = record {
   len = same ∙ before.len;
-  room = λ place past within. subst (λ k. 4 + MAX_SMALL_LEN ≤ k) (sym (others place (omega (arith, past)))) (before.room place (omega (arith, past)) (omega (arith, within, same)));
+  room = λ place past within. subst (λ k. 4 + max_small_len ≤ k) (sym (others place (omega (arith, past)))) (before.room place (omega (arith, past)) (omega (arith, within, same)));
   sent = λ packet frames place.
       let below = sent_below packet.stamp packet.message (marks_of marked peers) n in
       sent place ∙ (ap (λ (link : Link). with_more link (cond (b && nat_eq n place) frame [])) (before.sent packet frames place)

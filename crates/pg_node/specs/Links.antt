@@ -2,7 +2,7 @@
 use Rattle.std.specs.Prelude.{◌≤◌, ◌+◌, ◌<◌, ℕ, zero, suc, nat_eq}
 use Rattle.std.specs.Prelude.{Bool, false, List, [], ◌∷◌, ◌++◌, length, drop}
 use Rattle.pg_node_state.specs.PgGroup.Functions.{upd}
-use Rattle.pg_node_state.specs.PgMessageWriter.declared.size.TheConstants.{MAX_SMALL_LEN}
+use Rattle.pg_node_state.specs.PgMessageWriter.Limits.{max_small_len}
 use Rattle.pg_node.specs.declared.node.wire.Wire.{Wire}
 
 -- what stands in the link to a peer: the bytes that came in and were not taken, those that go out and were not put, and
@@ -50,8 +50,8 @@ at_link place change links = upd nat_eq links place (change (links place))
 
 -- a small frame needs no memory
 abbrev pub HasFrameRoom : Wire → Type 0
-HasFrameRoom wire = 4 + MAX_SMALL_LEN ≤ wire.outbox.spare
+HasFrameRoom wire = 4 + max_small_len ≤ wire.outbox.spare
 
 -- nor does one at any place
 abbrev pub HaveFrameRoom : List Wire → Type 0
-HaveFrameRoom wires = (place : ℕ) → place < length wires → 4 + MAX_SMALL_LEN ≤ room_in wires place
+HaveFrameRoom wires = (place : ℕ) → place < length wires → 4 + max_small_len ≤ room_in wires place

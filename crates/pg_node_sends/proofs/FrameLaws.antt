@@ -10,7 +10,7 @@ use Rattle.pg_node_opens.specs.PgMessageTypes.Reading.{packet_spelled}
 use Rattle.pg_node_opens.specs.PgMessageTypes.Writing.{term_of_packet, is_exchange}
 use Rattle.pg_node_opens.specs.PgTermIo.Writing.{written}
 use Rattle.pg_message_writer.specs.Frames.{frame_of, AppendsFrame}
-use Rattle.pg_message_writer.specs.declared.size.TheConstants.{MAX_SMALL_LEN}
+use Rattle.pg_message_writer.specs.Limits.{max_small_len}
 use Rattle.pg_node_sends.specs.declared.framed.Framed.{Framed}
 use Rattle.pg_node_sends.specs.declared.goes.Goes.{Goes}
 use Rattle.pg_node_sends.specs.declared.goes.Goes.TheVariants.{Nobody}
@@ -59,8 +59,8 @@ same_packet p q r e f = ap (λ (s : Result Packet MessageFault). go s) (sym e �
 pub is_whole : (goes : Goes) (frame : List ℕ) → HasFrame goes frame → (packet : Packet) → goes_out goes ≡ true → read_in frame ≡ Ok packet → frame ≡ frame_of packet
 is_whole goes frame has packet out read = (has out).1.is ∙ ap frame_of (same_packet (has out).0 packet (read_in frame) (frame_read frame (has out).0 (has out).1) read)
 
-pub is_short : (goes : Goes) (frame : List ℕ) → HasFrame goes frame → goes_out goes ≡ true → length frame ≤ 4 + MAX_SMALL_LEN
-is_short goes frame has out = subst (λ (bytes : List ℕ). length bytes ≤ 4 + MAX_SMALL_LEN) (sym (has out).1.is) (has out).1.small.small
+pub is_short : (goes : Goes) (frame : List ℕ) → HasFrame goes frame → goes_out goes ≡ true → length frame ≤ 4 + max_small_len
+is_short goes frame has out = subst (λ (bytes : List ℕ). length bytes ≤ 4 + max_small_len) (sym (has out).1.is) (has out).1.small.small
 
 -- a small packet of lent parts is appended
 pub appended : {T : Type 0} (r : Result T MessageFault) (before after : Filled) (lent packet : Packet) → lent ≡ packet → is_exchange packet.message ≡ false
@@ -91,6 +91,6 @@ packet_framed framed out =
     let again = sym (drop-append_seam (to_be_bytes w32 (length body)) body) ∙ sym (ap (λ (bytes : List ℕ). drop 4 bytes) whole) in
     let small : IsSmallFrame packet = record {
       read = ap packet_spelled again ∙ found.1;
-      small = subst (λ (bytes : List ℕ). length bytes ≤ 4 + MAX_SMALL_LEN) whole (framed.short out);
+      small = subst (λ (bytes : List ℕ). length bytes ≤ 4 + max_small_len) whole (framed.short out);
     } in
     (packet, record { is = whole; small = small }, ap (going_if framed.goes) found.1)

@@ -5,7 +5,7 @@ use Rattle.std.specs.List.{AllByRecursion}
 use Rattle.std.proofs.Math.Nat.{eq-or-lt_of_le}
 use Rattle.pg_node_opens.specs.PgMessageTypes.declared.message.Message.{Message}
 use Rattle.pg_node_opens.specs.PgMessageTypes.declared.packet.Packet.{Packet}
-use Rattle.pg_node_opens.specs.PgMessageTypes.declared.packet.TheConstants.{MAX_STAMP}
+use Rattle.pg_node_opens.specs.PgMessageTypes.Limits.{max_stamp}
 use Rattle.pg_node_opens.specs.PgMessageTypes.Writing.{is_exchange, is_sayable}
 use Rattle.pg_node_opens.specs.PgStep.Nodes.{Node}
 use Rattle.pg_node_sends.specs.declared.orders.Order.{Order}
@@ -69,7 +69,7 @@ all_alike : (packet : Packet) (sends : List (ℕ × Packet)) → AllAre packet s
 all_alike packet [] all = tt
 all_alike packet (x ∷ others) all = like_first x.1 packet others all.0 all.1
 
-module _ (names : List Node) (clock : ℕ) (message : Message) (goes : List Bool) (named : is_sayable message ≡ true) (stamp : clock ≤ MAX_STAMP) (small : is_exchange message ≡ false) where
+module _ (names : List Node) (clock : ℕ) (message : Message) (goes : List Bool) (named : is_sayable message ≡ true) (stamp : clock ≤ max_stamp) (small : is_exchange message ≡ false) where
   abbrev packet : Packet
   packet = record { stamp = clock; message = message }
 

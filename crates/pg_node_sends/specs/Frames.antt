@@ -6,12 +6,12 @@ use Rattle.pg_node_opens.specs.PgMessageTypes.Reading.{packet_spelled}
 use Rattle.pg_node_opens.specs.PgMessageTypes.Writing.{term_of_packet}
 use Rattle.pg_node_opens.specs.PgTermIo.Writing.{written}
 use Rattle.pg_message_writer.specs.Frames.{frame_of}
-use Rattle.pg_message_writer.specs.declared.size.TheConstants.{MAX_SMALL_LEN}
+use Rattle.pg_message_writer.specs.Limits.{max_small_len}
 
 -- a small packet stands in a frame as it is: it is read there, and takes no more room than a small frame
 pub record IsSmallFrame (packet : Packet) : Type 0 where
   pub read : packet_spelled (written (term_of_packet packet)) ≡ Ok packet
-  pub small : length (frame_of packet) ≤ 4 + MAX_SMALL_LEN
+  pub small : length (frame_of packet) ≤ 4 + max_small_len
 
 -- these bytes are the frame of a packet, a small one
 pub record IsFrame (frame : List ℕ) (packet : Packet) : Type 0 where

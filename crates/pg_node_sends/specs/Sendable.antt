@@ -2,7 +2,7 @@
 use Rattle.std.specs.Prelude.{◌≡◌, ◌≤◌, ◌<◌, ◌+◌, ℕ, true, false, List, [], ◌∷◌, length}
 use Rattle.std.specs.List.{AllByRecursion}
 use Rattle.pg_node_opens.specs.PgMessageTypes.declared.packet.Packet.{Packet}
-use Rattle.pg_node_opens.specs.PgMessageTypes.declared.packet.TheConstants.{MAX_STAMP}
+use Rattle.pg_node_opens.specs.PgMessageTypes.Limits.{max_stamp}
 use Rattle.pg_node_opens.specs.PgMessageTypes.Writing.{is_exchange, is_sayable}
 use Rattle.pg_node_opens.specs.PgStep.Nodes.{Node}
 
@@ -10,7 +10,7 @@ use Rattle.pg_node_opens.specs.PgStep.Nodes.{Node}
 pub record IsSendable (names : List Node) (sent : ℕ × Packet) : Type 0 where
   pub place : sent.0 + 1 < length names
   pub named : is_sayable sent.1.message ≡ true
-  pub stamp : sent.1.stamp ≤ MAX_STAMP
+  pub stamp : sent.1.stamp ≤ max_stamp
   pub small : is_exchange sent.1.message ≡ false
 
 -- the places ascend from this one on

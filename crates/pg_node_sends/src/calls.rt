@@ -16,7 +16,7 @@ ghost use Rattle.pg_node_opens.specs.PgStep.State.Use.{Locking, Updating};
 ghost use Rattle.pg_node_sends.specs.Sent.{sends_in};
 ghost use Rattle.pg_node_sends.specs.Sendable.{AreSendable};
 ghost use Rattle.pg_node_opens.specs.PgMessageTypes.Name.{is_name};
-ghost use Rattle.pg_node_opens.specs.PgMessageTypes.declared.packet.TheConstants.{MAX_STAMP};
+ghost use Rattle.pg_node_opens.specs.PgMessageTypes.Limits.{max_stamp};
 
 use crate::done::Done;
 use crate::held::Held;
@@ -38,7 +38,7 @@ pub fn freed<S: Outgoing + Drop>(
     number: u32,
 ) -> Result<Done<S>, AllocError>
     requires locking { is_locking (uses_of opens.now number) ≡ true }
-    requires within { clock ≤ MAX_STAMP }
+    requires within { clock ≤ max_stamp }
     requires named { (update : Update) → update_of (uses_of opens.now number) ≡ Some update → is_name (name_of update) ≡ true }
     ensures sends { (op : OpId) (update : Update) (first : Node) (st : Node → Status) → uses_of opens.now number ≡ Locking op update first st
         → IfOk result (λ done. sends_in (names_of opens.now) (S.listed done.sends) ≡ (λ q. stamped clock (to_peers (live_of opens.now)
@@ -64,7 +64,7 @@ pub fn asked<S: Outgoing + Drop>(
     number: u32,
 ) -> Result<Done<S>, AllocError>
     requires locking { is_locking (uses_of opens.now number) ≡ true }
-    requires within { clock ≤ MAX_STAMP }
+    requires within { clock ≤ max_stamp }
     requires named { (update : Update) → update_of (uses_of opens.now number) ≡ Some update → is_name (name_of update) ≡ true }
     ensures sends { (op : OpId) (update : Update) (first : Node) (st : Node → Status) → uses_of opens.now number ≡ Locking op update first st
         → IfOk result (λ done. sends_in (names_of opens.now) (S.listed done.sends) ≡ (λ q. stamped clock (to_peers (live_of opens.now)
@@ -91,7 +91,7 @@ pub fn begun<S: Outgoing + Drop>(
     op: OpId,
 ) -> Result<Done<S>, AllocError>
     requires locking { is_locking (uses_of opens.now number) ≡ true }
-    requires within { clock ≤ MAX_STAMP }
+    requires within { clock ≤ max_stamp }
     requires named { (update : Update) → update_of (uses_of opens.now number) ≡ Some update → is_name (name_of update) ≡ true }
     requires next { references_of opens.now + 1 < 2 ^ 32 }
     ensures sends { (other : OpId) (update : Update) (first : Node) (st : Node → Status) → uses_of opens.now number ≡ Locking other update first st
@@ -145,7 +145,7 @@ pub fn ended<S: Outgoing + Drop>(
     lock: u32,
 ) -> Result<Done<S>, AllocError>
     requires updating { is_updating (uses_of opens.now number) ≡ true }
-    requires within { clock ≤ MAX_STAMP }
+    requires within { clock ≤ max_stamp }
     requires named { (update : Update) → update_of (uses_of opens.now number) ≡ Some update → is_name (name_of update) ≡ true }
     ensures sends { (op : OpId) (update : Update) (holder : ℕ) (replied : Node → Bool) → uses_of opens.now number ≡ Updating op update holder replied
         → IfOk result (λ done. sends_in (names_of opens.now) (S.listed done.sends) ≡ (λ q. stamped clock (to_peers (live_of opens.now)

@@ -14,7 +14,7 @@ ghost use Rattle.pg_node_opens.specs.PgStep.Attempts.{own_reference};
 ghost use Rattle.pg_node_opens.specs.PgStep.Nodes.{Node, to_one, to_peers};
 ghost use Rattle.pg_node_opens.specs.PgStep.State.Stage.{Waiting};
 ghost use Rattle.pg_node_opens.specs.PgMessageTypes.Name.{is_name};
-ghost use Rattle.pg_node_opens.specs.PgMessageTypes.declared.packet.TheConstants.{MAX_STAMP};
+ghost use Rattle.pg_node_opens.specs.PgMessageTypes.Limits.{max_stamp};
 ghost use Rattle.pg_node_sends.specs.Sendable.{AreSendable};
 ghost use Rattle.pg_node_sends.specs.Sent.{sends_in};
 
@@ -42,7 +42,7 @@ pub fn first_asked<S: Outgoing + Drop>(
     requires next { references_of opens.now + 1 < 2 ^ 32 }
     requires place { first < length (names_of opens.now) }
     requires peer { 0 < first }
-    requires within { clock ≤ MAX_STAMP }
+    requires within { clock ≤ max_stamp }
     requires named { (update : Update) → stages_of opens.now op ≡ Waiting update → is_name (name_of update) ≡ true }
     ensures sends { (update : Update) → stages_of opens.now op ≡ Waiting update
         → IfOk result (λ done. sends_in (names_of opens.now) (S.listed done.sends) ≡ (λ q. stamped clock (to_one (name_at (names_of opens.now) first)
@@ -69,7 +69,7 @@ pub fn all_asked<S: Outgoing + Drop>(
 ) -> Result<Done<S>, AllocError>
     requires waits { stage_seen (stages_of opens.now op) ≡ seen.Waiting }
     requires next { references_of opens.now + 1 < 2 ^ 32 }
-    requires within { clock ≤ MAX_STAMP }
+    requires within { clock ≤ max_stamp }
     requires named { (update : Update) → stages_of opens.now op ≡ Waiting update → is_name (name_of update) ≡ true }
     ensures sends { (update : Update) → stages_of opens.now op ≡ Waiting update
         → IfOk result (λ done. sends_in (names_of opens.now) (S.listed done.sends) ≡ (λ q. stamped clock (to_peers (live_of opens.now)

@@ -2,7 +2,7 @@
 
 ghost use Rattle.std.specs.Prelude.{◌≡◌, ◌≤◌, ◌+◌, [], true, false, length, Ok, IsOk};
 ghost use Rattle.pg_node_opens.specs.PgMessageTypes.declared.packet.Packet.{Packet};
-ghost use Rattle.pg_message_writer.specs.declared.size.TheConstants.{MAX_SMALL_LEN};
+ghost use Rattle.pg_message_writer.specs.Limits.{max_small_len};
 ghost use Rattle.pg_message_writer.specs.Frames.{frame_of};
 ghost use Rattle.pg_node_sends.specs.Going.{goes_out, read_in};
 
@@ -17,7 +17,7 @@ pub struct Framed {
     goes: Goes,
     ghost read: { goes_out goes ≡ true → IsOk (read_in frame.items) },
     ghost whole: { (packet : Packet) → goes_out goes ≡ true → read_in frame.items ≡ Ok packet → frame.items ≡ frame_of packet },
-    ghost short: { goes_out goes ≡ true → length frame.items ≤ 4 + MAX_SMALL_LEN },
+    ghost short: { goes_out goes ≡ true → length frame.items ≤ 4 + max_small_len },
     ghost quiet: { goes_out goes ≡ false → frame.items ≡ [] },
 }
 

@@ -4,7 +4,7 @@ ghost use Rattle.std.specs.Prelude.{◌≡◌, ◌≤◌, ℕ, true, length, IfO
 ghost use Rattle.pg_node_opens.specs.PgMessageTypes.declared.message.Message.{Message};
 ghost use Rattle.pg_node_opens.specs.PgMessageTypes.declared.message.Message.TheVariants as messages;
 ghost use Rattle.pg_node_opens.specs.PgMessageTypes.declared.packet.Packet.{Packet};
-ghost use Rattle.pg_node_opens.specs.PgMessageTypes.declared.packet.TheConstants.{MAX_STAMP};
+ghost use Rattle.pg_node_opens.specs.PgMessageTypes.Limits.{max_stamp};
 ghost use Rattle.pg_node_opens.specs.PgMessageTypes.Writing.{is_sayable};
 ghost use Rattle.pg_message_writer.specs.Told.{asked_for};
 ghost use Rattle.pg_node_sends.specs.Frames.{IsAppended, IsFrame};
@@ -78,7 +78,7 @@ fn order_frame(
     stamp: u32,
     order: Order<'_>,
 ) -> Result<BytesMut, AllocError>
-    requires within { stamp ≤ MAX_STAMP }
+    requires within { stamp ≤ max_stamp }
     requires named { is_sayable (message_of order) ≡ true }
     ensures { IfOk result (λ frame. IsFrame frame.items (ordered stamp order.entry)) }
 {
@@ -89,7 +89,7 @@ fn order_frame(
 
 /// Appends the frame of an order.
 fn append_order(stamp: u32, order: Order<'_>, out: &mut BytesMut) -> Result<(), AllocError>
-    requires within { stamp ≤ MAX_STAMP }
+    requires within { stamp ≤ max_stamp }
     requires named { is_sayable (message_of order) ≡ true }
     ensures { OnOk result (IsAppended out.old.items out.new.items (ordered stamp order.entry)) }
 {
@@ -154,7 +154,7 @@ fn append_reply(
     said: Said,
     out: &mut BytesMut,
 ) -> Result<(), AllocError>
-    requires { stamp ≤ MAX_STAMP }
+    requires { stamp ≤ max_stamp }
     ensures { OnOk result (IsAppended out.old.items out.new.items
         (record { stamp = stamp; message = messages.Reply reference.now said })) }
 {

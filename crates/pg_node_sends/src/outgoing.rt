@@ -2,7 +2,7 @@
 
 ghost use Rattle.std.specs.Prelude.{◌≡◌, ◌≤◌, ℕ, List, [], ◌∷◌, length, true, false, IfOk, IsOk};
 ghost use Rattle.pg_node_opens.specs.PgMessageTypes.declared.packet.Packet.{Packet};
-ghost use Rattle.pg_node_opens.specs.PgMessageTypes.declared.packet.TheConstants.{MAX_STAMP};
+ghost use Rattle.pg_node_opens.specs.PgMessageTypes.Limits.{max_stamp};
 ghost use Rattle.pg_node_opens.specs.PgMessageTypes.Writing.{is_sayable};
 ghost use Rattle.pg_node_opens.specs.PgMulticall.Places.{has_of};
 ghost use Rattle.pg_node_sends.specs.Marked.{marks_of, sent_below};
@@ -36,7 +36,7 @@ pub trait Outgoing {
         order: Order<'_>,
         peer: usize,
     ) -> Result<Self, AllocError>
-        requires within { stamp ≤ MAX_STAMP }
+        requires within { stamp ≤ max_stamp }
         requires named { is_sayable (message_of order) ≡ true }
         ensures { IfOk result (λ sends. listed sends ≡ (peer, ordered stamp order.entry) ∷ []) };
 
@@ -52,7 +52,7 @@ pub trait Outgoing {
         goes: Places,
         peers: usize,
     ) -> Result<Self, AllocError>
-        requires within { stamp ≤ MAX_STAMP }
+        requires within { stamp ≤ max_stamp }
         requires named { is_sayable (message_of order) ≡ true }
         ensures sends { IfOk result (λ sends. listed sends ≡ sent_below stamp (message_of order.entry) (marks_of goes peers) peers) }
         ensures none { ((place : ℕ) → has_of goes place ≡ false) → IsOk result };

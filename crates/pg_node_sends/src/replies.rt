@@ -8,7 +8,7 @@ ghost use Rattle.pg_node_opens.specs.Places.{name_at};
 ghost use Rattle.pg_node_sends.specs.Sent.{sends_in};
 ghost use Rattle.pg_node_sends.specs.Sendable.{AreSendable};
 ghost use Rattle.pg_node_opens.specs.PgStep.Peers.{verdict};
-ghost use Rattle.pg_node_opens.specs.PgMessageTypes.declared.packet.TheConstants.{MAX_STAMP};
+ghost use Rattle.pg_node_opens.specs.PgMessageTypes.Limits.{max_stamp};
 
 use crate::calls::done_with;
 use crate::done::Done;
@@ -31,7 +31,7 @@ pub(crate) fn reply<S: Outgoing + Drop>(
     reference: &Reference,
     said: Said,
 ) -> Result<Done<S>, AllocError>
-    requires within { clock ≤ MAX_STAMP }
+    requires within { clock ≤ max_stamp }
     ensures sends { (names : List Node) → IfOk result (λ done. sends_in names (S.listed done.sends)
         ≡ (λ q. stamped clock (to_one (name_at names (peer + 1)) (messages.Reply reference.now said) q))) }
     ensures began { IfOk result (λ done. done.began ≡ None) }

@@ -20,7 +20,7 @@ ghost use Rattle.pg_node_sends.specs.Orders.{message_of};
 ghost use Rattle.pg_node_sends.specs.Sent.{sends_in};
 ghost use Rattle.pg_node_sends.specs.Sendable.{AreSendable};
 ghost use Rattle.pg_node_opens.specs.PgMessageTypes.Writing.{is_sayable};
-ghost use Rattle.pg_node_opens.specs.PgMessageTypes.declared.packet.TheConstants.{MAX_STAMP};
+ghost use Rattle.pg_node_opens.specs.PgMessageTypes.Limits.{max_stamp};
 
 use crate::orders::Order;
 use crate::outgoing::Outgoing;
@@ -38,7 +38,7 @@ pub fn to_live<S: Outgoing>(
     order: Order<'_>,
     opens: &Opens,
 ) -> Result<S, AllocError>
-    requires within { clock ≤ MAX_STAMP }
+    requires within { clock ≤ max_stamp }
     requires named { is_sayable (message_of order) ≡ true }
     ensures sends { IfOk result (λ sends. sends_in (names_of opens.now) (S.listed sends)
         ≡ (λ q. stamped clock (to_peers (live_of opens.now) (λ q. true) (message_of order.entry) q))) }
@@ -78,7 +78,7 @@ pub fn to_asked<S: Outgoing>(
     number: u32,
 ) -> Result<S, AllocError>
     requires locking { is_locking (uses_of opens.now number) ≡ true }
-    requires within { clock ≤ MAX_STAMP }
+    requires within { clock ≤ max_stamp }
     requires named { is_sayable (message_of order) ≡ true }
     ensures sends { (op : OpId) (update : Update) (first : Node) (st : Node → Status)
         → uses_of opens.now number ≡ Locking op update first st
@@ -102,7 +102,7 @@ pub fn to_granted<S: Outgoing>(
     number: u32,
 ) -> Result<S, AllocError>
     requires locking { is_locking (uses_of opens.now number) ≡ true }
-    requires within { clock ≤ MAX_STAMP }
+    requires within { clock ≤ max_stamp }
     requires named { is_sayable (message_of order) ≡ true }
     ensures sends { (op : OpId) (update : Update) (first : Node) (st : Node → Status)
         → uses_of opens.now number ≡ Locking op update first st
@@ -125,7 +125,7 @@ pub fn to_place<S: Outgoing>(
     place: usize,
 ) -> Result<S, AllocError>
     requires peer { 0 < place }
-    requires within { clock ≤ MAX_STAMP }
+    requires within { clock ≤ max_stamp }
     requires named { is_sayable (message_of order) ≡ true }
     ensures sends { (names : List Node) → IfOk result (λ sends. sends_in names (S.listed sends)
         ≡ (λ q. stamped clock (to_one (name_at names place) (message_of order.entry) q))) }
@@ -144,7 +144,7 @@ pub(crate) fn send_one<S: Outgoing>(
     order: Order<'_>,
     peer: usize,
 ) -> Result<S, AllocError>
-    requires within { clock ≤ MAX_STAMP }
+    requires within { clock ≤ max_stamp }
     requires named { is_sayable (message_of order) ≡ true }
     ensures sends { (names : List Node) → IfOk result (λ sends. sends_in names (S.listed sends)
         ≡ (λ q. stamped clock (to_one (name_at names (peer + 1)) (message_of order.entry) q))) }
@@ -162,7 +162,7 @@ fn send_marked<S: Outgoing>(
     goes: Places,
     peers: usize,
 ) -> Result<S, AllocError>
-    requires within { clock ≤ MAX_STAMP }
+    requires within { clock ≤ max_stamp }
     requires named { is_sayable (message_of order) ≡ true }
     ensures sends { (names : List Node) → IsDistinct same_atom names → peers + 1 ≡ length names
         → IfOk result (λ sends. sends_in names (S.listed sends)

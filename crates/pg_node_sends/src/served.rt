@@ -7,7 +7,7 @@ ghost use Rattle.pg_node_opens.specs.PgLock.Locks.{locks_of, grants, after_ask, 
 ghost use Rattle.pg_node_opens.specs.PgStep.Machines.Clocked.{stamped};
 ghost use Rattle.pg_node_opens.specs.PgMessageTypes.declared.message.Message.TheVariants as messages;
 ghost use Rattle.pg_node_opens.specs.PgMessageTypes.declared.message.Said.TheVariants as answers;
-ghost use Rattle.pg_node_opens.specs.PgMessageTypes.declared.packet.TheConstants.{MAX_STAMP};
+ghost use Rattle.pg_node_opens.specs.PgMessageTypes.Limits.{max_stamp};
 ghost use Rattle.pg_node_opens.specs.Opens.{names_of};
 ghost use Rattle.pg_node_opens.specs.Places.{name_at};
 ghost use Rattle.pg_node_opens.specs.PgStep.Nodes.{Node, to_one};
@@ -37,7 +37,7 @@ pub fn lock_for_peer<S: Outgoing + Drop>(
     reference: &Reference,
     name: &Term,
 ) -> Result<Done<S>, AllocError>
-    requires within { clock ≤ MAX_STAMP }
+    requires within { clock ≤ max_stamp }
     ensures locks { OnOk result (locks_of locks.new
         ≡ after_ask (grants formed (locks_of locks.old) name.now) (locks_of locks.old) name.now reference.now) }
     ensures sends { (names : List Node) → IfOk result (λ done. sends_in names (S.listed done.sends)
@@ -71,7 +71,7 @@ pub fn change_for_peer<T: GroupTable + Drop, S: Outgoing + Drop>(
     reference: &Reference,
     update: &Update,
 ) -> Result<Done<S>, AllocError>
-    requires within { clock ≤ MAX_STAMP }
+    requires within { clock ≤ max_stamp }
     requires room { HasRoom (T.contents table.old) update.now }
     ensures table { OnOk result (T.contents table.new ≡ changed (T.contents table.old) update.now (ended_of ended.now)) }
     ensures sends { (names : List Node) → IfOk result (λ done. sends_in names (S.listed done.sends)

@@ -7,7 +7,7 @@ use Rattle.pg_node_ports.specs.PgGroup.Table.{Table}
 use Rattle.pg_node_ports.specs.PgGroup.Value.{count_in}
 use Rattle.pg_node_ports.specs.PgEnds.declared.processes.Processes.{Processes}
 use Rattle.pg_node_ports.specs.PgEnds.Processes.{node_of}
-use Rattle.pg_node_ports.specs.PgMessageTypes.declared.packet.TheConstants.{MAX_STAMP}
+use Rattle.pg_node_ports.specs.PgMessageTypes.Limits.{max_stamp}
 use Rattle.pg_node_ports.specs.PgNodeOpens.declared.opens.Opens.{Opens}
 use Rattle.pg_node_ports.specs.PgNodeOpens.Opens.{AreSame, names_of, lost_of, references_of, uses_of, stages_of}
 use Rattle.pg_node_ports.specs.PgNodeOpens.Places.{name_at}
@@ -33,7 +33,7 @@ module _ {T : Type 0} {g : Ghosts T} (one : NodeState T g) (opens : Opens) (tabl
     peers : length formation + 1 ≡ length (names_of opens);
     own : node_of processes ≡ name_at (names_of opens) 0;
     forgotten : (q : Node) → lost_of opens q ≡ true → merged_in (names_of opens) formation q ≡ true;
-    within : one.clock ≤ MAX_STAMP;
+    within : one.clock ≤ max_stamp;
     made : references_of opens ≤ 2 * one.clock;
     counted : (port : ℕ) → port_commands ports port ≤ one.clock;
     given : AreGiven (CameIn (length ports) (port_commands ports)) (uses_of opens) (stages_of opens);

@@ -4,8 +4,10 @@
 //! sent. Begin with `src/state.rt` and `specs/States.antt`; docs/STEP.md says what each event does.
 #![tactic(auto)]
 
+mod laws;
 mod state;
 
+pub use laws::one_form_of_frames;
 pub use pg_frame::{
     Deframer, FrameFault, frame_into, front_is_first_of_cut, front_is_first_packet,
     loss_cuts_packets, moving_keeps_packets, pieces_continue, sending_adds_packets, write_frame,

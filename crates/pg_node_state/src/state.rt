@@ -5,7 +5,7 @@ ghost use Rattle.pg_term.specs.declared.pid.Pid.{Pid};
 ghost use Rattle.pg_term.specs.declared.term.Term.{Term};
 ghost use Rattle.pg_node_ports.specs.PgGroup.Value.{count_in};
 ghost use Rattle.pg_node_ports.specs.PgEnds.Processes.{node_of};
-ghost use Rattle.pg_node_ports.specs.PgMessageTypes.declared.packet.TheConstants.{MAX_STAMP};
+ghost use Rattle.pg_node_ports.specs.PgMessageTypes.Limits.{max_stamp};
 ghost use Rattle.pg_node_ports.specs.PgStep.Nodes.{Node};
 ghost use Rattle.pg_node_ports.specs.PgNodeOpens.Opens.{names_of as open_names, lost_of, references_of, uses_of, stages_of};
 ghost use Rattle.pg_node_ports.specs.PgNodeOpens.Places.{name_at};
@@ -55,7 +55,7 @@ pub struct NodeState<T: GroupTable> {
     ghost own: { node_of processes ≡ name_at (open_names opens) 0 },
     // The loss of a peer counts as its exchange.
     ghost forgotten: { (q : Node) → lost_of opens q ≡ true → merged_in (open_names opens) formation q ≡ true },
-    ghost within: { clock ≤ MAX_STAMP },
+    ghost within: { clock ≤ max_stamp },
     // An event makes two references at most.
     ghost made: { references_of opens ≤ 2 * clock },
     ghost counted: { (port : ℕ) → port_commands ports.items port ≤ clock },

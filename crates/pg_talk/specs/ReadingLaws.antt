@@ -2,7 +2,7 @@
 use Rattle.std.specs.Prelude.{◌≡◌, ◌<◌, ◌≤◌, ℕ, List, [], ◌∷◌, ◌++◌, Ok, length, map}
 use Rattle.std.specs.List.{AllByRecursion, flat_map, sum_by}
 use Rattle.pg_term.specs.declared.faults.TheConstants.{TRUNCATED}
-use Rattle.pg_cluster.specs.PgFrame.declared.TheConstants.{MAX_BODY}
+use Rattle.pg_cluster.specs.PgFrame.Limits.{max_body}
 use Rattle.pg_cluster.specs.PgFrame.Frames.{IsOpen}
 use Rattle.pg_term.specs.declared.term.Term.{Term}
 use Rattle.pg_cluster.specs.PgTermIo.Reading.{term_of}
@@ -16,7 +16,7 @@ use Rattle.pg_talk.specs.Readings.{requests_in, inputs_in}
 
 -- a frame holds it, and it is read back
 pub record IsFramed (term : Term) : Type 0 where
-  pub fits : length (written term) ≤ MAX_BODY
+  pub fits : length (written term) ≤ max_body
   pub back : term_of (written term) ≡ Ok term
 
 -- the inputs of terms

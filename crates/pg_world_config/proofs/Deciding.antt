@@ -7,7 +7,7 @@ use Rattle.pg_term.specs.declared.term.Term.{Term}
 use Rattle.pg_term.specs.declared.pid.Pid.{Pid}
 use Rattle.pg_term.specs.Same.{same_atom, same_term}
 use Rattle.pg_term.specs.contracts.term.TermEq.TheImpl.Laws as term_laws
-use Rattle.pg_step.specs.PgEnds.declared.processes.TheConstants.{MAX_PROCESSES}
+use Rattle.pg_step.specs.PgEnds.Limits.{max_processes}
 use Rattle.pg_step.specs.PgExchange.GroupList.{GroupList, announced_names}
 use Rattle.pg_step.specs.PgMessageTypes.Name.{is_name}
 use Rattle.pg_step.specs.PgMessageTypes.Reading.{is_named_once}
@@ -133,14 +133,14 @@ pass_made config groups h = pass_all (λ group. list_all (was_made config) group
 start_passes : (config : Config) (start : Start) → is_start config start ≡ true → are_names start.groups ≡ true → IsStart config start
 start_passes config start e names =
     let ports = nat_le start.ports 64 in
-    let made = nat_le start.made MAX_PROCESSES in
+    let made = nat_le start.made max_processes in
     let once = is_named_once start.groups in
     let members = are_made config start.groups in
     let e1 = left (ports && made && once) members e in
     let e2 = left (ports && made) once e1 in
     record {
       ports = leb-true start.ports 64 (left ports made e2);
-      made = leb-true start.made MAX_PROCESSES (right ports made e2);
+      made = leb-true start.made max_processes (right ports made e2);
       groups = once_named start.groups (right (ports && made) once e1);
       names = names_pass start.groups names;
       members = made_pass config start.groups (right (ports && made && once) members e);
@@ -149,7 +149,7 @@ start_passes config start e names =
 pass_start : (config : Config) (start : Start) → IsStart config start → is_start config start ≡ true
 pass_start config start h =
     both _ (are_made config start.groups)
-    (both _ (is_named_once start.groups) (both (nat_le start.ports 64) (nat_le start.made MAX_PROCESSES) (le-leb start.ports 64 h.ports) (le-leb start.made MAX_PROCESSES h.made)) (named_once start.groups h.groups))
+    (both _ (is_named_once start.groups) (both (nat_le start.ports 64) (nat_le start.made max_processes) (le-leb start.ports 64 h.ports) (le-leb start.made max_processes h.made)) (named_once start.groups h.groups))
     (pass_made config start.groups h.members)
 
 starts_pass : (config starts : Config) → list_all (is_start config) starts ≡ true → have_names starts ≡ true → AllByRecursion (IsStart config) starts

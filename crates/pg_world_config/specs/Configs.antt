@@ -4,7 +4,7 @@ use Rattle.std.specs.Prelude.{[], ◌∷◌, Option, Some, None, Result, Ok, Err
 use Rattle.std.specs.List.{list_any, list_all}
 use Rattle.std.specs.Prelude.{◌≡◌}
 use Rattle.pg_term.specs.Same.{same_atom}
-use Rattle.pg_step.specs.PgEnds.declared.processes.TheConstants.{MAX_PROCESSES}
+use Rattle.pg_step.specs.PgEnds.Limits.{max_processes}
 use Rattle.pg_step.specs.PgExchange.GroupList.{GroupList}
 use Rattle.pg_step.specs.PgMessageTypes.Name.{is_name}
 use Rattle.pg_step.specs.PgMessageTypes.Reading.{is_named_once}
@@ -24,7 +24,7 @@ are_made config groups = list_all (λ group. list_all (was_made config) group.1)
 
 -- what is asked of a node as it starts, but for the size of the names of its groups
 abbrev pub is_start : Config → Start → Bool
-is_start config start = nat_le start.ports 64 && nat_le start.made MAX_PROCESSES && is_named_once start.groups && are_made config start.groups
+is_start config start = nat_le start.ports 64 && nat_le start.made max_processes && is_named_once start.groups && are_made config start.groups
 
 -- what is asked of a configuration, but for the size of names
 abbrev pub is_config : Config → Bool

@@ -3,7 +3,7 @@
 ghost use Rattle.std.specs.Prelude.{◌≡◌, ◌≤◌, ◌<◌, ◌^◌, ℕ, false, IfOk, length, map};
 ghost use Rattle.std.specs.List.{IsDistinct};
 ghost use Rattle.pg_term.specs.Same.{same_atom};
-ghost use Rattle.pg_node_state.specs.PgEnds.declared.processes.TheConstants.{MAX_PROCESSES};
+ghost use Rattle.pg_node_state.specs.PgEnds.Limits.{max_processes};
 ghost use Rattle.pg_node_state.specs.PgExchange.GroupList.{all_merged};
 ghost use Rattle.pg_node_state.specs.PgMessageTypes.Members.{HasFewMembers};
 ghost use Rattle.pg_node_state.specs.PgStep.Config.{names_of, groups_at, made_at};
@@ -23,7 +23,7 @@ use std::alloc::{AllocError, Global};
 pub fn nodes_of(alloc: Global, starts: &[Start]) -> Result<Vec<NodeState<IndexTable>>, AllocError>
     requires apart { IsDistinct same_atom (names_of starts.now) }
     requires nodes { length starts.now ≤ 16 }
-    requires made { (i : ℕ) → made_at starts.now i ≤ MAX_PROCESSES }
+    requires made { (i : ℕ) → made_at starts.now i ≤ max_processes }
     requires few { (i : ℕ) → HasFewMembers (2 ^ 32) (groups_at starts.now i) }
     ensures { IfOk result (λ nodes. map seen_of nodes.items ≡ firsts starts.now (length starts.now)) }
 {
@@ -47,7 +47,7 @@ pub fn node_at(
     requires place { place < length starts.now }
     requires apart { IsDistinct same_atom (names_of starts.now) }
     requires nodes { length starts.now ≤ 16 }
-    requires made { made_at starts.now place ≤ MAX_PROCESSES }
+    requires made { made_at starts.now place ≤ max_processes }
     requires few { HasFewMembers (2 ^ 32) (groups_at starts.now place) }
     ensures { IfOk result (λ node. seen_of node ≡ seen_first starts.now place) }
 {

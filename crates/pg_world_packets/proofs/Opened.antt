@@ -12,7 +12,7 @@ use Rattle.pg_term.specs.contracts.term.TermEq.TheImpl.Laws as term_laws
 use Rattle.pg_term.proofs.Same.{same_term as term_is}
 use Rattle.pg_node_state.specs.PgGroup.Value.{listed, merge}
 use Rattle.pg_node_state.specs.PgGroup.declared.table.GroupTable.{Ghosts}
-use Rattle.pg_node_state.specs.PgEnds.declared.processes.TheConstants.{MAX_PROCESSES}
+use Rattle.pg_node_state.specs.PgEnds.Limits.{max_processes}
 use Rattle.pg_node_state.specs.PgExchange.GroupList.{GroupList, announced_names, announced_table}
 use Rattle.pg_node_state.specs.PgStep.Machines.Clocked.{Stamped}
 use Rattle.pg_node_state.specs.PgMessageTypes.Members.{HasFewMembers}
@@ -120,7 +120,7 @@ module _ {T : Type 0} {g : Ghosts T} (config : Config) (nodes slice : List (Node
 
 -- ---- configurations
 
-pub made_few : (config starts : Config) (i : ℕ) → AllByRecursion (IsStart config) starts → made_at starts i ≤ MAX_PROCESSES
+pub made_few : (config starts : Config) (i : ℕ) → AllByRecursion (IsStart config) starts → made_at starts i ≤ max_processes
 made_few config [] i all = omega arith
 made_few config (start ∷ starts) zero all = all.0.made
 made_few config (start ∷ starts) (suc i) all = made_few config starts i all.1
@@ -202,7 +202,7 @@ module _ (ring : ℕ) (config slice : Config) (same : slice ≡ config) (none : 
   pub good_apart : IsDistinct same_atom (names_of slice)
   good_apart = good.apart
 
-  pub good_made : (i : ℕ) → made_at slice i ≤ MAX_PROCESSES
+  pub good_made : (i : ℕ) → made_at slice i ≤ max_processes
   good_made i = made_few slice slice i good.starts
 
   pub good_once : (i : ℕ) → IsDistinct same_term (announced_names (groups_at slice i))

@@ -3,7 +3,7 @@ use Rattle.std.specs.Prelude.{◌≡◌, ◌≤◌, ◌<◌, ◌^◌, ◌⊎◌,
 use Rattle.std.specs.Prelude.{nat_le, ℕ, length, slice_get, List, Some, None}
 use Rattle.std.specs.List.{IsDistinct, list_all}
 use Rattle.pg_term.specs.Same.{same_atom, same_term}
-use Rattle.pg_node_state.specs.PgEnds.declared.processes.TheConstants.{MAX_PROCESSES}
+use Rattle.pg_node_state.specs.PgEnds.Limits.{max_processes}
 use Rattle.pg_node_state.specs.PgMessageTypes.Members.{HasFewMembers}
 use Rattle.pg_node_state.specs.PgGroup.Table.{Table}
 use Rattle.pg_node_state.specs.PgExchange.GroupList.{GroupList, IsSnapshot, announced_names}
@@ -59,7 +59,7 @@ AllFit config = (i : ℕ) → i < length config → FitsOpening (seen_first conf
 pub record AreReady (starts : Config) : Type 0 where
   pub nodes : length starts ≤ 16
   pub apart : IsDistinct same_atom (names_of starts)
-  pub made : (i : ℕ) → made_at starts i ≤ MAX_PROCESSES
+  pub made : (i : ℕ) → made_at starts i ≤ max_processes
   pub once : (i : ℕ) → IsDistinct same_term (announced_names (groups_at starts i))
   pub few : (i : ℕ) → HasFewMembers (2 ^ 32) (groups_at starts i)
   pub named : have_names starts ≡ true

@@ -4,7 +4,7 @@ ghost use Rattle.std.specs.Prelude.{◌≡◌, ◌≤◌, ◌-◌, ◌^◌, ◌�
 ghost use Rattle.std.specs.List.{All};
 ghost use Rattle.pg_node_state.specs.PgMessageTypes.Members.{IsShort};
 ghost use Rattle.pg_node_state.specs.PgMessageTypes.Writing.{is_sayable};
-ghost use Rattle.pg_node_state.specs.PgMessageTypes.declared.packet.TheConstants.{MAX_STAMP};
+ghost use Rattle.pg_node_state.specs.PgMessageTypes.Limits.{max_stamp};
 ghost use Rattle.pg_node_state.specs.States.{kept_by};
 ghost use Rattle.pg_node_state.specs.PgNodeSends.Sent.{stamped_of};
 ghost use Rattle.pg_world_config.specs.Seen.{seen_of};
@@ -71,7 +71,7 @@ fn opening<T: GroupTable + Drop>(
 fn opened(alloc: Global, peers: usize, packet: &Packet) -> Result<Ways, WorldFault>
     requires short { IsShort (2 ^ 32) packet.now.message }
     requires named { is_sayable packet.now.message ≡ true }
-    requires stamp { packet.now.stamp ≤ MAX_STAMP }
+    requires stamp { packet.now.stamp ≤ max_stamp }
     ensures fits { IfOk result (λ outgoing. FitsFrame packet.now) }
     ensures ways { IfOk result (λ outgoing. ways_of outgoing ≡ replicate peers (stamped_of packet.now ∷ [])) }
     ensures fault { IfErr result (CantSend packet.now) }

@@ -7,7 +7,7 @@ ghost use Rattle.pg_term.specs.declared.pid.Pid.{Pid};
 ghost use Rattle.pg_term.specs.declared.term.Term.{Term};
 ghost use Rattle.pg_node_state.specs.PgTermIo.Writing.{written};
 ghost use Rattle.pg_node_state.specs.PgGroup.Value.{count_in};
-ghost use Rattle.pg_node_state.specs.PgEnds.declared.processes.TheConstants.{MAX_PROCESSES};
+ghost use Rattle.pg_node_state.specs.PgEnds.Limits.{max_processes};
 ghost use Rattle.pg_node_state.specs.PgMessageTypes.Writing.{body_of, term_of_packet};
 ghost use Rattle.pg_node_state.specs.PgNodeOpens.Places.{name_at};
 ghost use Rattle.pg_node.specs.Begun.{BeginsLinked, CantBegin, IsOpened, CantOpen};
@@ -42,7 +42,7 @@ impl<T: GroupTable + Drop> Node<T> {
     pub fn new(alloc: Global, config: NodeConfig, table: T) -> Result<Node<T>, NodeFault>
         requires apart { IsDistinct same_atom (config.own ∷ config.peers.items) }
         requires peers { length config.peers.items ≤ 15 }
-        requires made { config.made ≤ MAX_PROCESSES }
+        requires made { config.made ≤ max_processes }
         requires few { (name : Term) (pid : Pid) → count_in (T.contents table name) pid ≤ 2 ^ 32 }
         ensures names { IfOk result (λ node. names_of (held_by node) ≡ config.own ∷ config.peers.items) }
         ensures state { IfOk result (λ node. state_of (held_by node) ≡ record { clock = 0; state = new_state (T.contents table) config.made }) }

@@ -2,7 +2,7 @@
 
 ghost use Rattle.std.specs.Prelude.{◌≡◌, ◌≤◌, ◌+◌, ◌^◌, true, false, length};
 ghost use Rattle.std.specs.Prelude.{take, min, Some, Ok, Err, IfOk, IfErr, IfSome, OnOk, OnErr};
-ghost use Rattle.pg_node_state.specs.PgMessageWriter.declared.size.TheConstants.{MAX_SMALL_LEN};
+ghost use Rattle.pg_node_state.specs.PgMessageWriter.Limits.{max_small_len};
 ghost use Rattle.pg_node.specs.Bytes.{damages};
 
 use bytes::BytesMut;
@@ -54,7 +54,7 @@ impl Wire {
 
     /// Appends a small frame to the outbox, where there is room. It takes no memory.
     pub(crate) fn append(&mut self, frame: &[u8])
-        requires short { length frame.now ≤ 4 + MAX_SMALL_LEN }
+        requires short { length frame.now ≤ 4 + max_small_len }
         requires room { HasFrameRoom self.old }
         ensures { link_of self.new ≡ with_more (link_of self.old) frame.now }
     {

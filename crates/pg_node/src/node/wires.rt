@@ -8,9 +8,10 @@ ghost use Rattle.pg_node_state.specs.PgNodeSends.Frames.{frames_to, AreSmallFram
 ghost use Rattle.pg_node_state.specs.PgNodeSends.Going.{going};
 ghost use Rattle.pg_node_state.specs.PgNodeSends.Sendable.{FitLinks};
 ghost use Rattle.pg_node.specs.Links.{links_in, room_in, with_more, HaveFrameRoom};
+ghost use Rattle.pg_node_state.specs.PgMessageWriter.Limits.{max_small_len};
 
 use crate::node::wire::Wire;
-use pg_node_state::{Framed, Goes, MAX_SMALL_LEN, Places};
+use pg_node_state::{Framed, Goes, Places};
 use std::alloc::AllocError;
 
 /// Makes room for one small frame in every outbox, where it was not made, or taken since. `has_room`: whether it is there, which
@@ -73,9 +74,9 @@ fn append_marked(wires: &mut Vec<Wire>, marked: Places, peers: usize, frame: &[u
 
 /// Appends a small frame to the outbox of a peer, where that is marked. It takes no memory.
 fn append_if(wires: &mut Vec<Wire>, peer: usize, marked: bool, frame: &[u8])
-    requires short { length frame.now ≤ 4 + MAX_SMALL_LEN }
+    requires short { length frame.now ≤ 4 + max_small_len }
     requires place { marked ≡ true → peer < length wires.old.items }
-    requires room { marked ≡ true → 4 + MAX_SMALL_LEN ≤ room_in wires.old.items peer }
+    requires room { marked ≡ true → 4 + max_small_len ≤ room_in wires.old.items peer }
     ensures sent { (place : ℕ) → links_in wires.new.items place ≡ with_more (links_in wires.old.items place) (cond (marked && nat_eq peer place) frame.now []) }
     ensures others { (place : ℕ) → peer < place → room_in wires.new.items place ≡ room_in wires.old.items place }
     ensures len { length wires.new.items ≡ length wires.old.items }

@@ -2,7 +2,7 @@
 
 ghost use Rattle.std.specs.Prelude.{◌≡◌, ◌≤◌, ◌+◌, ◌++◌, ◌^◌, length, IfErr, OnOk, OnErr};
 ghost use Rattle.pg_node_state.specs.PgMessageTypes.Members.{IsShort};
-ghost use Rattle.pg_node_state.specs.PgMessageWriter.declared.size.TheConstants.{MAX_SMALL_LEN};
+ghost use Rattle.pg_node_state.specs.PgMessageWriter.Limits.{max_small_len};
 ghost use Rattle.pg_node.specs.Replicas.Fault.{untaken_as, Refuses};
 ghost use Rattle.pg_node_state.specs.PgNodeSends.Frames.{frames_to};
 ghost use Rattle.pg_node_state.specs.PgNodeSends.Sendable.{FitLinks};
@@ -51,7 +51,7 @@ fn answer_packet<T: GroupTable + Drop>(
 ) -> Result<(), ServeFault>
     requires one_peer { length (names_of node.old) ≡ 2 }
     requires few { IsShort (2 ^ 32) packet.message }
-    requires room { 4 + MAX_SMALL_LEN ≤ out.old.spare }
+    requires room { 4 + max_small_len ≤ out.old.spare }
     ensures ok { OnOk result (AnswersServed (taken_packet (pair_of node.old) (state_of node.old) packet)
         (state_of node.new) out.old.items out.new.items) }
     ensures fault { IfErr result (Refuses (taken_packet (pair_of node.old) (state_of node.old) packet)) }
@@ -72,7 +72,7 @@ fn answer_packet<T: GroupTable + Drop>(
 /// Appends the packet that is sent to the one peer, if there is one, as a frame. It takes no memory.
 fn write_sent(sends: &[(usize, Packet)], out: &mut BytesMut)
     requires fit { FitLinks 1 sends.now }
-    requires room { 4 + MAX_SMALL_LEN ≤ out.old.spare }
+    requires room { 4 + max_small_len ≤ out.old.spare }
     ensures { out.new.items ≡ out.old.items ++ frames_to sends.now 0 }
 {
     if let Some(sent) = sends.first() {

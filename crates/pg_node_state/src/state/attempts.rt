@@ -3,7 +3,7 @@
 ghost use Rattle.std.specs.Prelude.{◌≡◌, ◌≤◌, ◌<◌, ◌+◌, ◌*◌, ◌^◌, true, false, IfOk, length};
 ghost use Rattle.pg_node_ports.specs.PgGroup.declared.update.Update.{Update};
 ghost use Rattle.pg_node_ports.specs.PgGroup.Value.{count_in, name_of};
-ghost use Rattle.pg_node_ports.specs.PgMessageTypes.declared.packet.TheConstants.{MAX_STAMP};
+ghost use Rattle.pg_node_ports.specs.PgMessageTypes.Limits.{max_stamp};
 ghost use Rattle.pg_node_ports.specs.PgNodeOpens.Readings.{stage_seen};
 ghost use Rattle.pg_node_ports.specs.PgNodeOpens.declared.command.Stage.TheVariants as seen;
 ghost use Rattle.pg_node_ports.specs.PgStep.declared.command.OpId.{OpId};
@@ -41,7 +41,7 @@ impl<T: GroupTable + Drop> NodeState<T> {
         op: OpId,
     ) -> Result<Done<S>, AllocError>
         requires later { self.old.clock ≤ clock }
-        requires within { clock ≤ MAX_STAMP }
+        requires within { clock ≤ max_stamp }
         requires made { (kept_by self.old).references + 2 ≤ 2 * clock }
         requires few { (name : Term) (pid : Pid) → count_in (T.contents self.old.table name) pid + 1 ≤ 2 ^ 32 + clock }
         requires waits { stage_seen ((kept_by self.old).stages op) ≡ seen.Waiting }
@@ -74,7 +74,7 @@ impl<T: GroupTable + Drop> NodeState<T> {
         first: usize,
     ) -> Result<Done<S>, AllocError>
         requires later { self.old.clock ≤ clock }
-        requires within { clock ≤ MAX_STAMP }
+        requires within { clock ≤ max_stamp }
         requires made { (kept_by self.old).references + 2 ≤ 2 * clock }
         requires few { (name : Term) (pid : Pid) → count_in (T.contents self.old.table name) pid + 1 ≤ 2 ^ 32 + clock }
         requires waits { stage_seen ((kept_by self.old).stages op) ≡ seen.Waiting }
@@ -98,7 +98,7 @@ impl<T: GroupTable + Drop> NodeState<T> {
     /// The own node is the greatest, and denies the lock: the command waits.
     fn deny_itself<S: Outgoing + Drop>(&mut self, clock: u32, op: OpId) -> Done<S>
         requires later { self.old.clock ≤ clock }
-        requires within { clock ≤ MAX_STAMP }
+        requires within { clock ≤ max_stamp }
         requires made { (kept_by self.old).references + 2 ≤ 2 * clock }
         requires few { (name : Term) (pid : Pid) → count_in (T.contents self.old.table name) pid + 1 ≤ 2 ^ 32 + clock }
         requires waits { stage_seen ((kept_by self.old).stages op) ≡ seen.Waiting }
@@ -126,7 +126,7 @@ impl<T: GroupTable + Drop> NodeState<T> {
         op: OpId,
     ) -> Result<Done<S>, AllocError>
         requires later { self.old.clock ≤ clock }
-        requires within { clock ≤ MAX_STAMP }
+        requires within { clock ≤ max_stamp }
         requires made { (kept_by self.old).references + 2 ≤ 2 * clock }
         requires few { (name : Term) (pid : Pid) → count_in (T.contents self.old.table name) pid + 1 ≤ 2 ^ 32 + clock }
         requires waits { stage_seen ((kept_by self.old).stages op) ≡ seen.Waiting }
@@ -165,7 +165,7 @@ impl<T: GroupTable + Drop> NodeState<T> {
         op: OpId,
     ) -> Result<Done<S>, AllocError>
         requires later { self.old.clock ≤ clock }
-        requires within { clock ≤ MAX_STAMP }
+        requires within { clock ≤ max_stamp }
         requires made { (kept_by self.old).references + 2 ≤ 2 * clock }
         requires few { (name : Term) (pid : Pid) → count_in (T.contents self.old.table name) pid + 1 ≤ 2 ^ 32 + clock }
         requires waits { stage_seen ((kept_by self.old).stages op) ≡ seen.Waiting }

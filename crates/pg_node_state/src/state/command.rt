@@ -1,7 +1,7 @@
 //! What a node makes of a command.
 
 ghost use Rattle.std.specs.Prelude.{◌≡◌, ◌<◌, ◌+◌, true, None, IfOk};
-ghost use Rattle.pg_node_ports.specs.PgMessageTypes.declared.packet.TheConstants.{MAX_STAMP};
+ghost use Rattle.pg_node_ports.specs.PgMessageTypes.Limits.{max_stamp};
 
 use crate::state::{NodeFault, NodeState};
 use bytes::BytesMut;

@@ -8,7 +8,7 @@ ghost use Rattle.pg_term.specs.declared.pid.Pid.{Pid};
 ghost use Rattle.pg_term.specs.declared.term.Term.{Term};
 ghost use Rattle.pg_node_ports.specs.PgGroup.Value.{count_in};
 ghost use Rattle.pg_node_ports.specs.PgEnds.Numbers.{ended_among};
-ghost use Rattle.pg_node_ports.specs.PgEnds.declared.processes.TheConstants.{MAX_PROCESSES};
+ghost use Rattle.pg_node_ports.specs.PgEnds.Limits.{max_processes};
 
 use crate::state::NodeState;
 use pg_node_ports::{
@@ -53,7 +53,7 @@ impl<T: GroupTable + Drop> NodeState<T> {
     ) -> Result<(NodeState<T>, Vec<(usize, Packet)>), AllocError>
         requires apart { IsDistinct same_atom (config.own ∷ config.peers.items) }
         requires peers { length config.peers.items ≤ 15 }
-        requires made { config.made ≤ MAX_PROCESSES }
+        requires made { config.made ≤ max_processes }
         requires few { (name : Term) (pid : Pid) → count_in (T.contents table name) pid ≤ 2 ^ 32 }
         ensures names { IfOk result (λ begun. names_of begun.0 ≡ config.own ∷ config.peers.items) }
         ensures state { IfOk result (λ begun. state_of begun.0 ≡ record { clock = 0; state = new_state (T.contents table) config.made }) }
@@ -79,7 +79,7 @@ impl<T: GroupTable + Drop> NodeState<T> {
     pub fn started(alloc: Global, config: NodeConfig, table: T) -> Result<NodeState<T>, AllocError>
         requires apart { IsDistinct same_atom (config.own ∷ config.peers.items) }
         requires peers { length config.peers.items ≤ 15 }
-        requires made { config.made ≤ MAX_PROCESSES }
+        requires made { config.made ≤ max_processes }
         requires few { (name : Term) (pid : Pid) → count_in (T.contents table name) pid ≤ 2 ^ 32 }
         ensures names { IfOk result (λ node. names_of node ≡ config.own ∷ config.peers.items) }
         ensures state { IfOk result (λ node. state_of node ≡ record { clock = 0; state = new_state (T.contents table) config.made }) }
@@ -244,7 +244,7 @@ pub fn started<T: GroupTable + Drop>(
 ) -> Result<NodeState<T>, AllocError>
     requires apart { IsDistinct same_atom (config.own ∷ config.peers.items) }
     requires peers { length config.peers.items ≤ 15 }
-    requires made { config.made ≤ MAX_PROCESSES }
+    requires made { config.made ≤ max_processes }
     requires few { (name : Term) (pid : Pid) → count_in (T.contents table name) pid ≤ 2 ^ 32 }
     ensures names { IfOk result (λ node. names_of node ≡ config.own ∷ config.peers.items) }
     ensures state { IfOk result (λ node. state_of node ≡ record { clock = 0; state = new_state (T.contents table) config.made }) }

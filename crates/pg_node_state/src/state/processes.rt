@@ -5,7 +5,7 @@ ghost use Rattle.pg_term.specs.Same.{same_pid};
 ghost use Rattle.pg_node_ports.specs.PgGroup.Ended.{ended_of};
 ghost use Rattle.pg_node_ports.specs.PgGroup.Functions.{upd};
 ghost use Rattle.pg_node_ports.specs.PgGroup.Table.{without};
-ghost use Rattle.pg_node_ports.specs.PgEnds.declared.processes.TheConstants.{MAX_PROCESSES};
+ghost use Rattle.pg_node_ports.specs.PgEnds.Limits.{max_processes};
 ghost use Rattle.pg_node_ports.specs.PgStep.declared.answer.Reply.TheVariants as replies;
 ghost use Rattle.pg_node_ports.specs.Ports.{counted_at};
 ghost use Rattle.pg_node_ports.specs.Ports.{port_commands, answers_in};
@@ -34,7 +34,7 @@ impl<T: GroupTable + Drop> NodeState<T> {
     ) -> Result<Done<S>, AllocError>
         requires now { IsNow self.old.clock clock }
         requires place { port < ports_of self.old }
-        requires limit { (kept_by self.old).processes < MAX_PROCESSES }
+        requires limit { (kept_by self.old).processes < max_processes }
         ensures happens { IfOk result (λ done. Happens (names_of self.old) (at_clock clock (op_issued port (make (live_of self.old)) (kept_by self.old)))
             done (state_of self.new) (answers_of self.old) (answers_of self.new)) }
         ensures stays { Stays self.old self.new result }

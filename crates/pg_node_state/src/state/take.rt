@@ -2,7 +2,7 @@
 
 ghost use Rattle.std.specs.Prelude.{◌≡◌, ◌≢◌, ◌<◌, ◌+◌, ◌^◌, true, Err, IfOk, length};
 ghost use Rattle.pg_node_ports.specs.PgMessageTypes.Members.{IsShort, HasFewMembers};
-ghost use Rattle.pg_node_ports.specs.PgMessageTypes.declared.packet.TheConstants.{MAX_STAMP};
+ghost use Rattle.pg_node_ports.specs.PgMessageTypes.Limits.{max_stamp};
 
 use crate::state::{NodeFault, NodeState};
 use bytes::BytesMut;

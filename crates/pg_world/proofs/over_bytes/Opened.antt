@@ -10,7 +10,7 @@ use Rattle.std.proofs.lemmas.Bool.{ltb-false}
 use Rattle.std.proofs.lemmas.List.{get_or-replicate, length-map, length-append, map-append}
 use Rattle.std.proofs.lemmas.Option.{slice_get-map, slice_get-get_or}
 use Rattle.pg_term.specs.Same.{same_atom}
-use Rattle.pg_world_packets.specs.PgTermIo.declared.limits.TheConstants.{MAX_LEN}
+use Rattle.pg_world_packets.specs.PgTermIo.Limits.{max_len}
 use Rattle.pg_world_packets.specs.PgTermIo.Writing.{written}
 use Rattle.pg_world_packets.specs.PgFrame.Frames.{frame}
 use Rattle.pg_world_packets.specs.PgGroup.declared.table.GroupTable.{Ghosts}
@@ -21,7 +21,7 @@ use Rattle.pg_world_packets.specs.PgMessageTypes.declared.fault.MessageFault.{Me
 use Rattle.pg_world_packets.specs.PgMessageTypes.declared.fault.MessageFault.TheVariants as messages
 use Rattle.pg_world_packets.specs.PgMessageTypes.declared.message.Message.{Message}
 use Rattle.pg_world_packets.specs.PgMessageTypes.declared.packet.Packet.{Packet}
-use Rattle.pg_world_packets.specs.PgMessageTypes.declared.packet.TheConstants.{MAX_STAMP}
+use Rattle.pg_world_packets.specs.PgMessageTypes.Limits.{max_stamp}
 use Rattle.pg_world_packets.specs.PgMessageTypes.Reading.{packet_of}
 use Rattle.pg_world_packets.specs.PgMessageTypes.Writing.{body_of, sent, length_of, term_of_packet, is_exchange, is_sayable}
 use Rattle.pg_term.specs.declared.fault.TermFault.TheVariants as terms
@@ -70,8 +70,8 @@ cant_open_so node fault named (inr (packet, is, inr (told, body, e))) = subst (�
     said : is_sayable packet.message ≡ true
     said = said_all node.state.state.table (name_at node.names 0) packet named is
 
-    stamp : packet.stamp ≤ MAX_STAMP
-    stamp = subst (λ (p : Packet). p.stamp ≤ MAX_STAMP) (sym is.2) (omega arith)
+    stamp : packet.stamp ≤ max_stamp
+    stamp = subst (λ (p : Packet). p.stamp ≤ max_stamp) (sym is.2) (omega arith)
 
 pub named_first : (config : Config) (i : ℕ) → AreReady config → TellsNames (seen_first config i).state.state.table
 named_first config i ready = tells_names (groups_at config i) (names_at config i ready.named)
@@ -85,18 +85,18 @@ cant_start_at config i NameTooLarge l cant = absurd cant
 cant_start_at config i BadCapacity l cant = absurd cant
 
 -- a body that is written fits into a frame
-body_fits : (packet : Packet) → body_of packet ≡ Ok (written (term_of_packet packet)) → length (written (term_of_packet packet)) ≤ MAX_LEN
+body_fits : (packet : Packet) → body_of packet ≡ Ok (written (term_of_packet packet)) → length (written (term_of_packet packet)) ≤ max_len
 body_fits packet e = go (packet_of (term_of_packet packet)) e
   where
     body : List ℕ
     body = written (term_of_packet packet)
 
-    short : (p : Packet) (b : Bool) → nat_lt MAX_LEN (length body) ≡ b → cond b (Err (messages.Term terms.TooLong)) (Ok body) ≡ Ok body → length body ≤ MAX_LEN
+    short : (p : Packet) (b : Bool) → nat_lt max_len (length body) ≡ b → cond b (Err (messages.Term terms.TooLong)) (Ok body) ≡ Ok body → length body ≤ max_len
     short p true t f = absurd cc
-    short p false t f = ltb-false MAX_LEN (length body) t
+    short p false t f = ltb-false max_len (length body) t
 
-    go : (r : Result Packet MessageFault) → sent r body ≡ Ok body → length body ≤ MAX_LEN
-    go (Ok p) f = short p (nat_lt MAX_LEN (length body)) refl f
+    go : (r : Result Packet MessageFault) → sent r body ≡ Ok body → length body ≤ max_len
+    go (Ok p) f = short p (nat_lt max_len (length body)) refl f
     go (Err fault) f = absurd cc
 
 -- ---- all nodes

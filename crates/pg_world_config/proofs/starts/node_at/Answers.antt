@@ -1,5 +1,5 @@
 use Rattle.std.proofs.Common.{◌≤◌, ◌^◌, ◌∙◌, false, subst}
-use Rattle.pg_node_state.specs.PgEnds.declared.processes.TheConstants.{MAX_PROCESSES}
+use Rattle.pg_node_state.specs.PgEnds.Limits.{max_processes}
 use Rattle.pg_node_state.specs.PgExchange.GroupList.{all_merged}
 use Rattle.pg_node_state.specs.PgMessageTypes.Members.{HasFewMembers}
 use Rattle.pg_world_config.proofs.Starting.{groups_here, made_here, apart_here, peers_here, seen_here, few_here}
@@ -14,7 +14,7 @@ started-requires-clause-peers c =
     peers_here c.args.starts.now c.args.place c.requires.place c.in_ok-peers.peers.items c.remove-own.new.self.items c.remove-own.result c.in_ok-peers.ensures c.remove-own.ensures.value c.remove-own.ensures.items c.requires.nodes
 
 pub started-requires-clause-made : goal.started-requires-clause-made
-started-requires-clause-made c = subst (λ n. n ≤ MAX_PROCESSES) (made_here c.args.starts.now c.args.place c.index-starts-place.result c.requires.place c.index-starts-place.is) c.requires.made
+started-requires-clause-made c = subst (λ n. n ≤ max_processes) (made_here c.args.starts.now c.args.place c.index-starts-place.result c.requires.place c.index-starts-place.is) c.requires.made
 
 pub started-requires-clause-few : goal.started-requires-clause-few
 started-requires-clause-few c =
