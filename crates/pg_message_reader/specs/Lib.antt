@@ -1,3 +1,4 @@
+pub mod Names
 pub mod Own
 pub mod Shapes
 pub mod Standing

@@ -1,3 +1,5 @@
 pub mod Alike
+pub mod Groups
+pub mod Leaves
 pub mod Lists
 pub mod Shape

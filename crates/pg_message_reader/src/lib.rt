@@ -1,8 +1,8 @@
 //! Bodies to packets.
 //!
 //! `read_packet(alloc, body)?` gives the packet that a body spells. Begin with `src/reading.rt`; `specs/Reading.antt` of pg_message_types says
-//! which it is. `read_own_reply(own, body)` gives a reply to the own node as numbers. `src/shape.rt` refuses what can be no packet before
-//! anything of it is built.
+//! which it is. `read_own_reply(own, body)` gives a reply to the own node as numbers. `src/shape.rt` gives the fault of
+//! what is no packet before anything of it is built.
 #![tactic(auto)]
 
 mod direct;
@@ -14,4 +14,4 @@ mod shape;
 
 pub use own::{OwnReply, read_own_reply};
 pub use reading::read_packet;
-pub use shape::{is_atom, may_be_groups, may_be_packet, pid_head};
+pub use shape::{check_packet, is_atom, may_be_groups, pid_head};

@@ -1,6 +1,7 @@
 //! Terms and bytes to packets.
 
-ghost use Rattle.std.specs.Prelude.{◌≡◌, ◌∷◌, [], length, true, Some, None, IfOk, Ok, if◌then◌else◌};
+ghost use Rattle.std.specs.Prelude.{◌≡◌, ◌⊎◌, ◌∷◌, [], length, true, Some, None, IfOk, Ok, Err};
+ghost use Rattle.std.specs.Prelude.{if◌then◌else◌};
 ghost use Rattle.std.specs.Option.{option_and_then};
 ghost use Rattle.pg_term.specs.declared.term.Term.{Term};
 ghost use Rattle.pg_term_io.specs.Spelling.{Spells};
@@ -12,11 +13,12 @@ ghost use Rattle.pg_message_types.specs.Reading.{stamp_of, message_in, message_o
 ghost use Rattle.pg_message_types.specs.Reading.{freed, read_exchange, request_in, request_of, request_on, membership_of};
 ghost use Rattle.pg_message_types.specs.Reading.{said_of, stamped_message, packet_in, packet_of, packet_spelled, SpellsPacket};
 ghost use Rattle.pg_message_types.specs.declared.packet.Packet.{Packet};
+ghost use Rattle.pg_message_reader.specs.Names.{NeedsNames};
 
 use crate::direct::{Detour, direct_packet};
 use crate::exchange::groups;
 use crate::parts::{atom, elements, is_word, pid, reference, three, two};
-use crate::shape::may_be_packet;
+use crate::shape::check_packet;
 use pg_message_types::{MAX_STAMP, Message, MessageFault, Packet, Request, Said, Update, is_name};
 use pg_term::{Reference, Term, TermFault};
 use pg_term_io::{check_term, decode};
@@ -26,7 +28,8 @@ use std::alloc::{AllocError, Global};
 ///
 /// Errors: those of its term, as `pg_term_io::decode` has them; `NotAMessage`, where the term has not the shape of a
 /// packet, a name in it is refused by `check_name`, an exchange names a group twice, or the stamp is negative;
-/// `StampTooLarge`. `OutOfMemory` may come in place of a later one.
+/// `StampTooLarge`. `OutOfMemory` may come in the place of a packet; in the place of a fault only of `NotAMessage` and
+/// `StampTooLarge`, where a name is no atom, or the groups of an exchange do not ascend in the order of terms.
 ///
 /// Cost: linear in the number of bytes, but for an exchange whose groups do not ascend in the order of terms: their
 /// names are looked up in a tree. Of a body that is spelled as it is written only the parts that are in the message
@@ -42,6 +45,9 @@ pub fn read_packet(alloc: Global, body: &[u8]) -> Result<Packet, MessageFault>
         → Gives (λ packet. packet) result (Ok packet) }
     // Which fault it is.
     ensures exact { Gives (λ packet. packet) result (packet_spelled body.now) }
+    // Each fault is told whatever memory there is, unless names have to be built.
+    ensures told { (fault : MessageFault) → packet_spelled body.now ≡ Err fault
+        → NeedsNames body.now ⊎ (result ≡ Err fault) }
     // No list of members in it is longer than the body.
     ensures few { IfOk result (λ packet. IsShort (length body.now) packet.message) }
 {
@@ -51,19 +57,28 @@ pub fn read_packet(alloc: Global, body: &[u8]) -> Result<Packet, MessageFault>
 // Its clauses are proved of one; those of the call above follow from it.
 #[inline]
 fn whole_packet(alloc: Global, body: &[u8]) -> Result<Packet, MessageFault>
-    ensures { Gives (λ packet. packet) result (packet_spelled body.now) }
+    ensures exact { Gives (λ packet. packet) result (packet_spelled body.now) }
+    ensures told { (fault : MessageFault) → packet_spelled body.now ≡ Err fault
+        → NeedsNames body.now ⊎ (result ≡ Err fault) }
 {
     match direct_packet(alloc, body) {
         Ok(packet) => Ok(packet),
-        Err(Detour::OutOfMemory) => Err(MessageFault::Term(TermFault::OutOfMemory)),
-        Err(Detour::OtherForm) => {
-            // What is no term is refused before anything of it is built.
-            check_term(body)?;
-            if !may_be_packet(alloc, body)? {
-                return Err(MessageFault::NotAMessage);
-            }
-            packet(alloc, decode(alloc, body)?)
-        }
+        Err(detour) => detoured_packet(alloc, body, detour),
+    }
+}
+
+/// The packet of a body that was not read straight off it.
+fn detoured_packet(alloc: Global, body: &[u8], detour: Detour) -> Result<Packet, MessageFault>
+    ensures exact { Gives (λ packet. packet) result (packet_spelled body.now) }
+    ensures told { (fault : MessageFault) → packet_spelled body.now ≡ Err fault
+        → NeedsNames body.now ⊎ (result ≡ Err fault) }
+{
+    // What is no packet is refused before anything but names is built.
+    check_term(body)?;
+    check_packet(alloc, body)?;
+    match detour {
+        Detour::OutOfMemory => Err(MessageFault::Term(TermFault::OutOfMemory)),
+        Detour::OtherForm => packet(alloc, decode(alloc, body)?),
     }
 }
 
@@ -113,7 +128,7 @@ fn stamped_message(
     }
 }
 
-fn stamp(term: &Term) -> Result<u32, MessageFault>
+pub(crate) fn stamp(term: &Term) -> Result<u32, MessageFault>
     ensures { result ≡ stamp_of term.now }
 {
     match term {

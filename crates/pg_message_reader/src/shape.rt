@@ -1,10 +1,13 @@
-//! Whether bytes may spell a packet, before anything of it is built: `may_be_packet(alloc, body)?` is false where bytes spell no packet. Begin
-//! with `src/shape/packet.rt`.
+//! Whether bytes spell a packet, before anything of it is built: `check_packet(alloc, body)?` gives the fault of bytes that
+//! spell none. Begin with `src/shape/packet.rt`.
 
 mod groups;
+mod leaves;
 mod packet;
+mod parts;
 mod pids;
 
 pub use groups::may_be_groups;
-pub use packet::{is_atom, may_be_packet};
+pub use packet::check_packet;
+pub use parts::is_atom;
 pub use pids::pid_head;

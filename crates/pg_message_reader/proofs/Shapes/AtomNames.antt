@@ -1,8 +1,8 @@
--- Each atom that is read may be a name.
+-- Atoms and integers that are read: how they are spelled. Each atom may be a name.
 use Rattle.std.proofs.Common.{◌≡◌, ℕ, ℤ, pos, ◌+◌, ◌≤◌, Bool, true, false, cond, List, ◌∷◌, ◌++◌}
-use Rattle.std.proofs.Common.{length, Ok, Err, length-append, subst, ap, ◌∙◌, rules, arith}
-use Rattle.std.specs.Prelude.{nat_lt, nat_le, ◌&&◌}
-use Rattle.std.specs.Int.{w16, w32, cast_signed, to_be_bytes}
+use Rattle.std.proofs.Common.{length, Ok, Err, length-append, refl, subst, ap, ◌∙◌, rules, arith, ◌<◌, ◌^◌, []}
+use Rattle.std.specs.Prelude.{nat_lt, nat_le, ◌&&◌, FitsSigned}
+use Rattle.std.specs.Int.{w16, w32, w64, cast_signed, to_be_bytes}
 use Rattle.std.specs.Str.{encode_utf8_all}
 use Rattle.std.proofs.lemmas.Bool.{le-leb}
 use Rattle.pg_term.specs.declared.pid.Pid.{Pid}
@@ -71,27 +71,77 @@ list_kind ts = search (rules, the_lemmas)
 binary_kind : (content : List ℕ) → kind_of (Binary content) ≡ 6
 binary_kind content = search (rules, the_lemmas)
 
-item_named : (room : ℕ) (t : Term) (b : List ℕ) → Item room t b → kind_of t ≡ 1 → is_name t ≡ true
-item_named _ _ _ (s.Item.atom room a b is) e = atom_named a (few_characters a b is)
-item_named _ _ _ (s.Item.small_integer room n few) e = absurd (omega (arith, int_kind (pos n), e))
-item_named _ _ _ (s.Item.integer room n few) e = absurd (omega (arith, int_kind (cast_signed w32 n), e))
-item_named _ _ _ (s.Item.small_big room sign digits few long fits signed) e = absurd (omega (arith, int_kind (big_value sign digits), e))
-item_named _ _ _ (s.Item.pid room p b is) e = absurd (omega (arith, pid_kind p, e))
-item_named _ _ _ (s.Item.new_pid room p b is) e = absurd (omega (arith, pid_kind p, e))
-item_named _ _ _ (s.Item.old_reference room r b is) e = absurd (omega (arith, ref_kind r, e))
-item_named _ _ _ (s.Item.reference room r b is) e = absurd (omega (arith, ref_kind r, e))
-item_named _ _ _ (s.Item.newer_reference room r b is) e = absurd (omega (arith, ref_kind r, e))
-item_named _ _ _ (s.Item.binary room content few fits) e = absurd (omega (arith, binary_kind content, e))
-item_named _ _ _ (s.Item.small_tuple room ts b few are) e = absurd (omega (arith, tuple_kind ts, e))
-item_named _ _ _ (s.Item.large_tuple room ts b few are) e = absurd (omega (arith, tuple_kind ts, e))
-item_named _ _ _ (s.Item.list room ts b are) e = absurd (omega (arith, list_kind ts, e))
+-- an item that is an atom
+pub record IsAtomItem (t : Term) (b : List ℕ) : Type 0 where
+  pub characters : List ℕ
+  pub is : t ≡ Atom characters
+  pub spelled : IsAtom characters b
 
-by_read : (room : ℕ) (bytes : List ℕ) (read : Read Term) (t : Term) (rest : List ℕ) → Right (Item room) (BreaksItem room) bytes read → read ≡ Ok (t, rest) → kind_of t ≡ 1 → is_name t ≡ true
-by_read room bytes (Ok x) t rest h e one =
-    let text : Took (Item room) bytes x = h in
-    let same : x.0 ≡ t = cc in
-    subst (λ (t : Term). is_name t ≡ true) same (item_named room x.0 text.text text.is (ap kind_of same ∙ one))
-by_read room bytes (Err f) t rest h e one = absurd cc
+item_atom : (room : ℕ) (t : Term) (b : List ℕ) → Item room t b → kind_of t ≡ 1 → IsAtomItem t b
+item_atom _ _ _ (s.Item.atom room a b is) e = record { characters = a; is = refl; spelled = is }
+item_atom _ _ _ (s.Item.small_integer room n few) e = absurd (omega (arith, int_kind (pos n), e))
+item_atom _ _ _ (s.Item.integer room n few) e = absurd (omega (arith, int_kind (cast_signed w32 n), e))
+item_atom _ _ _ (s.Item.small_big room sign digits few long fits signed) e = absurd (omega (arith, int_kind (big_value sign digits), e))
+item_atom _ _ _ (s.Item.pid room p b is) e = absurd (omega (arith, pid_kind p, e))
+item_atom _ _ _ (s.Item.new_pid room p b is) e = absurd (omega (arith, pid_kind p, e))
+item_atom _ _ _ (s.Item.old_reference room r b is) e = absurd (omega (arith, ref_kind r, e))
+item_atom _ _ _ (s.Item.reference room r b is) e = absurd (omega (arith, ref_kind r, e))
+item_atom _ _ _ (s.Item.newer_reference room r b is) e = absurd (omega (arith, ref_kind r, e))
+item_atom _ _ _ (s.Item.binary room content few fits) e = absurd (omega (arith, binary_kind content, e))
+item_atom _ _ _ (s.Item.small_tuple room ts b few are) e = absurd (omega (arith, tuple_kind ts, e))
+item_atom _ _ _ (s.Item.large_tuple room ts b few are) e = absurd (omega (arith, tuple_kind ts, e))
+item_atom _ _ _ (s.Item.list room ts b are) e = absurd (omega (arith, list_kind ts, e))
+
+-- an item that is an integer
+pub data IsInt : Term → List ℕ → Type 0 where
+  byte : (n : ℕ) → IsInt (Int (pos n)) (97 ∷ n ∷ [])
+  word : (n : ℕ) → n < 2 ^ 32 → IsInt (Int (cast_signed w32 n)) (98 ∷ to_be_bytes w32 n)
+  big : (sign : ℕ) (digits : List ℕ) → FitsSigned w64 (big_value sign digits) → IsInt (Int (big_value sign digits)) (110 ∷ length digits ∷ sign ∷ digits)
+
+atom_kind : (a : List ℕ) → kind_of (Atom a) ≡ 1
+atom_kind a = search (rules, the_lemmas)
+
+item_int : (room : ℕ) (t : Term) (b : List ℕ) → Item room t b → kind_of t ≡ 0 → IsInt t b
+item_int _ _ _ (s.Item.small_integer room n few) e = byte n
+item_int _ _ _ (s.Item.integer room n few) e = word n few
+item_int _ _ _ (s.Item.small_big room sign digits few long fits signed) e = big sign digits signed
+item_int _ _ _ (s.Item.atom room a b is) e = absurd (omega (arith, atom_kind a, e))
+item_int _ _ _ (s.Item.pid room p b is) e = absurd (omega (arith, pid_kind p, e))
+item_int _ _ _ (s.Item.new_pid room p b is) e = absurd (omega (arith, pid_kind p, e))
+item_int _ _ _ (s.Item.old_reference room r b is) e = absurd (omega (arith, ref_kind r, e))
+item_int _ _ _ (s.Item.reference room r b is) e = absurd (omega (arith, ref_kind r, e))
+item_int _ _ _ (s.Item.newer_reference room r b is) e = absurd (omega (arith, ref_kind r, e))
+item_int _ _ _ (s.Item.binary room content few fits) e = absurd (omega (arith, binary_kind content, e))
+item_int _ _ _ (s.Item.small_tuple room ts b few are) e = absurd (omega (arith, tuple_kind ts, e))
+item_int _ _ _ (s.Item.large_tuple room ts b few are) e = absurd (omega (arith, tuple_kind ts, e))
+item_int _ _ _ (s.Item.list room ts b are) e = absurd (omega (arith, list_kind ts, e))
+
+-- what an item at the front of the bytes is
+pub record Stood (P : Term → List ℕ → Type 0) (bytes : List ℕ) (t : Term) (rest : List ℕ) : Type 0 where
+  pub text : List ℕ
+  pub parts : bytes ≡ text ++ rest
+  pub is : P t text
+
+module _ (P : Term → List ℕ → Type 0) (kind : ℕ) (item : (room : ℕ) (t : Term) (b : List ℕ) → Item room t b → kind_of t ≡ kind → P t b) where
+  stood_by : (room : ℕ) (bytes : List ℕ) (read : Read Term) (t : Term) (rest : List ℕ) → Right (Item room) (BreaksItem room) bytes read → read ≡ Ok (t, rest) → kind_of t ≡ kind → Stood P bytes t rest
+  stood_by room bytes (Ok x) t rest h e one =
+      let text : Took (Item room) bytes x = h in
+      let same : x ≡ (t, rest) = cc in
+      let term : x.0 ≡ t = ap (λ (p : Term × List ℕ). p.0) same in
+      let end : x.1 ≡ rest = ap (λ (p : Term × List ℕ). p.1) same in
+      record { text = text.text; parts = text.parts ∙ ap (λ (r : List ℕ). text.text ++ r) end; is = subst (λ (u : Term). P u text.text) term (item room x.0 text.text text.is (ap kind_of term ∙ one)) }
+  stood_by room bytes (Err f) t rest h e one = absurd cc
+
+  stood : (room : ℕ) (bytes : List ℕ) (t : Term) (rest : List ℕ) → EachByte bytes → item_at room bytes ≡ Ok (t, rest) → kind_of t ≡ kind → Stood P bytes t rest
+  stood room bytes t rest fits e one = stood_by room bytes (item_at room bytes) t rest ((levels room).0 bytes fits) e one
+
+pub atom_there : (room : ℕ) (bytes : List ℕ) (t : Term) (rest : List ℕ) → EachByte bytes → item_at room bytes ≡ Ok (t, rest) → kind_of t ≡ 1 → Stood IsAtomItem bytes t rest
+atom_there = stood IsAtomItem 1 item_atom
+
+pub int_there : (room : ℕ) (bytes : List ℕ) (t : Term) (rest : List ℕ) → EachByte bytes → item_at room bytes ≡ Ok (t, rest) → kind_of t ≡ 0 → Stood IsInt bytes t rest
+int_there = stood IsInt 0 item_int
 
 pub atom_read : (room : ℕ) (bytes : List ℕ) (t : Term) (rest : List ℕ) → EachByte bytes → item_at room bytes ≡ Ok (t, rest) → kind_of t ≡ 1 → is_name t ≡ true
-atom_read room bytes t rest fits e one = by_read room bytes (item_at room bytes) t rest ((levels room).0 bytes fits) e one
+atom_read room bytes t rest fits e one =
+    let there = atom_there room bytes t rest fits e one in
+    ap is_name there.is.is ∙ atom_named there.is.characters (few_characters there.is.characters there.text there.is.spelled)

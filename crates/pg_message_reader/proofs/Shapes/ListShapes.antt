@@ -76,7 +76,7 @@ module _ {A : Type 0} (each : Term → Option A) where
   first_none t ts why = ap (option_and_then (λ x. option_map (λ xs. x ∷ xs) (read_each each ts))) why
 
   -- behind what is something
-  behind_some : (o : Option A) (others : Option (List A)) → is_some o ≡ true → is_some (option_and_then (λ x. option_map (λ xs. x ∷ xs) others) o) ≡ is_some others
+  pub behind_some : (o : Option A) (others : Option (List A)) → is_some o ≡ true → is_some (option_and_then (λ x. option_map (λ xs. x ∷ xs) others) o) ≡ is_some others
   behind_some (Some x) (Some xs) e = refl
   behind_some (Some x) None e = refl
   behind_some None others e = absurd cc
@@ -167,16 +167,22 @@ pub record IsListed (room : ℕ) (bytes : List ℕ) (t : Term) (rest : List ℕ)
   pub elements : List Term
   pub read : list_from room 0 bytes ≡ Ok (elements, rest)
   pub same : group_of t ≡ group_in elements
+  pub items : items_of t ≡ Some elements
 
 pub group_is : (room : ℕ) (bytes : List ℕ) (t : Term) (rest : List ℕ) → item_at room bytes ≡ Ok (t, rest) → kind_of t ≡ 5 → IsListed room bytes t rest
 group_is room bytes t rest e five =
     let list = is_list room bytes t rest e five in
-    record { elements = list.elements; read = list.read; same = ap group_of list.is ∙ ap (option_and_then group_in) (items_is list.elements) }
+    record { elements = list.elements; read = list.read; same = ap group_of list.is ∙ ap (option_and_then group_in) (items_is list.elements); items = ap items_of list.is ∙ items_is list.elements }
 
 -- what is told of what is found, and of what is not, for other reasons
 pub told : {X : Type 0} (r : Option X) (P : X → Type 0) (Q : Type 0) {A B C : Type 0} → (A → B) → (Q → C) → MatchOption r A (λ x. P x × Q) → MatchOption r B (λ x. P x × C)
 told None P Q f g h = f h
 told (Some x) P Q f g h = (h.0, g h.1)
+
+-- whether something was found tells a truth
+pub matched : {X : Type 0} (o : Option X) (b : Bool) (P : X → Type 0) → MatchOption o (b ≡ false) P → ((x : X) → P x → b ≡ true) → is_some o ≡ b
+matched (Some x) b P h proves = sym (proves x h)
+matched None b P h proves = sym h
 
 -- what is known of what was found, and of what was not
 pub at_some : {X : Type 0} (r : Option X) (x : X) (A : Type 0) (P : X → Type 0) → r ≡ Some x → MatchOption r A P → P x

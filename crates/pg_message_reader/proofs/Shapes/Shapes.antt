@@ -115,69 +115,6 @@ three read bytes ts rest e =
       third = q.second;
     }
 
--- ---- parts that hold others
-
-module _ (t : Term) (many : 4 ≤ kind_of t) where
-  pub no_word : (w : List ℕ) → is_word t w ≡ false
-  no_word w = at (out-Term t) many
-    where
-      at : (l : Term-F Term) → 4 ≤ kind_step l → text_in l w ≡ false
-      at (Term-F.Atom a) h = absurd (omega arith)
-      at (Term-F.Int z) h = refl
-      at (Term-F.Ref r) h = refl
-      at (Term-F.Pid p) h = refl
-      at (Term-F.Tuple ts) h = refl
-      at (Term-F.List ts) h = refl
-      at (Term-F.Binary content) h = refl
-
-  pub no_atom : atom_of t ≡ None
-  no_atom = at (out-Term t) many
-    where
-      at : (l : Term-F Term) → 4 ≤ kind_step l → atom_in l ≡ None
-      at (Term-F.Atom a) h = absurd (omega arith)
-      at (Term-F.Int z) h = refl
-      at (Term-F.Ref r) h = refl
-      at (Term-F.Pid p) h = refl
-      at (Term-F.Tuple ts) h = refl
-      at (Term-F.List ts) h = refl
-      at (Term-F.Binary content) h = refl
-
-  pub no_reference : reference_of t ≡ None
-  no_reference = at (out-Term t) many
-    where
-      at : (l : Term-F Term) → 4 ≤ kind_step l → reference_in l ≡ None
-      at (Term-F.Ref r) h = absurd (omega arith)
-      at (Term-F.Int z) h = refl
-      at (Term-F.Atom a) h = refl
-      at (Term-F.Pid p) h = refl
-      at (Term-F.Tuple ts) h = refl
-      at (Term-F.List ts) h = refl
-      at (Term-F.Binary content) h = refl
-
-  pub no_pid : pid_of t ≡ None
-  no_pid = at (out-Term t) many
-    where
-      at : (l : Term-F Term) → 4 ≤ kind_step l → pid_in l ≡ None
-      at (Term-F.Pid p) h = absurd (omega arith)
-      at (Term-F.Int z) h = refl
-      at (Term-F.Atom a) h = refl
-      at (Term-F.Ref r) h = refl
-      at (Term-F.Tuple ts) h = refl
-      at (Term-F.List ts) h = refl
-      at (Term-F.Binary content) h = refl
-
-  pub no_stamp : stamp_of t ≡ Err faults.NotAMessage
-  no_stamp = at (out-Term t) many
-    where
-      at : (l : Term-F Term) → 4 ≤ kind_step l → stamp_in l ≡ Err faults.NotAMessage
-      at (Term-F.Int z) h = absurd (omega arith)
-      at (Term-F.Atom a) h = refl
-      at (Term-F.Ref r) h = refl
-      at (Term-F.Pid p) h = refl
-      at (Term-F.Tuple ts) h = refl
-      at (Term-F.List ts) h = refl
-      at (Term-F.Binary content) h = refl
-
 -- what is no tuple has no elements
 pub no_elements : (t : Term) → kind_of t ≢ 4 → elements_of t ≡ None
 no_elements t other = at (out-Term t) other
@@ -210,112 +147,6 @@ pub none_if : {A : Type 0} (b : Bool) (o p : Option A) → o ≡ None → p ≡ 
 none_if true o p h k = h
 none_if false o p h k = k
 
-pub none_after : {A B : Type 0} (f : A → Option B) (o : Option A) → ((x : A) → f x ≡ None) → option_and_then f o ≡ None
-none_after f (Some x) h = h x
-none_after f None h = refl
-
--- ---- ways that all lead to true
-
-pub both_true : (a b : Bool) → a ≡ true → b ≡ true → a && b ≡ true
-both_true a b h k = (λ i. h i && k i)
-
-pub true_behind : (a b : Bool) → b ≡ true → a || b ≡ true
-true_behind true b h = refl
-true_behind false b h = h
-
-pub true_before : (a b : Bool) → a ≡ true → a || b ≡ true
-true_before a b h = (λ i. h i || b)
-
--- ---- requests
-
-request_no_word : (w n : Term) → 4 ≤ kind_of w → request_on w n ≡ None
-request_no_word w n many = (λ i. cond (no_word w many (codes "set_lock") i) (Some (SetLock n)) (cond (no_word w many (codes "create") i) (Some (Change (Create n))) (cond (no_word w many (codes "delete") i) (Some (Change (Delete n))) None)))
-
-membership_no_word : (w n : Term) (p : Pid) → 4 ≤ kind_of w → membership_of w n p ≡ None
-membership_no_word w n p many = (λ i. cond (no_word w many (codes "join") i) (Some (Change (Join n p))) (cond (no_word w many (codes "leave") i) (Some (Change (Leave n p))) None))
-
-module _ (w n : Term) where
-  pub pair_no_word : 4 ≤ kind_of w → request_in (w ∷ n ∷ []) ≡ None
-  pair_no_word many = none_if (is_name n) (request_on w n) None (request_no_word w n many) refl
-
-  pub pair_no_name : is_name n ≡ false → request_in (w ∷ n ∷ []) ≡ None
-  pair_no_name why = ap (λ (b : Bool). cond b (request_on w n) None) why
-
-  module _ (m : Term) where
-    pub triple_no_word : 4 ≤ kind_of w → request_in (w ∷ n ∷ m ∷ []) ≡ None
-    triple_no_word many = none_if (is_name n) (option_and_then (membership_of w n) (pid_of m)) None (none_after (membership_of w n) (pid_of m) (λ p. membership_no_word w n p many)) refl
-
-    pub triple_no_name : is_name n ≡ false → request_in (w ∷ n ∷ m ∷ []) ≡ None
-    triple_no_name why = ap (λ (b : Bool). cond b (option_and_then (membership_of w n) (pid_of m)) None) why
-
-    pub triple_no_pid : 4 ≤ kind_of m → request_in (w ∷ n ∷ m ∷ []) ≡ None
-    triple_no_pid many = none_if (is_name n) (option_and_then (membership_of w n) (pid_of m)) None (ap (option_and_then (membership_of w n)) (no_pid m many)) refl
-
--- ---- casts
-
-module _ (w first second : Term) where
-  pub cast_no_word : 4 ≤ kind_of w → cast_in (w ∷ first ∷ second ∷ []) ≡ None
-  cast_no_word many = (λ i. cond (no_word w many (codes "del_lock") i) (freed first second) (cond (no_word w many (codes "exchange") i) (read_exchange first second) None))
-
-  pub cast_no_first : 4 ≤ kind_of first → is_name first ≡ false → cast_in (w ∷ first ∷ second ∷ []) ≡ None
-  cast_no_first many why =
-      none_if (is_word w (codes "del_lock")) (freed first second) (cond (is_word w (codes "exchange")) (read_exchange first second) None)
-      (ap (λ (b : Bool). cond b (option_map (DelLock first) (reference_of second)) None) why)
-      (none_if (is_word w (codes "exchange")) (read_exchange first second) None (ap (option_and_then (λ node. option_map (Exchange node) (groups_of second))) (no_atom first many)) refl)
-
-  pub cast_no_second : 4 ≤ kind_of second → groups_of second ≡ None → cast_in (w ∷ first ∷ second ∷ []) ≡ None
-  cast_no_second many why =
-      none_if (is_word w (codes "del_lock")) (freed first second) (cond (is_word w (codes "exchange")) (read_exchange first second) None)
-      (none_if (is_name first) (option_map (DelLock first) (reference_of second)) None (ap (option_map (DelLock first)) (no_reference second many)) refl)
-      (none_if (is_word w (codes "exchange")) (read_exchange first second) None
-      (none_after (λ node. option_map (Exchange node) (groups_of second)) (atom_of first) (λ node. ap (option_map (Exchange node)) why))
-      refl)
-
--- ---- messages
-
-module _ (w said : Term) where
-  pub said_no_word : 4 ≤ kind_of w → message_in (w ∷ said ∷ []) ≡ None
-  said_no_word many = (λ i. cond (no_word w many (codes "cast") i) (cast_of said) (cond (no_word w many (codes "down") i) (option_map Down (pid_of said)) None))
-
-  pub said_nothing : 4 ≤ kind_of said → cast_of said ≡ None → message_in (w ∷ said ∷ []) ≡ None
-  said_nothing many why =
-      none_if (is_word w (codes "cast")) (cast_of said) (cond (is_word w (codes "down")) (option_map Down (pid_of said)) None) why
-      (none_if (is_word w (codes "down")) (option_map Down (pid_of said)) None (ap (option_map Down) (no_pid said many)) refl)
-
-reply_nothing : (said : Term) → 4 ≤ kind_of said → said_of said ≡ None
-reply_nothing said many = (λ i. cond (no_word said many (codes "true") i) (Some Granted) (cond (no_word said many (codes "false") i) (Some Denied) (cond (no_word said many (codes "ok") i) (Some Applied) None)))
-
-module _ (w r said : Term) where
-  pub referred_no_word : 4 ≤ kind_of w → message_in (w ∷ r ∷ said ∷ []) ≡ None
-  referred_no_word many =
-      none_after (λ r. referred w r said) (reference_of r)
-      (λ r. (λ i. cond (no_word w many (codes "call") i) (option_map (Call r) (request_of said)) (cond (no_word w many (codes "reply") i) (option_map (Reply r) (said_of said)) None)))
-
-  pub referred_no_reference : 4 ≤ kind_of r → message_in (w ∷ r ∷ said ∷ []) ≡ None
-  referred_no_reference many = ap (option_and_then (λ r. referred w r said)) (no_reference r many)
-
-  pub referred_nothing : 4 ≤ kind_of said → request_of said ≡ None → message_in (w ∷ r ∷ said ∷ []) ≡ None
-  referred_nothing many why =
-      none_after (λ r. referred w r said) (reference_of r)
-      (λ r. none_if (is_word w (codes "call")) (option_map (Call r) (request_of said)) (cond (is_word w (codes "reply")) (option_map (Reply r) (said_of said)) None)
-      (ap (option_map (Call r)) why)
-      (none_if (is_word w (codes "reply")) (option_map (Reply r) (said_of said)) None (ap (option_map (Reply r)) (reply_nothing said many)) refl))
-
--- ---- packets
-
-module _ (s m : Term) where
-  abbrev NoPacket : List Term → Type 0
-  NoPacket ts = packet_in (Some ts) ≡ Err faults.NotAMessage
-
-  pub packet_no_stamp : 4 ≤ kind_of s → NoPacket (s ∷ m ∷ [])
-  packet_no_stamp many = ap (stamped_message (message_of m)) (no_stamp s many) ∙ either (message_of m)
-    where
-      either : (o : Option Message) → stamped_message o (Err faults.NotAMessage) ≡ Err faults.NotAMessage
-      either None = refl
-      either (Some message) = refl
-
-  pub packet_no_message : message_of m ≡ None → NoPacket (s ∷ m ∷ [])
-  packet_no_message why = ap (λ (o : Option Message). stamped_message o (stamp_of s)) why
 
 -- ---- tuples
 
@@ -343,19 +174,24 @@ module _ (room n : ℕ) (bytes mid : List ℕ) (head : item_at (suc room) bytes 
   elements_are : elements_of t ≡ Some is_tuple.terms
   elements_are = ap elements_of is_tuple.is ∙ elements_is is_tuple.terms
 
-  module _ {A : Type 0} (within : Option (List Term) → A) (none : A) where
-    pub no_pair : n ≡ 2 → ((a b : Term) (then : List ℕ) → item_at room mid ≡ Ok (a, then) → item_at room then ≡ Ok (b, rest) → within (Some (a ∷ b ∷ [])) ≡ none) → within (elements_of t) ≡ none
-    no_pair count why =
+  module _ (P : Option (List Term) → Type 0) where
+    pub by_pair : n ≡ 2 → ((a b : Term) (then : List ℕ) → item_at room mid ≡ Ok (a, then) → item_at room then ≡ Ok (b, rest) → P (Some (a ∷ b ∷ []))) → P (elements_of t)
+    by_pair count why =
         let p = two (item_at room) mid is_tuple.terms rest (subst (λ (n : ℕ). items_at (item_at room) n mid ≡ Ok (is_tuple.terms, rest)) count is_tuple.read) in
-        ap within (elements_are ∙ ap Some p.are) ∙ why p.a p.b p.mid p.first p.second
+        subst P (sym (elements_are ∙ ap Some p.are)) (why p.a p.b p.mid p.first p.second)
 
-    pub no_triple : n ≡ 3 → ((a b c : Term) (then last : List ℕ) → item_at room mid ≡ Ok (a, then) → item_at room then ≡ Ok (b, last) → item_at room last ≡ Ok (c, rest) → within (Some (a ∷ b ∷ c ∷ [])) ≡ none) → within (elements_of t) ≡ none
-    no_triple count why =
+    pub by_triple : n ≡ 3 → ((a b c : Term) (then last : List ℕ) → item_at room mid ≡ Ok (a, then) → item_at room then ≡ Ok (b, last) → item_at room last ≡ Ok (c, rest) → P (Some (a ∷ b ∷ c ∷ []))) → P (elements_of t)
+    by_triple count why =
         let p = three (item_at room) mid is_tuple.terms rest (subst (λ (n : ℕ). items_at (item_at room) n mid ≡ Ok (is_tuple.terms, rest)) count is_tuple.read) in
-        ap within (elements_are ∙ ap Some p.are) ∙ why p.a p.b p.c p.mid p.then p.first p.second p.third
+        subst P (sym (elements_are ∙ ap Some p.are)) (why p.a p.b p.c p.mid p.then p.first p.second p.third)
 
-    pub no_other : ((ts : List Term) → length ts ≡ n → within (Some ts) ≡ none) → within (elements_of t) ≡ none
-    no_other why = ap within elements_are ∙ why is_tuple.terms (count_is (item_at room) n mid is_tuple.terms rest is_tuple.read)
+    pub by_other : ((ts : List Term) → length ts ≡ n → P (Some ts)) → P (elements_of t)
+    by_other why = subst P (sym elements_are) (why is_tuple.terms (count_is (item_at room) n mid is_tuple.terms rest is_tuple.read))
+
+-- what is no tuple
+pub by_none : (P : Option (List Term) → Type 0) (t : Term) → kind_of t ≢ 4 → P None → P (elements_of t)
+by_none P t other why = subst P (sym (no_elements t other)) why
+
 
 -- tuples of other lengths are nothing
 pub packet_other : (ts : List Term) → length ts ≢ 2 → packet_in (Some ts) ≡ Err faults.NotAMessage

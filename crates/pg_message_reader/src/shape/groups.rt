@@ -1,56 +1,56 @@
-//! Whether the last part of an exchange may announce groups, none of them named twice. Its bytes are walked over
+//! Whether the last part of an exchange announces groups, none of them named twice. Its bytes are walked over
 //! once: each walk over a part gives what follows it. No member is built; a name is, to see whether it is one, but
 //! for an atom.
 
-ghost use Rattle.std.specs.Prelude.{◌≡◌, ◌≢◌, ◌<◌, ◌≤◌, ℕ, Bool, List, [], ◌∷◌, length, true};
-ghost use Rattle.std.specs.Prelude.{false, is_some, Ok, Some, None, IfOk, IfSome, MatchOption};
+ghost use Rattle.std.specs.Prelude.{◌≡◌, ◌≢◌, ◌<◌, ◌≤◌, ◌&&◌, ℕ, List, [], ◌∷◌, length, true};
+ghost use Rattle.std.specs.Prelude.{false, is_some, Ok, None, IfOk, IfSome, OnErr, MatchOption};
 ghost use Rattle.pg_term.specs.declared.term.Term.{Term};
 ghost use Rattle.pg_term.specs.Order.{kind_of};
 ghost use Rattle.pg_message_types.specs.PgTermIo.Lists.{list_from};
 ghost use Rattle.pg_message_types.specs.PgTermIo.Reading.{item_at};
 ghost use Rattle.pg_message_types.specs.Name.{is_name};
 ghost use Rattle.pg_message_types.specs.Reading.{group_in, group_of, groups_of};
-ghost use Rattle.pg_message_reader.specs.Shapes.Shape.{listed_of};
+ghost use Rattle.pg_message_reader.specs.Names.{Tells, names_of_groups};
+ghost use Rattle.pg_message_reader.specs.Shapes.Groups.{Sees, FirstNames, BuildsFirst};
 
-mod names;
+pub(crate) mod names;
 
 use crate::shape::groups::names::{Name, are_apart, checked_name};
 use crate::shape::pids::past_pids;
 use pg_message_types::{Kind, NextElement, kind_at, next_element};
 use std::alloc::{AllocError, Global};
 
-/// Whether a part may be a list of groups, none of them named twice.
+/// Whether a part is a list of groups, none of them named twice.
 ///
-/// Errors: `AllocError`.
+/// Errors: `AllocError`, where a name is no atom, or the names do not ascend in the order of terms.
 ///
 /// Cost: where names ascend in the order of terms, as a node announces them, two of them are kept at a time, and of
 /// atoms none; else the groups are walked over again, and all names kept.
 pub fn may_be_groups(alloc: Global, levels: u8, bytes: &[u8]) -> Result<bool, AllocError>
     requires { levels ≤ 64 }
-    // What is refused announces no groups, or one of them twice.
-    ensures refused { (t : Term) (rest : List ℕ) → result ≡ Ok false
-        → item_at levels bytes.now ≡ Ok (t, rest) → groups_of t ≡ None }
-    // What is not lists groups.
-    ensures listed { (t : Term) (rest : List ℕ) → result ≡ Ok true
-        → item_at levels bytes.now ≡ Ok (t, rest) → is_some (listed_of t) ≡ true }
+    ensures { (t : Term) (rest : List ℕ) → item_at levels bytes.now ≡ Ok (t, rest)
+        → Tells (names_of_groups t) (is_some (groups_of t)) result }
 {
     if !is_list(bytes) {
         return Ok(false);
     }
     match do_ascend(alloc, levels, bytes)? {
         None => Ok(false),
-        Some(true) => Ok(true),
-        Some(false) => are_apart(alloc, levels, bytes),
+        Some(ascend) => {
+            if ascend {
+                Ok(true)
+            } else {
+                are_apart(alloc, levels, bytes)
+            }
+        }
     }
 }
 
 /// Whether the names of groups are seen to ascend; `None` for what is no list of groups.
 fn do_ascend(alloc: Global, levels: u8, bytes: &[u8]) -> Result<Option<bool>, AllocError>
     requires { levels ≤ 64 }
-    ensures none { (t : Term) (rest : List ℕ) → result ≡ Ok None → item_at levels bytes.now ≡ Ok (t, rest)
-        → kind_of t ≡ 5 → listed_of t ≡ None }
-    ensures some { (t : Term) (rest : List ℕ) (ascend : Bool) → result ≡ Ok (Some ascend)
-        → item_at levels bytes.now ≡ Ok (t, rest) → kind_of t ≡ 5 → is_some (listed_of t) ≡ true }
+    ensures { (t : Term) (rest : List ℕ) → item_at levels bytes.now ≡ Ok (t, rest)
+        → kind_of t ≡ 5 → Sees t result }
 {
     let mut last = None;
     do_rise(alloc, &mut last, levels, bytes)
@@ -63,11 +63,10 @@ fn do_rise<'a>(
     levels: u8,
     bytes: &'a [u8],
 ) -> Result<Option<bool>, AllocError>
-    requires { levels ≤ 64 }
-    ensures none { (t : Term) (rest : List ℕ) → result ≡ Ok None → item_at levels bytes.now ≡ Ok (t, rest)
-        → kind_of t ≡ 5 → listed_of t ≡ None }
-    ensures some { (t : Term) (rest : List ℕ) (ascend : Bool) → result ≡ Ok (Some ascend)
-        → item_at levels bytes.now ≡ Ok (t, rest) → kind_of t ≡ 5 → is_some (listed_of t) ≡ true }
+    requires shallow { levels ≤ 64 }
+    requires none { last.old ≡ None }
+    ensures { (t : Term) (rest : List ℕ) → item_at levels bytes.now ≡ Ok (t, rest)
+        → kind_of t ≡ 5 → Sees t result }
 {
     let mut ascend = true;
     let mut room = levels;
@@ -79,7 +78,8 @@ fn do_rise<'a>(
                 let Some((name, behind)) = past_group(alloc, below, group)? else {
                     return Ok(None);
                 };
-                ascend &= name.follows(last);
+                let greater = name.follows(last);
+                ascend = both(ascend, greater);
                 room = below;
                 count = more;
                 left = behind;
@@ -88,6 +88,12 @@ fn do_rise<'a>(
             NextElement::NoItem => return Ok(None),
         }
     }
+}
+
+fn both(first: bool, second: bool) -> bool
+    ensures { result ≡ (first && second) }
+{
+    first && second
 }
 
 // [Name, Members]
@@ -100,7 +106,10 @@ fn past_group(
     requires { levels ≤ 64 }
     ensures group { (t : Term) (rest : List ℕ) → item_at levels bytes.now ≡ Ok (t, rest) → IfOk result (λ found.
         MatchOption found (group_of t ≡ None)
-        (λ x. (rest ≡ x.1.now) × (is_some (group_of t) ≡ true))) }
+        (λ x. (rest ≡ x.1.now) × (is_some (group_of t) ≡ true) × FirstNames x.0 t)) }
+    // Memory is taken for other names than atoms alone.
+    ensures built { (t : Term) (rest : List ℕ) → item_at levels bytes.now ≡ Ok (t, rest)
+        → OnErr result (BuildsFirst t) }
     ensures shorter { IfOk result (λ found. IfSome found (λ x. length x.1.now < length bytes.now)) }
 {
     if !is_list(bytes) {

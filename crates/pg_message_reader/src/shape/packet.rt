@@ -1,199 +1,226 @@
-//! Whether bytes may spell a packet, with memory for the names in an exchange alone: what has not the shape of one is
-//! refused before anything else of it is built. A part that holds others is a tuple, a list or a binary; all others
-//! are small.
+//! Whether bytes spell a packet, with memory for names alone: for those that are no atoms, and those of an exchange
+//! that do not ascend. Nothing else of a body is built.
 
-ghost use Rattle.std.specs.Prelude.{◌≡◌, ◌<◌, ◌≤◌, ℕ, List, [], ◌∷◌, length, true, false, ◌||◌};
-ghost use Rattle.std.specs.Prelude.{is_some, nat_eq, IfSome, IfNone, Ok, Err, Some, None};
+ghost use Rattle.std.specs.Prelude.{◌≡◌, ◌∷◌, [], ℕ, List, Some, Ok, is_some};
+ghost use Rattle.pg_term.specs.declared.pid.Pid.{Pid};
 ghost use Rattle.pg_term.specs.declared.term.Term.{Term};
-ghost use Rattle.pg_term.specs.Order.{kind_of};
 ghost use Rattle.pg_message_types.specs.PgTermIo.Reading.{item_at, term_of};
-ghost use Rattle.pg_message_types.specs.PgTermIo.Scanning.{past};
-ghost use Rattle.pg_message_types.specs.Name.{is_name};
 ghost use Rattle.pg_message_types.specs.Parts.{elements_of};
-ghost use Rattle.pg_message_types.specs.Reading.{message_in, cast_in, cast_of, groups_of};
-ghost use Rattle.pg_message_types.specs.Reading.{request_in, request_of, message_of, packet_of};
-ghost use Rattle.pg_message_reader.specs.Shapes.Shape.{is_small, listed_of, request_shape, cast_shape};
-ghost use Rattle.pg_message_reader.specs.Shapes.Shape.{message_shape, packet_shape, has_shape};
+ghost use Rattle.pg_message_types.specs.Reading.{request_on, membership_of};
+ghost use Rattle.pg_message_types.specs.Reading.{request_in, request_of, message_in, message_of, cast_in, cast_of};
+ghost use Rattle.pg_message_types.specs.Reading.{freed, read_exchange, said_of, stamp_of, packet_in, packet_of};
+ghost use Rattle.pg_message_reader.specs.Names.{Tells, Checks, Judges, all_in, names_of_packet, names_of_message};
+ghost use Rattle.pg_message_reader.specs.Names.{names_of_cast, names_of_groups, names_of_request};
 
+use crate::reading::stamp;
 use crate::shape::groups::may_be_groups;
-use pg_message_types::{Kind, MAX_NAME_LEN, MessageFault, kind_at, skip_item, tuple_at};
+use crate::shape::groups::names::is_name_at;
+use crate::shape::leaves::{int_at, is_word};
+use crate::shape::parts::{is_atom, is_int, is_pid, is_reference, past};
+use pg_message_types::{MessageFault, tuple_at};
+use pg_term::Term;
 use std::alloc::{AllocError, Global};
 
-/// How many bytes a name takes at most, however it is spelled: 400 times as many as it is written in.
-const MAX_SPELLED_NAME: usize = 400 * (MAX_NAME_LEN - 1);
-
-/// Whether a part is an atom. Each atom may be a name.
+/// Whether the term of a body is a packet: its fault, if it has one. Of a body that spells no term nothing is said.
 ///
-/// Cost: no memory; O(1).
-pub fn is_atom(bytes: &[u8]) -> bool
-    ensures { (room : ℕ) (t : Term) (rest : List ℕ) → item_at room bytes.now ≡ Ok (t, rest)
-        → result ≡ nat_eq (kind_of t) 1 }
-{
-    match kind_at(bytes) {
-        Some(Kind::Atom) => true,
-        _ => false,
-    }
-}
-
-/// Whether a part holds no others.
-fn is_small(bytes: &[u8]) -> bool
-    ensures many { (room : ℕ) (t : Term) (rest : List ℕ) → result ≡ false
-        → item_at room bytes.now ≡ Ok (t, rest) → 4 ≤ kind_of t }
-    ensures small { (room : ℕ) (t : Term) (rest : List ℕ) → result ≡ true
-        → item_at room bytes.now ≡ Ok (t, rest) → is_small t ≡ true }
-{
-    match kind_at(bytes) {
-        Some(Kind::Tuple | Kind::List | Kind::Binary) | None => false,
-        Some(_) => true,
-    }
-}
-
-/// What follows a part that holds no others; `None` for one that does.
-fn past_small(levels: u8, bytes: &[u8]) -> Option<&[u8]>
-    requires { levels ≤ 64 }
-    ensures some { IfSome result (λ rest. past (item_at levels bytes.now) ≡ Ok rest.now) }
-    ensures small { (t : Term) (rest : List ℕ) → IfSome result (λ behind.
-        item_at levels bytes.now ≡ Ok (t, rest) → is_small t ≡ true) }
-    ensures none { (t : Term) (rest : List ℕ) → IfNone result
-        (item_at levels bytes.now ≡ Ok (t, rest) → 4 ≤ kind_of t) }
-{
-    if !is_small(bytes) {
-        return None;
-    }
-    match skip_item(levels, bytes) {
-        Ok(rest) => Some(rest),
-        Err(_) => None,
-    }
-}
-
-/// What follows a part that may be a name by its length; `None` for what is none.
-pub(crate) fn past_name(levels: u8, bytes: &[u8]) -> Option<&[u8]>
-    requires { levels ≤ 64 }
-    ensures some { IfSome result (λ rest. past (item_at levels bytes.now) ≡ Ok rest.now) }
-    ensures none { (t : Term) (rest : List ℕ) → IfNone result
-        (item_at levels bytes.now ≡ Ok (t, rest) → is_name t ≡ false) }
-    ensures shorter { IfSome result (λ rest. length rest.now < length bytes.now) }
-{
-    match skip_item(levels, bytes) {
-        Ok(rest) if bytes.len().saturating_sub(rest.len()) <= MAX_SPELLED_NAME => Some(rest),
-        _ => None,
-    }
-}
-
-/// What follows a part that holds no others, or may be a name by its length.
-fn past_first(bytes: &[u8]) -> Option<&[u8]>
-    ensures some { IfSome result (λ rest. past (item_at 61 bytes.now) ≡ Ok rest.now) }
-    ensures many { (t : Term) (rest : List ℕ) → IfNone result
-        (item_at 61 bytes.now ≡ Ok (t, rest) → 4 ≤ kind_of t) }
-    ensures name { (t : Term) (rest : List ℕ) → IfNone result
-        (item_at 61 bytes.now ≡ Ok (t, rest) → is_name t ≡ false) }
-{
-    match past_small(61, bytes) {
-        Some(rest) => Some(rest),
-        None => past_name(61, bytes),
-    }
-}
-
-/// Whether a body may spell a packet.
+/// Errors: `NotAMessage` and `StampTooLarge`, as `read_packet` has them; `OutOfMemory` only where a name is no atom, or
+/// the names of an exchange do not ascend.
 ///
-/// Errors: `AllocError`.
-///
-/// Cost: memory for the names in an exchange alone; linear in the bytes, but for an exchange whose names do not
-/// ascend.
-pub fn may_be_packet(alloc: Global, body: &[u8]) -> Result<bool, AllocError>
-    // What is refused is no packet.
-    ensures refused { (t : Term) → result ≡ Ok false → term_of body.now ≡ Ok t
-        → packet_of t ≡ Err MessageFault.NotAMessage }
-    // What is not has the shape of one.
-    ensures shaped { (t : Term) → result ≡ Ok true → term_of body.now ≡ Ok t → has_shape t ≡ true }
+/// Cost: memory for names that are no atoms, and for all names of an exchange where they do not ascend; linear in the
+/// bytes, but for such an exchange.
+pub fn check_packet(alloc: Global, body: &[u8]) -> Result<(), MessageFault>
+    ensures { (t : Term) → term_of body.now ≡ Ok t
+        → Checks (names_of_packet (all_in (elements_of t))) (packet_of t) result }
 {
     match body {
-        [] => Ok(false),
-        [_, item @ ..] => may_be_stamped(alloc, item),
+        [] => Ok(()),
+        [_, item @ ..] => check_stamped(alloc, item),
     }
 }
 
 // {Stamp, Message}
-fn may_be_stamped(alloc: Global, bytes: &[u8]) -> Result<bool, AllocError>
-    ensures refused { (t : Term) (rest : List ℕ) → result ≡ Ok false → item_at 64 bytes.now ≡ Ok (t, rest)
-        → packet_of t ≡ Err MessageFault.NotAMessage }
-    ensures shaped { (t : Term) (rest : List ℕ) → result ≡ Ok true → item_at 64 bytes.now ≡ Ok (t, rest)
-        → packet_shape (elements_of t) ≡ true }
+fn check_stamped(alloc: Global, bytes: &[u8]) -> Result<(), MessageFault>
+    ensures { (t : Term) (rest : List ℕ) → item_at 64 bytes.now ≡ Ok (t, rest)
+        → Checks (names_of_packet (all_in (elements_of t))) (packet_of t) result }
 {
     let Some((arity, parts)) = tuple_at(bytes) else {
-        return Ok(false);
+        return Err(MessageFault::NotAMessage);
     };
     if arity != 2 {
-        return Ok(false);
+        return Err(MessageFault::NotAMessage);
     }
-    match past_small(63, parts) {
-        Some(rest) => may_be_message(alloc, rest),
-        None => Ok(false),
+    check_parts(alloc, parts)
+}
+
+fn check_parts(alloc: Global, bytes: &[u8]) -> Result<(), MessageFault>
+    ensures { (a b : Term) (mid rest : List ℕ) → item_at 63 bytes.now ≡ Ok (a, mid) → item_at 63 mid ≡ Ok (b, rest)
+        → Checks (names_of_message (all_in (elements_of b))) (packet_in (Some (a ∷ b ∷ []))) result }
+{
+    let message = past(63, bytes);
+    if !is_message(alloc, message)? {
+        return Err(MessageFault::NotAMessage);
+    }
+    check_stamp(bytes)
+}
+
+/// Whether a part is a stamp, or its fault.
+fn check_stamp(bytes: &[u8]) -> Result<(), MessageFault>
+    ensures { (room : ℕ) (t : Term) (rest : List ℕ) → item_at room bytes.now ≡ Ok (t, rest)
+        → Judges (stamp_of t) result }
+{
+    if !is_int(bytes) {
+        return Err(MessageFault::NotAMessage);
+    }
+    let Some(number) = int_at(bytes) else {
+        return Err(MessageFault::NotAMessage);
+    };
+    let term = Term::Int(number);
+    match stamp(&term) {
+        Ok(_) => Ok(()),
+        Err(fault) => Err(fault),
     }
 }
 
 // {Word, Said} or {Word, Ref, Said}
-fn may_be_message(alloc: Global, bytes: &[u8]) -> Result<bool, AllocError>
-    ensures refused { (t : Term) (rest : List ℕ) → result ≡ Ok false
-        → item_at 63 bytes.now ≡ Ok (t, rest) → message_of t ≡ None }
-    ensures shaped { (t : Term) (rest : List ℕ) → result ≡ Ok true
-        → item_at 63 bytes.now ≡ Ok (t, rest) → message_shape (elements_of t) ≡ true }
+fn is_message(alloc: Global, bytes: &[u8]) -> Result<bool, AllocError>
+    ensures { (t : Term) (rest : List ℕ) → item_at 63 bytes.now ≡ Ok (t, rest)
+        → Tells (names_of_message (all_in (elements_of t))) (is_some (message_of t)) result }
 {
     let Some((arity, parts)) = tuple_at(bytes) else {
         return Ok(false);
     };
     if arity == 2 {
-        may_be_unreferred(alloc, parts)
+        is_unreferred(alloc, parts)
     } else if arity == 3 {
-        Ok(may_be_referred(parts))
+        is_referred(alloc, parts)
     } else {
         Ok(false)
     }
 }
 
 // {cast, Cast} or {down, Pid}
-fn may_be_unreferred(alloc: Global, bytes: &[u8]) -> Result<bool, AllocError>
-    ensures refused { (a b : Term) (mid rest : List ℕ) → result ≡ Ok false → item_at 62 bytes.now ≡ Ok (a, mid)
-        → item_at 62 mid ≡ Ok (b, rest) → message_in (a ∷ b ∷ []) ≡ None }
-    ensures shaped { (a b : Term) (mid rest : List ℕ) → result ≡ Ok true → item_at 62 bytes.now ≡ Ok (a, mid)
-        → item_at 62 mid ≡ Ok (b, rest) → message_shape (Some (a ∷ b ∷ [])) ≡ true }
+fn is_unreferred(alloc: Global, bytes: &[u8]) -> Result<bool, AllocError>
+    ensures { (a b : Term) (mid rest : List ℕ) → item_at 62 bytes.now ≡ Ok (a, mid) → item_at 62 mid ≡ Ok (b, rest)
+        → Tells (names_of_message (a ∷ b ∷ [])) (is_some (message_in (a ∷ b ∷ []))) result }
 {
-    match past_small(62, bytes) {
-        Some(rest) => {
-            if is_small(rest) {
-                Ok(true)
-            } else {
-                may_be_cast(alloc, rest)
-            }
-        }
-        None => Ok(false),
+    let said = past(62, bytes);
+    if is_word(bytes, "cast") {
+        is_cast(alloc, said)
+    } else if is_word(bytes, "down") {
+        Ok(is_pid(said))
+    } else {
+        Ok(false)
     }
 }
 
 // {call, Ref, Request} or {reply, Ref, Said}
-fn may_be_referred(bytes: &[u8]) -> bool
-    ensures refused { (a b c : Term) (mid then rest : List ℕ) → result ≡ false → item_at 62 bytes.now ≡ Ok (a, mid)
+fn is_referred(alloc: Global, bytes: &[u8]) -> Result<bool, AllocError>
+    ensures { (a b c : Term) (mid then rest : List ℕ) → item_at 62 bytes.now ≡ Ok (a, mid)
         → item_at 62 mid ≡ Ok (b, then) → item_at 62 then ≡ Ok (c, rest)
-        → message_in (a ∷ b ∷ c ∷ []) ≡ None }
-    ensures shaped { (a b c : Term) (mid then rest : List ℕ) → result ≡ true → item_at 62 bytes.now ≡ Ok (a, mid)
-        → item_at 62 mid ≡ Ok (b, then) → item_at 62 then ≡ Ok (c, rest)
-        → message_shape (Some (a ∷ b ∷ c ∷ [])) ≡ true }
+        → Tells (names_of_message (a ∷ b ∷ c ∷ [])) (is_some (message_in (a ∷ b ∷ c ∷ []))) result }
 {
-    let Some(rest) = past_small(62, bytes) else {
-        return false;
+    let reference = past(62, bytes);
+    let said = past(62, reference);
+    if !is_reference(reference) {
+        Ok(false)
+    } else if is_word(bytes, "call") {
+        is_request(alloc, said)
+    } else if is_word(bytes, "reply") {
+        Ok(is_said(said))
+    } else {
+        Ok(false)
+    }
+}
+
+/// Whether a part is what a reply says.
+fn is_said(bytes: &[u8]) -> bool
+    ensures { (room : ℕ) (t : Term) (rest : List ℕ) → item_at room bytes.now ≡ Ok (t, rest)
+        → result ≡ is_some (said_of t) }
+{
+    if is_word(bytes, "true") {
+        true
+    } else if is_word(bytes, "false") {
+        true
+    } else {
+        is_word(bytes, "ok")
+    }
+}
+
+// {Word, Name} or {Word, Name, Pid}
+fn is_request(alloc: Global, bytes: &[u8]) -> Result<bool, AllocError>
+    ensures { (t : Term) (rest : List ℕ) → item_at 62 bytes.now ≡ Ok (t, rest)
+        → Tells (names_of_request (all_in (elements_of t))) (is_some (request_of t)) result }
+{
+    let Some((arity, parts)) = tuple_at(bytes) else {
+        return Ok(false);
     };
-    let Some(rest) = past_small(62, rest) else {
-        return false;
-    };
-    is_small(rest) || may_be_request(rest)
+    if arity == 2 {
+        is_request_on(alloc, parts)
+    } else if arity == 3 {
+        is_membership(alloc, parts)
+    } else {
+        Ok(false)
+    }
+}
+
+// {set_lock, Name}, {create, Name} or {delete, Name}
+fn is_request_on(alloc: Global, bytes: &[u8]) -> Result<bool, AllocError>
+    ensures { (a b : Term) (mid rest : List ℕ) → item_at 61 bytes.now ≡ Ok (a, mid) → item_at 61 mid ≡ Ok (b, rest)
+        → Tells (b ∷ []) (is_some (request_in (a ∷ b ∷ []))) result }
+{
+    if asks_of_name(bytes) {
+        is_name_at(alloc, 61, past(61, bytes))
+    } else {
+        Ok(false)
+    }
+}
+
+/// Whether a part is the word of a request that has a name alone.
+fn asks_of_name(bytes: &[u8]) -> bool
+    ensures { (room : ℕ) (t : Term) (rest : List ℕ) (name : Term) → item_at room bytes.now ≡ Ok (t, rest)
+        → result ≡ is_some (request_on t name) }
+{
+    if is_word(bytes, "set_lock") {
+        true
+    } else if is_word(bytes, "create") {
+        true
+    } else {
+        is_word(bytes, "delete")
+    }
+}
+
+// {join, Name, Pid} or {leave, Name, Pid}
+fn is_membership(alloc: Global, bytes: &[u8]) -> Result<bool, AllocError>
+    ensures { (a b c : Term) (mid then rest : List ℕ) → item_at 61 bytes.now ≡ Ok (a, mid)
+        → item_at 61 mid ≡ Ok (b, then) → item_at 61 then ≡ Ok (c, rest)
+        → Tells (b ∷ []) (is_some (request_in (a ∷ b ∷ c ∷ []))) result }
+{
+    let name = past(61, bytes);
+    if !is_pid(past(61, name)) {
+        Ok(false)
+    } else if asks_of_member(bytes) {
+        is_name_at(alloc, 61, name)
+    } else {
+        Ok(false)
+    }
+}
+
+/// Whether a part is the word of a request that has a member.
+fn asks_of_member(bytes: &[u8]) -> bool
+    ensures { (room : ℕ) (t : Term) (rest : List ℕ) (name : Term) (pid : Pid) → item_at room bytes.now ≡ Ok (t, rest)
+        → result ≡ is_some (membership_of t name pid) }
+{
+    if is_word(bytes, "join") {
+        true
+    } else {
+        is_word(bytes, "leave")
+    }
 }
 
 // {del_lock, Name, Ref} or {exchange, Node, Groups}
-fn may_be_cast(alloc: Global, bytes: &[u8]) -> Result<bool, AllocError>
-    ensures refused { (t : Term) (rest : List ℕ) → result ≡ Ok false
-        → item_at 62 bytes.now ≡ Ok (t, rest) → cast_of t ≡ None }
-    ensures shaped { (t : Term) (rest : List ℕ) → result ≡ Ok true
-        → item_at 62 bytes.now ≡ Ok (t, rest) → cast_shape (elements_of t) ≡ true }
+fn is_cast(alloc: Global, bytes: &[u8]) -> Result<bool, AllocError>
+    ensures { (t : Term) (rest : List ℕ) → item_at 62 bytes.now ≡ Ok (t, rest)
+        → Tells (names_of_cast (all_in (elements_of t))) (is_some (cast_of t)) result }
 {
     let Some((arity, parts)) = tuple_at(bytes) else {
         return Ok(false);
@@ -201,80 +228,45 @@ fn may_be_cast(alloc: Global, bytes: &[u8]) -> Result<bool, AllocError>
     if arity != 3 {
         return Ok(false);
     }
-    may_be_casting(alloc, parts)
+    is_casting(alloc, parts)
 }
 
-fn may_be_casting(alloc: Global, bytes: &[u8]) -> Result<bool, AllocError>
-    ensures refused { (a b c : Term) (mid then rest : List ℕ) → result ≡ Ok false → item_at 61 bytes.now ≡ Ok (a, mid)
+fn is_casting(alloc: Global, bytes: &[u8]) -> Result<bool, AllocError>
+    ensures { (a b c : Term) (mid then rest : List ℕ) → item_at 61 bytes.now ≡ Ok (a, mid)
         → item_at 61 mid ≡ Ok (b, then) → item_at 61 then ≡ Ok (c, rest)
-        → cast_in (a ∷ b ∷ c ∷ []) ≡ None }
-    ensures shaped { (a b c : Term) (mid then rest : List ℕ) → result ≡ Ok true → item_at 61 bytes.now ≡ Ok (a, mid)
-        → item_at 61 mid ≡ Ok (b, then) → item_at 61 then ≡ Ok (c, rest)
-        → cast_shape (Some (a ∷ b ∷ c ∷ [])) ≡ true }
+        → Tells (names_of_cast (a ∷ b ∷ c ∷ [])) (is_some (cast_in (a ∷ b ∷ c ∷ []))) result }
 {
-    let Some(rest) = past_small(61, bytes) else {
-        return Ok(false);
-    };
-    let Some(rest) = past_first(rest) else {
-        return Ok(false);
-    };
-    may_end_cast(alloc, rest)
-}
-
-/// Whether a part is small, or may be a list of groups.
-fn may_end_cast(alloc: Global, bytes: &[u8]) -> Result<bool, AllocError>
-    ensures many { (t : Term) (rest : List ℕ) → result ≡ Ok false
-        → item_at 61 bytes.now ≡ Ok (t, rest) → 4 ≤ kind_of t }
-    ensures groups { (t : Term) (rest : List ℕ) → result ≡ Ok false
-        → item_at 61 bytes.now ≡ Ok (t, rest) → groups_of t ≡ None }
-    ensures shaped { (t : Term) (rest : List ℕ) → result ≡ Ok true
-        → item_at 61 bytes.now ≡ Ok (t, rest) → is_small t || is_some (listed_of t) ≡ true }
-{
-    if is_small(bytes) {
-        Ok(true)
+    let first = past(61, bytes);
+    let second = past(61, first);
+    if is_word(bytes, "del_lock") {
+        is_freed(alloc, first, second)
+    } else if is_word(bytes, "exchange") {
+        is_exchange(alloc, first, second)
     } else {
-        may_be_groups(alloc, 61, bytes)
+        Ok(false)
     }
 }
 
-// {Word, Name} or {Word, Name, Pid}
-fn may_be_request(bytes: &[u8]) -> bool
-    ensures refused { (t : Term) (rest : List ℕ) → result ≡ false
-        → item_at 62 bytes.now ≡ Ok (t, rest) → request_of t ≡ None }
-    ensures shaped { (t : Term) (rest : List ℕ) → result ≡ true
-        → item_at 62 bytes.now ≡ Ok (t, rest) → request_shape (elements_of t) ≡ true }
+/// Whether a lock is freed: by its name and a reference.
+fn is_freed(alloc: Global, name: &[u8], reference: &[u8]) -> Result<bool, AllocError>
+    ensures { (b c : Term) (then rest : List ℕ) → item_at 61 name.now ≡ Ok (b, then)
+        → item_at 61 reference.now ≡ Ok (c, rest) → Tells (b ∷ []) (is_some (freed b c)) result }
 {
-    let Some((arity, parts)) = tuple_at(bytes) else {
-        return false;
-    };
-    if arity == 2 {
-        past_named(parts).is_some()
-    } else if arity == 3 {
-        match past_named(parts) {
-            Some(rest) => is_small(rest),
-            None => false,
-        }
+    if is_reference(reference) {
+        is_name_at(alloc, 61, name)
     } else {
-        false
+        Ok(false)
     }
 }
 
-/// What follows the word and the name of a request.
-fn past_named(bytes: &[u8]) -> Option<&[u8]>
-    ensures some { (a b : Term) (mid then : List ℕ) → IfSome result (λ rest.
-        item_at 61 bytes.now ≡ Ok (a, mid) → item_at 61 mid ≡ Ok (b, then) → then ≡ rest.now) }
-    ensures word { (a : Term) (mid : List ℕ) → IfSome result (λ rest.
-        item_at 61 bytes.now ≡ Ok (a, mid) → is_small a ≡ true) }
-    ensures pair { (a b : Term) (mid then : List ℕ) → IfNone result (item_at 61 bytes.now ≡ Ok (a, mid)
-        → item_at 61 mid ≡ Ok (b, then) → request_in (a ∷ b ∷ []) ≡ None) }
-    ensures triple { (a b c : Term) (mid then : List ℕ) → IfNone result (item_at 61 bytes.now ≡ Ok (a, mid)
-        → item_at 61 mid ≡ Ok (b, then) → request_in (a ∷ b ∷ c ∷ []) ≡ None) }
+/// Whether groups are announced: by a node and its groups.
+fn is_exchange(alloc: Global, node: &[u8], groups: &[u8]) -> Result<bool, AllocError>
+    ensures { (b c : Term) (then rest : List ℕ) → item_at 61 node.now ≡ Ok (b, then)
+        → item_at 61 groups.now ≡ Ok (c, rest) → Tells (names_of_groups c) (is_some (read_exchange b c)) result }
 {
-    let Some(rest) = past_small(61, bytes) else {
-        return None;
-    };
-    match past_name(61, rest) {
-        Some(rest) => Some(rest),
-        None => None,
+    if is_atom(node) {
+        may_be_groups(alloc, 61, groups)
+    } else {
+        Ok(false)
     }
 }

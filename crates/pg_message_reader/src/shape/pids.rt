@@ -13,7 +13,8 @@ ghost use Rattle.pg_message_reader.specs.Shapes.Lists.{EndsAlike};
 ghost use Rattle.pg_message_reader.specs.Shapes.Shape.{members_of};
 
 use crate::shape::groups::is_list;
-use pg_message_types::{Kind, NextElement, kind_at, next_element, skip_item};
+use crate::shape::parts::is_pid;
+use pg_message_types::{NextElement, next_element, skip_item};
 
 /// How many bytes the numbers of a pid take: an id, a serial and a creation.
 const NUMBERS: usize = 12;
@@ -119,16 +120,5 @@ fn past_pid(levels: u8, bytes: &[u8]) -> Option<&[u8]>
     match skip_item(levels, bytes) {
         Ok(behind) => Some(behind),
         Err(_) => None,
-    }
-}
-
-/// Whether a part is a pid.
-fn is_pid(bytes: &[u8]) -> bool
-    ensures { (room : ℕ) (t : Term) (rest : List ℕ) → item_at room bytes.now ≡ Ok (t, rest)
-        → result ≡ is_some (pid_of t) }
-{
-    match kind_at(bytes) {
-        Some(Kind::Pid) => true,
-        _ => false,
     }
 }

@@ -8,4 +8,4 @@ pub returns-then-is_atom-clause-name : goal.returns-then-is_atom-clause-name
 returns-then-is_atom-clause-name c =
     let found = c.in_ok-decode_item.field-0 in
     let e = c.in_ok-decode_item.ensures in
-    atom_read c.args.levels c.args.bytes.now found.0 found.1.now (λ i. omega (arith, c.type_inv.bytes i)) e (eqb-true (kind_of found.0) 1 (sym (c.is_atom.ensures c.args.levels found.0 found.1.now e) ∙ c.if-is_atom.true))
+    atom_read c.args.levels c.args.bytes.now found.0 found.1.now (λ i. omega (arith, c.type_inv.bytes i)) e (eqb-true (kind_of found.0) 1 (sym (c.is_atom.ensures.kind c.args.levels found.0 found.1.now e) ∙ c.if-is_atom.true))

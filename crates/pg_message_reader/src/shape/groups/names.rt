@@ -1,15 +1,23 @@
 //! The names of the groups that an exchange announces: whether each is one, and whether one is there twice.
 
-ghost use Rattle.std.specs.Prelude.{◌≡◌, ◌<◌, ◌≤◌, ℕ, List, [], length, true, false};
-ghost use Rattle.std.specs.Prelude.{Ok, Some, None, IfOk, IfSome, MatchOption};
+ghost use Rattle.std.specs.Prelude.{◌≡◌, ◌≢◌, ◌<◌, ◌≤◌, ◌∷◌, ℕ, List, [], length, true, false};
+ghost use Rattle.std.specs.Prelude.{nat_eq, Ok, Some, None, IfOk, IfSome, OnErr, MatchOption};
+ghost use Rattle.std.specs.declared.cmp.Ordering.TheVariants.{Less};
 ghost use Rattle.pg_term.specs.declared.term.Term.{Term};
+ghost use Rattle.pg_term.specs.Order.{kind_of};
+ghost use Rattle.pg_term.specs.Same.{term_cmp};
 ghost use Rattle.pg_message_types.specs.PgTermIo.Reading.{item_at};
-ghost use Rattle.pg_message_types.specs.Groups.{IsNamed};
+ghost use Rattle.pg_message_types.specs.Groups.{IsNamed, is_less};
 ghost use Rattle.pg_message_types.specs.Name.{is_name};
-ghost use Rattle.pg_message_types.specs.Reading.{group_of, groups_of};
+ghost use Rattle.pg_message_types.specs.Reading.{Groups, group_of, groups_of, is_named_once};
+ghost use Rattle.pg_message_reader.specs.Names.{Tells};
+ghost use Rattle.pg_message_reader.specs.Shapes.Leaves.{Names};
+ghost use Rattle.pg_message_reader.specs.Shapes.Shape.{listed_of};
+ghost use Rattle.pg_message_reader.specs.declared.shape.groups.names.Name.{Name};
 
 use crate::shape::groups::{is_list, past_members};
-use crate::shape::packet::{is_atom, past_name};
+use crate::shape::leaves::is_lower;
+use crate::shape::parts::{is_atom, past_name};
 use pg_message_types::{NextElement, decode_item, is_name, next_element};
 use pg_term::{Term, TermFault};
 use std::alloc::{AllocError, Global};
@@ -30,6 +38,10 @@ impl<'a> Name<'a> {
     pub(crate) fn follows(self, last: &mut Option<Name<'a>>) -> bool
         ensures kept { last.new ≡ Some self.entry }
         ensures first { last.old ≡ None → result ≡ true }
+        ensures less { (before : Name) (a b : Term) → last.old ≡ Some before → Names before a → Names self.entry b
+            → result ≡ true → term_cmp a b ≡ Less }
+        ensures atoms { (before : Name) (a b : Term) → last.old ≡ Some before → Names before a → Names self.entry b
+            → kind_of a ≡ 1 → kind_of b ≡ 1 → result ≡ is_less (term_cmp a b) }
     {
         let greater = match last {
             Some(last) => last.is_below(&self),
@@ -39,26 +51,28 @@ impl<'a> Name<'a> {
         greater
     }
 
-    /// Whether a name is seen to be less than another: of two atoms where their texts are spelled as they are written.
-    fn is_below(&self, other: &Name<'a>) -> bool {
+    /// Whether a name is seen to be less than another.
+    fn is_below(&self, other: &Name<'a>) -> bool
+        ensures less { (a b : Term) → Names self.now a → Names other.now b → result ≡ true → term_cmp a b ≡ Less }
+        ensures atoms { (a b : Term) → Names self.now a → Names other.now b
+            → kind_of a ≡ 1 → kind_of b ≡ 1 → result ≡ is_less (term_cmp a b) }
+    {
         match (self, other) {
-            (Name::Atom(bytes), Name::Atom(others)) => match (text(bytes), text(others)) {
-                (Some(text), Some(other)) => text < other,
-                _ => false,
-            },
+            (Name::Atom(bytes), Name::Atom(others)) => is_lower(bytes, others),
             (Name::Built(name), Name::Built(other)) => name.cmp(other) == Ordering::Less,
             // Integers alone are below atoms.
-            (Name::Atom(_), Name::Built(other)) => !matches!(other, Term::Int(_)),
-            (Name::Built(name), Name::Atom(_)) => matches!(name, Term::Int(_)),
+            (Name::Atom(_), Name::Built(other)) => !is_number(other),
+            (Name::Built(name), Name::Atom(_)) => is_number(name),
         }
     }
 }
 
-/// The text of an atom that is spelled as it is written, if it has at most 255 bytes.
-fn text(bytes: &[u8]) -> Option<&[u8]> {
-    match bytes {
-        [119, len, text @ ..] => text.get(..usize::from(*len)),
-        _ => None,
+fn is_number(term: &Term) -> bool
+    ensures { result ≡ nat_eq (kind_of term.now) 0 }
+{
+    match term {
+        Term::Int(_) => true,
+        _ => false,
     }
 }
 
@@ -71,7 +85,10 @@ pub(crate) fn checked_name(
 ) -> Result<Option<(Name<'_>, &[u8])>, AllocError>
     requires { levels ≤ 64 }
     ensures name { (t : Term) (rest : List ℕ) → item_at levels bytes.now ≡ Ok (t, rest) → IfOk result (λ found.
-        MatchOption found (is_name t ≡ false) (λ x. (rest ≡ x.1.now) × (is_name t ≡ true))) }
+        MatchOption found (is_name t ≡ false)
+        (λ x. (rest ≡ x.1.now) × (is_name t ≡ true) × Names x.0 t)) }
+    // Memory is taken for other names than atoms alone.
+    ensures built { (t : Term) (rest : List ℕ) → item_at levels bytes.now ≡ Ok (t, rest) → OnErr result (kind_of t ≢ 1) }
     ensures shorter { IfOk result (λ found. IfSome found (λ x. length x.1.now < length bytes.now)) }
 {
     let Some(behind) = past_name(levels, bytes) else {
@@ -84,6 +101,15 @@ pub(crate) fn checked_name(
         Some(name) => Ok(Some((Name::Built(name), behind))),
         None => Ok(None),
     }
+}
+
+/// Whether a part is a name.
+pub(crate) fn is_name_at(alloc: Global, levels: u8, bytes: &[u8]) -> Result<bool, AllocError>
+    requires { levels ≤ 64 }
+    ensures { (t : Term) (rest : List ℕ) → item_at levels bytes.now ≡ Ok (t, rest) → Tells (t ∷ []) (is_name t) result }
+{
+    let name = checked_name(alloc, levels, bytes)?;
+    Ok(name.is_some())
 }
 
 /// The name at the front of a part; `None` for what is none.
@@ -108,8 +134,10 @@ fn built_name(alloc: Global, levels: u8, bytes: &[u8]) -> Result<Option<Term>, A
 /// Whether no two groups of a list have the same name. All names are kept.
 pub(crate) fn are_apart(alloc: Global, levels: u8, bytes: &[u8]) -> Result<bool, AllocError>
     requires { levels ≤ 64 }
-    ensures { (t : Term) (rest : List ℕ) → result ≡ Ok false
+    ensures twice { (t : Term) (rest : List ℕ) → result ≡ Ok false
         → item_at levels bytes.now ≡ Ok (t, rest) → groups_of t ≡ None }
+    ensures once { (t : Term) (rest : List ℕ) → result ≡ Ok true → item_at levels bytes.now ≡ Ok (t, rest)
+        → kind_of t ≡ 5 → (groups : Groups) → listed_of t ≡ Some groups → is_named_once groups ≡ true }
 {
     let mut names = BTreeSet::new(alloc);
     are_new(alloc, &mut names, levels, bytes)
@@ -124,8 +152,10 @@ fn are_new(
 ) -> Result<bool, AllocError>
     requires shallow { levels ≤ 64 }
     requires none { names.old.keys ≡ [] }
-    ensures { (t : Term) (rest : List ℕ) → result ≡ Ok false
+    ensures twice { (t : Term) (rest : List ℕ) → result ≡ Ok false
         → item_at levels bytes.now ≡ Ok (t, rest) → groups_of t ≡ None }
+    ensures once { (t : Term) (rest : List ℕ) → result ≡ Ok true → item_at levels bytes.now ≡ Ok (t, rest)
+        → kind_of t ≡ 5 → (groups : Groups) → listed_of t ≡ Some groups → is_named_once groups ≡ true }
 {
     let mut room = levels;
     let mut count = 0;
