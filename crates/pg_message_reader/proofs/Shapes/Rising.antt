@@ -101,9 +101,9 @@ module _ (t : Term) (rest : List ℕ) (ascend : Bool) (last : Option Name) (room
         other (eqb-true (kind_of first) 1 (left (is_atom first) (list_all is_atom (firsts goes.others)) all)))
 
     module _ (name : Name) (named : Names name first) (greater : Bool)
-             (when_first : last ≡ None → greater ≡ true)
-             (when_less : (b : Name) (x y : Term) → last ≡ Some b → Names b x → Names name y → greater ≡ true → term_cmp x y ≡ Less)
-             (when_atoms : (b : Name) (x y : Term) → last ≡ Some b → Names b x → Names name y → kind_of x ≡ 1 → kind_of y ≡ 1 → greater ≡ is_less (term_cmp x y)) where
+        (when_first : last ≡ None → greater ≡ true)
+        (when_less : (b : Name) (x y : Term) → last ≡ Some b → Names b x → Names name y → greater ≡ true → term_cmp x y ≡ Less)
+        (when_atoms : (b : Name) (x y : Term) → last ≡ Some b → Names b x → Names name y → kind_of x ≡ 1 → kind_of y ≡ 1 → greater ≡ is_less (term_cmp x y)) where
       step : (o : Option Name) (seen : Option Term) → last ≡ o → IsLast o seen → greater ≡ true → do_ascend (with_last seen (first ∷ firsts goes.others)) ≡ do_ascend (first ∷ firsts goes.others)
       step None None e i g = refl
       step (Some b) (Some m) e i g = ap (λ (c : Ordering). is_less c && do_ascend (first ∷ firsts goes.others)) (when_less b m first e i named g)

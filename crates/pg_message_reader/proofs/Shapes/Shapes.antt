@@ -147,7 +147,6 @@ pub none_if : {A : Type 0} (b : Bool) (o p : Option A) → o ≡ None → p ≡ 
 none_if true o p h k = h
 none_if false o p h k = k
 
-
 -- ---- tuples
 
 count_is : (read : List ℕ → Read Term) (n : ℕ) (bytes : List ℕ) (ts : List Term) (rest : List ℕ) → items_at read n bytes ≡ Ok (ts, rest) → length ts ≡ n
@@ -191,7 +190,6 @@ module _ (room n : ℕ) (bytes mid : List ℕ) (head : item_at (suc room) bytes 
 -- what is no tuple
 pub by_none : (P : Option (List Term) → Type 0) (t : Term) → kind_of t ≢ 4 → P None → P (elements_of t)
 by_none P t other why = subst P (sym (no_elements t other)) why
-
 
 -- tuples of other lengths are nothing
 pub packet_other : (ts : List Term) → length ts ≢ 2 → packet_in (Some ts) ≡ Err faults.NotAMessage

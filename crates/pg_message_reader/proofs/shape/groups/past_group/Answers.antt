@@ -31,9 +31,11 @@ returns-in-Some-past_members-clause-group c t rest e =
     let list = group_is c.args.levels c.args.bytes.now t rest e (c.if-not-is_list.ensures.yes c.args.levels t rest refl e) in
     let goes = c.in-Item.ensures.next list.elements rest list.read in
     let named = at_some c.in_ok-name.field-0 (c.in-Some.name, c.in-Some.behind) (is_name goes.first ≡ false) (λ x. (goes.behind ≡ x.1.now) × (is_name goes.first ≡ true) × Names x.0 goes.first) c.in-Some.is (c.in_ok-name.ensures.name goes.first goes.behind goes.here) in
-    let ends = c.in-Some-past_members.ensures.group goes.first goes.others rest (subst (λ (bytes : List ℕ). list_from c.in-Item.room c.in-Item.more bytes ≡ Ok (goes.others, rest)) named.0 goes.after) in
-    (ends.0, ap (λ (o : Option (Term × List Pid)). is_some o) (list.same ∙ ap group_in goes.are) ∙ ends.1 named.1,
-      record { first = goes.first; is = ap (λ (o : Option (List Term)). take 1 (all_in o)) (list.items ∙ ap Some goes.are); named = named.2 })
+    let ends = c.in-Some-past_members.ensures.group goes.first goes.others rest (subst (λ (bytes : List ℕ). list_from c.in-Item.room c.in-Item.more bytes ≡ Ok (goes.others, rest)) named.0 goes.after) in (
+      ends.0,
+      ap (λ (o : Option (Term × List Pid)). is_some o) (list.same ∙ ap group_in goes.are) ∙ ends.1 named.1,
+      record { first = goes.first; is = ap (λ (o : Option (List Term)). take 1 (all_in o)) (list.items ∙ ap Some goes.are); named = named.2 },
+    )
 
 pub returns-in-None-clause-group : goal.returns-in-None-clause-group
 returns-in-None-clause-group c t rest e =
