@@ -14,9 +14,9 @@ ghost use Rattle.pg_message_types.specs.Limits.{max_stamp};
 
 mod groups;
 
-use crate::direct::groups::groups_at;
+use crate::direct::groups::{groups_at, past_groups};
 use crate::parts::atom;
-use crate::shape::{is_atom, may_be_groups};
+use crate::shape::is_atom;
 use pg_message_types::{MAX_NAME_LEN, MAX_STAMP, Message, Packet, Request, Said, Update, is_name};
 use pg_term::{Atom, Pid, Reference, Term, TermFault};
 use pg_term_io::{decode_item, decode_pid, decode_reference, skip_item};
@@ -167,10 +167,20 @@ fn name_at(alloc: Global, levels: u8, bytes: &[u8]) -> Result<(Term, &[u8]), Det
     ensures term { IfOk result (λ x. item_at levels bytes.now ≡ Ok (x.0, x.1.now)) }
     ensures name { IfOk result (λ x. is_name x.0 ≡ true) }
 {
+    if !is_atom(bytes) {
+        past_short(levels, bytes)?;
+    }
+    short_name_at(alloc, levels, bytes)
+}
+
+/// The same, of an atom or of what `past_short` walked over: it is decoded once, and the name that was measured is kept.
+fn short_name_at(alloc: Global, levels: u8, bytes: &[u8]) -> Result<(Term, &[u8]), Detour>
+    ensures term { IfOk result (λ x. item_at levels bytes.now ≡ Ok (x.0, x.1.now)) }
+    ensures name { IfOk result (λ x. is_name x.0 ≡ true) }
+{
     if is_atom(bytes) {
         return Ok(decode_item(alloc, levels, bytes)?);
     }
-    check_name_len(levels, bytes)?;
     let (name, rest) = decode_item(alloc, levels, bytes)?;
     if !is_name(&name) {
         drop(name);
@@ -179,13 +189,13 @@ fn name_at(alloc: Global, levels: u8, bytes: &[u8]) -> Result<(Term, &[u8]), Det
     Ok((name, rest))
 }
 
-/// Whether a part takes no more bytes than a name as it is written: what takes more is left unbuilt.
-fn check_name_len(levels: u8, bytes: &[u8]) -> Result<(), Detour> {
+/// What follows a part that takes no more bytes than a name as it is written: what takes more is left unbuilt.
+fn past_short(levels: u8, bytes: &[u8]) -> Result<&[u8], Detour> {
     let behind = skip_item(levels, bytes)?;
     if bytes.len().saturating_sub(behind.len()) >= MAX_NAME_LEN {
         return Err(Detour::OtherForm);
     }
-    Ok(())
+    Ok(behind)
 }
 
 fn node_at(alloc: Global, bytes: &[u8]) -> Result<(Atom, &[u8]), Detour>
@@ -201,10 +211,12 @@ fn node_at(alloc: Global, bytes: &[u8]) -> Result<(Atom, &[u8]), Detour>
     Ok((node, rest))
 }
 
-/// Whether groups may follow a node: of what announces none the names alone are built.
-fn check_exchange(alloc: Global, bytes: &[u8]) -> Result<(), Detour> {
+/// Whether groups follow a node, and nothing after them, as they are written: walked over without memory, before any
+/// part is built. Whether what stands for a name is one is seen when it is built.
+fn check_exchange(bytes: &[u8]) -> Result<(), Detour> {
     let groups = skip_item(NAME_LEVELS, bytes)?;
-    if !may_be_groups(alloc, NAME_LEVELS, groups)? {
+    let rest = past_groups(groups)?;
+    if !rest.is_empty() {
         return Err(Detour::OtherForm);
     }
     Ok(())
@@ -286,7 +298,7 @@ fn exchange_at(alloc: Global, bytes: &[u8]) -> Result<(Message, &[u8]), Detour>
         Stands 62 (message_term x.0) front x.1.now) }
     ensures sayable { IfOk result (λ x. is_sayable x.0 ≡ true) }
 {
-    check_exchange(alloc, bytes)?;
+    check_exchange(bytes)?;
     let (node, rest) = node_at(alloc, bytes)?;
     let (groups, rest) = groups_at(alloc, rest)?;
     Ok((Message::Exchange(node, groups), rest))

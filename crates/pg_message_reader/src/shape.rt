@@ -5,7 +5,7 @@ mod groups;
 mod leaves;
 mod packet;
 mod parts;
-mod pids;
+pub(crate) mod pids;
 
 pub use groups::may_be_groups;
 pub use packet::check_packet;

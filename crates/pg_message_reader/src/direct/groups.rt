@@ -11,8 +11,9 @@ ghost use Rattle.pg_message_reader.specs.Standing.{Stands, IsListHead, EndsWith,
 ghost use Rattle.pg_message_types.specs.Writing.{group_term, is_sayable};
 ghost use Rattle.pg_message_types.specs.declared.message.Message.TheVariants as messages;
 
-use crate::direct::{Detour, behind, name_at, pid_at};
+use crate::direct::{Detour, behind, past_short, pid_at, short_name_at};
 use crate::shape::pid_head;
+use crate::shape::pids::past_pids;
 use pg_message_types::are_told_once;
 use pg_term::{Items, Pid, Term};
 use std::alloc::{AllocError, Global};
@@ -25,6 +26,29 @@ const LEAST_GROUP: usize = 8;
 
 /// How many bytes a pid takes at least: its tag, an empty atom, two words and a creation.
 const LEAST_PID: usize = 15;
+
+/// What follows a list of groups, each with a part in the place of its name that is as short as a name.
+pub(crate) fn past_groups(bytes: &[u8]) -> Result<&[u8], Detour> {
+    if let Ok(rest) = behind(bytes, &[106]) {
+        return Ok(rest);
+    }
+    let (count, first) = count_at(bytes, LEAST_GROUP)?;
+    let mut rest = first;
+    for _ in 0..count {
+        rest = past_group(rest)?;
+    }
+    behind(rest, &[106])
+}
+
+/// What follows a group.
+fn past_group(bytes: &[u8]) -> Result<&[u8], Detour> {
+    let name = behind(bytes, &[108, 0, 0, 0, 2])?;
+    let members = past_short(GROUP_NAME_LEVELS, name)?;
+    match past_pids(GROUP_NAME_LEVELS, members) {
+        Some(end) => behind(end, &[106]),
+        None => Err(Detour::OtherForm),
+    }
+}
 
 /// The groups that a list spells, none of them named twice, and what follows.
 pub(crate) fn groups_at(
@@ -102,13 +126,13 @@ fn all_groups_at(
     Ok((groups, rest))
 }
 
-/// [Name, Members], and what follows.
+/// [Name, Members], and what follows. `past_group` walked over it.
 fn group_at(alloc: Global, bytes: &[u8]) -> Result<((Term, Items<Pid>), &[u8]), Detour>
     ensures term { IfOk result (λ x. Stands 59 (group_term x.0) bytes.now x.1.now) }
     ensures name { IfOk result (λ x. is_name x.0.0 ≡ true) }
 {
     let rest = behind(bytes, &[108, 0, 0, 0, 2])?;
-    let (name, rest) = name_at(alloc, GROUP_NAME_LEVELS, rest)?;
+    let (name, rest) = short_name_at(alloc, GROUP_NAME_LEVELS, rest)?;
     match last_members_at(alloc, rest) {
         Ok((members, rest)) => Ok(((name, members), rest)),
         Err(detour) => {

@@ -2,7 +2,7 @@ use Rattle.std.proofs.Common.{sym, ◌∙◌, arith}
 use Rattle.std.proofs.lemmas.Bool.{eqb-true}
 use Rattle.pg_term.specs.Order.{kind_of}
 use Rattle.pg_message_reader.proofs.Shapes.AtomNames.{atom_read}
-use Rattle.pg_message_reader.proofs.direct.name_at.Goals as goal
+use Rattle.pg_message_reader.proofs.direct.short_name_at.Goals as goal
 
 pub returns-then-is_atom-clause-name : goal.returns-then-is_atom-clause-name
 returns-then-is_atom-clause-name c =
