@@ -7,9 +7,8 @@ use std::mem;
 /// In how many pieces at most what a line pulls comes.
 const PIECES: usize = 500;
 
-/// The script over rings of this capacity. Each line that pulls is played many times, each time behind a put of the same way.
-pub(crate) fn narrowed(alloc: Global, script: &mut Script, ring: usize) -> Result<(), AllocError> {
-    script.config.ring = ring;
+/// Each line that pulls is played many times, each time behind a put of the same way.
+pub(crate) fn narrowed(alloc: Global, script: &mut Script) -> Result<(), AllocError> {
     for line in mem::replace(&mut script.lines, Vec::new(alloc)) {
         put_line(&mut script.lines, line)?;
     }

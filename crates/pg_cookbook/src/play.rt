@@ -21,10 +21,12 @@ pub(crate) fn played(alloc: Global, text: &str) -> Result<String> {
     }
 }
 
-/// What it prints for a script that can be read, over rings of this capacity.
+/// What it prints for a script that can be read and begins with a comment, where that gives way to a line `ring N`.
 pub(crate) fn played_over(alloc: Global, text: &str, ring: usize) -> Result<String> {
-    let mut script = read_script(alloc, text)?;
-    let told = match narrowed(alloc, &mut script, ring) {
+    let (_, behind) = text.split_once('\n').unwrap_or((text, ""));
+    let text = format!(in alloc; "ring {ring}\n{behind}")?;
+    let mut script = read_script(alloc, text.as_str())?;
+    let told = match narrowed(alloc, &mut script) {
         Ok(()) => ran(alloc, &script),
         Err(fault) => Err(fault.into()),
     };

@@ -1,9 +1,9 @@
 //! Random schedules of worlds over bytes, cut at random. Whatever moved when, packets that cross whole lead to the same nodes.
 
 use crate::schedules::{
-    Schedule, are_same, are_same_worlds, first_pids, holds, scene_of, schedule_of,
+    Schedule, are_same, are_same_worlds, first_pids, holds, put_heard, scene_of, schedule_of,
 };
-use crate::slow::{GROUPS, Scene, World, are_answered, len_of, state_of};
+use crate::slow::{GROUPS, Heard, Scene, World, are_answered, len_of, state_of};
 use pg_script::{
     Command, Config, Effect, FrameStep, NodeFault, OpId, Step, Stepped, run, run_frames,
 };
@@ -162,23 +162,41 @@ fn noted(stepped: Result<Stepped, NodeFault>) -> Noted {
     }
 }
 
-// Makes the steps one by one, and notes what each did.
+/// A world, what each step of it did, and which exchanges were taken.
+#[derive(Drop)]
+struct Played {
+    world: World,
+    notes: Vec<Noted>,
+    heard: Vec<Heard>,
+}
+
+impl Played {
+    fn scene<'a>(&'a self, alloc: Global, schedule: &'a Schedule, pids: &'a [Pid]) -> Scene<'a> {
+        scene_of(alloc, schedule, &self.world, pids, self.heard.as_slice())
+    }
+
+    // Makes a step, and notes what it did.
+    fn step(&mut self, rt: &impl Abort, step: &Step) {
+        let noted = noted(self.world.step(step));
+        let told = put_heard(&mut self.heard, step, noted.0.is_some());
+        told.ok().expect(rt, "memory");
+        self.notes.push(noted).ok().expect(rt, "memory");
+    }
+}
+
+// Makes the steps one by one.
 fn step_all(
     rt: &impl Abort,
     alloc: Global,
     schedule: &Schedule,
     pids: &[Pid],
-    world: &mut World,
-    notes: &mut Vec<Noted>,
+    played: &mut Played,
 ) {
     for (place, step) in schedule.steps.as_slice().iter().enumerate() {
-        notes
-            .push(noted(world.step(step)))
-            .ok()
-            .expect(rt, "memory");
+        played.step(rt, step);
         // Now and then the headline is read.
         if place % 50 == 0 {
-            check_headline(rt, scene_of(alloc, schedule, world, pids), place);
+            check_headline(rt, played.scene(alloc, schedule, pids), place);
         }
     }
 }
@@ -314,16 +332,21 @@ type Draw = (usize, bool, u64);
 
 fn check(rt: &impl Abort, alloc: Global, (nodes, is_lossy, seed): Draw) {
     let (schedule, pids) = drawn(rt, alloc, nodes, is_lossy, seed);
-    let mut world = World::new(alloc, &schedule.config).expect(rt, "memory");
-    let mut notes = Vec::new(alloc);
-    step_all(rt, alloc, &schedule, &pids, &mut world, &mut notes);
-    let scene = scene_of(alloc, &schedule, &world, &pids);
+    let world = World::new(alloc, &schedule.config).expect(rt, "memory");
+    let (notes, heard) = (Vec::new(alloc), Vec::new(alloc));
+    let mut played = Played {
+        world,
+        notes,
+        heard,
+    };
+    step_all(rt, alloc, &schedule, &pids, &mut played);
+    let scene = played.scene(alloc, &schedule, &pids);
     check_answers(rt, scene, schedule.steps.as_slice());
     drop(pids);
-    check_notes(rt, &world, notes.as_slice());
-    check_runs(rt, alloc, schedule, is_lossy, &world, notes.as_slice());
-    drop(world);
-    drop(notes);
+    let (world, notes) = (&played.world, played.notes.as_slice());
+    check_notes(rt, world, notes);
+    check_runs(rt, alloc, schedule, is_lossy, world, notes);
+    drop(played);
 }
 
 // What was answered stands in the histories.

@@ -1,6 +1,6 @@
 //! Schedules: how the nodes of a world start, and steps.
 
-use crate::slow::{Scene, State, World, state_of};
+use crate::slow::{Heard, Scene, State, World, state_of};
 use pg_script::{Act, Config, FrameStep, Script, ScriptLine, Start, Step, read_script};
 use pg_term::Pid;
 use std::alloc::{AllocError, Global};
@@ -117,12 +117,35 @@ pub fn first_pids(rt: &impl Abort, alloc: Global, starts: &[Start], count: u32) 
     pids
 }
 
-/// A world of a schedule, in which the test speaks of these processes.
+/// Notes the exchange that a step took, if it took a packet and that was the first of its way.
+pub fn put_heard(
+    heard: &mut Vec<Heard>,
+    step: &Step,
+    has_happened: bool,
+) -> Result<(), AllocError> {
+    if let Step::Event(FrameStep::Take { node, peer }) = step {
+        let (node, peer) = (*node, *peer);
+        if has_happened && !has_heard(heard.as_slice(), node, peer) {
+            heard.push(Heard { node, peer })?;
+        }
+    }
+    Ok(())
+}
+
+// Whether the exchange of a peer was taken by a node.
+fn has_heard(heard: &[Heard], node: usize, peer: usize) -> bool {
+    heard
+        .iter()
+        .any(|heard| heard.node == node && heard.peer == peer)
+}
+
+/// A world of a schedule, in which the test speaks of these processes, and these exchanges were taken.
 pub fn scene_of<'a>(
     alloc: Global,
     schedule: &'a Schedule,
     world: &'a World,
     pids: &'a [Pid],
+    heard: &'a [Heard],
 ) -> Scene<'a> {
     let starts = schedule.config.starts.as_slice();
     Scene {
@@ -130,5 +153,6 @@ pub fn scene_of<'a>(
         world,
         starts,
         pids,
+        heard,
     }
 }

@@ -1,16 +1,18 @@
-//! What is no packet is refused before anything of it is built.
+//! What is no packet is refused with its fault before anything of it is built.
 
-use super::bodies::EMPTY;
+use super::bodies::{CREATE, EMPTY};
 use crate::rows::Edit::{self, At, Times};
 use crate::rows::{Row, check, edited, holds};
-use pg_message::{MessageFault, read_packet};
+use pg_message::MessageFault::{self, NotAMessage, StampTooLarge, Term};
+use pg_message::read_packet;
+use pg_term::TermFault::{BadAtom, BadVersion, ImproperList, TrailingBytes, Truncated, UnknownTag};
 use pg_term_io::{NextElement, next_element, skip_item};
 use std::alloc::{AllocError, Global};
 use std::test::*;
 
-/// A body, and how it is changed to what is no packet.
+/// A body, how it is changed to what is no packet, and its fault then.
 #[derive(Clone, Copy)]
-struct Unbuilt(&'static [u8], &'static [Edit]);
+struct Unbuilt(&'static [u8], &'static [Edit], MessageFault);
 
 // Nothing is built of it: where a growth is refused, it is one of the body's own.
 impl Row for Unbuilt {
@@ -19,7 +21,7 @@ impl Row for Unbuilt {
             Ok(bytes) => {
                 let fault = read_packet(alloc, &bytes).err();
                 drop(bytes);
-                Ok(fault == Some(MessageFault::NotAMessage))
+                Ok(fault == Some(self.2))
             }
             Err(AllocError) => Ok(true),
         }
@@ -30,21 +32,46 @@ impl Row for Unbuilt {
 fn what_is_no_packet_takes_no_memory(rt: HostRuntime) {
     const ROWS: &[Unbuilt] = &[
         // [1, 2], <<1, 2>>, {a}, {[], {a, b}}
-        Unbuilt(b"\x83k\0\x02\x01\x02", &[]),
-        Unbuilt(b"\x83m\0\0\0\x02\x01\x02", &[]),
-        Unbuilt(b"\x83h\x01w\x01a", &[]),
-        Unbuilt(b"\x83h\x02jh\x02w\x01aw\x01b", &[]),
+        Unbuilt(b"\x83k\0\x02\x01\x02", &[], NotAMessage),
+        Unbuilt(b"\x83m\0\0\0\x02\x01\x02", &[], NotAMessage),
+        Unbuilt(b"\x83h\x01w\x01a", &[], NotAMessage),
+        Unbuilt(b"\x83h\x02jh\x02w\x01aw\x01b", &[], NotAMessage),
         // {0, [a]}, {0, {down, [a]}}, {0, {reply, {a}, ok}}
-        Unbuilt(b"\x83h\x02a\0l\0\0\0\x01w\x01aj", &[]),
-        Unbuilt(b"\x83h\x02a\0h\x02w\x04downl\0\0\0\x01w\x01aj", &[]),
-        Unbuilt(b"\x83h\x02a\0h\x03w\x05replyh\x01w\x01aw\x02ok", &[]),
+        Unbuilt(b"\x83h\x02a\0l\0\0\0\x01w\x01aj", &[], NotAMessage),
+        Unbuilt(
+            b"\x83h\x02a\0h\x02w\x04downl\0\0\0\x01w\x01aj",
+            &[],
+            NotAMessage,
+        ),
+        Unbuilt(
+            b"\x83h\x02a\0h\x03w\x05replyh\x01w\x01aw\x02ok",
+            &[],
+            NotAMessage,
+        ),
         // An exchange of 100,000 integers, and such as are wrong in the last of 1,000 groups.
-        Unbuilt(EMPTY, &[COUNT, INTEGERS, END]),
-        Unbuilt(EMPTY, &[THOUSAND, GROUPS, WRONG_MEMBER, END]),
-        Unbuilt(EMPTY, &[THOUSAND, GROUPS, WRONG_IN_PARTS, END]),
-        Unbuilt(EMPTY, &[THOUSAND, GROUPS, TEXT_IN_PARTS, END]),
-        Unbuilt(EMPTY, &[THOUSAND, GROUPS, THREE, END]),
-        Unbuilt(EMPTY, &[THOUSAND, GROUPS, TEXT, END]),
+        Unbuilt(EMPTY, &[COUNT, INTEGERS, END], NotAMessage),
+        Unbuilt(EMPTY, &[THOUSAND, GROUPS, WRONG_MEMBER, END], NotAMessage),
+        Unbuilt(EMPTY, &[THOUSAND, GROUPS, WRONG_IN_PARTS, END], NotAMessage),
+        Unbuilt(EMPTY, &[THOUSAND, GROUPS, TEXT_IN_PARTS, END], NotAMessage),
+        Unbuilt(EMPTY, &[THOUSAND, GROUPS, THREE, END], NotAMessage),
+        Unbuilt(EMPTY, &[THOUSAND, GROUPS, TEXT, END], NotAMessage),
+        // {0, {call, Ref, {create, g}}} with a stamp above all, and with one below; and with another name: bytes of no
+        // text, of no term, and a list that ends in no list.
+        Unbuilt(CREATE, &[At(3, 2, b"b\x40\0\0\x01")], StampTooLarge),
+        Unbuilt(CREATE, &[At(3, 2, b"b\xff\xff\xff\xff")], NotAMessage),
+        Unbuilt(CREATE, &[At(45, 3, b"w\x01\xff")], Term(BadAtom)),
+        Unbuilt(CREATE, &[At(45, 3, b"F")], Term(UnknownTag)),
+        Unbuilt(
+            CREATE,
+            &[At(45, 3, b"l\0\0\0\x01a\x01a\x02")],
+            Term(ImproperList),
+        ),
+        // The same cut, with a byte behind it, and of another version.
+        Unbuilt(CREATE, &[At(47, 1, b"")], Term(Truncated)),
+        Unbuilt(CREATE, &[At(48, 0, b"\0")], Term(TrailingBytes)),
+        Unbuilt(CREATE, &[At(0, 1, b"\x82")], Term(BadVersion)),
+        // An exchange of 1,000 groups that ascend in no order, and then ends.
+        Unbuilt(EMPTY, &[THOUSAND, GROUPS], Term(Truncated)),
     ];
     const COUNT: Edit = At(28, 1, b"l\0\x01\x86\xa0");
     const INTEGERS: Edit = Times(100_000, b"a\x01");

@@ -15,7 +15,7 @@ struct Spelled(&'static [u8], &'static [Edit], Option<TermFault>);
 impl Row for Spelled {
     fn told(&self, alloc: Global) -> Result<bool, MessageFault> {
         with!(edited(alloc, self.0, 0, &[], self.1), bytes => match decode(alloc, &bytes).err() {
-            Some(OutOfMemory) => Err(OUT_OF_MEMORY),
+            Some(OutOfMemory) if self.2.is_none() => Err(OUT_OF_MEMORY),
             read => Ok(read == self.2 && check_term(&bytes).err() == self.2),
         })
     }

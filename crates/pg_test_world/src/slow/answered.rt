@@ -4,8 +4,8 @@ use crate::slow::scene::{GROUPS, History, Scene, entry_at, len_of, state_of};
 use pg_term::Term;
 use pg_world::{Answer, Command, FrameStep, Reply, Step, Update};
 
-// The command of this number of a node, if these steps ask for as many.
-fn command_of(steps: &[Step], place: usize, number: u32) -> Option<&Command> {
+/// The command of this number of a node, if these steps ask for as many.
+pub(crate) fn command_of(steps: &[Step], place: usize, number: u32) -> Option<&Command> {
     let mut count = 0u32;
     for step in steps {
         match step {
@@ -21,7 +21,7 @@ fn command_of(steps: &[Step], place: usize, number: u32) -> Option<&Command> {
     None
 }
 
-// Whether an update is the change that was asked for.
+/// Whether an update is the change that was asked for.
 fn is_update(command: &Command, update: &Update) -> bool {
     match (command, update) {
         (Command::Create(name), Update::Create(group)) => name == group,
@@ -34,7 +34,7 @@ fn is_update(command: &Command, update: &Update) -> bool {
     }
 }
 
-// How many entries are of the command of this number of a node.
+/// How many entries are of the command of this number of a node.
 fn times(history: History<'_>, node: usize, number: u32) -> usize {
     let mut times = 0usize;
     for place in 0..len_of(history) {
@@ -48,7 +48,7 @@ fn times(history: History<'_>, node: usize, number: u32) -> usize {
     times
 }
 
-// Whether each entry of a group is the change that its command asked for, and stands once.
+/// Whether each entry of a group is the change that its command asked for, and stands once.
 fn are_asked_once(steps: &[Step], history: History<'_>) -> bool {
     for place in 0..len_of(history) {
         if let Some(entry) = entry_at(history, place) {
@@ -64,7 +64,7 @@ fn are_asked_once(steps: &[Step], history: History<'_>) -> bool {
     true
 }
 
-// Whether a change of this number that is answered ok stands in the history, if that is always behind its lock.
+/// Whether a change of this number that is answered ok stands in the history, if that is always behind its lock.
 fn stands(scene: Scene<'_>, command: &Command, node: usize, number: u32) -> bool {
     match command {
         Command::Delete(name) | Command::Join(name, _) | Command::Leave(name, _) => {
@@ -74,7 +74,7 @@ fn stands(scene: Scene<'_>, command: &Command, node: usize, number: u32) -> bool
     }
 }
 
-// Whether each answer of a node is to a command, and stands in the history if it is ok.
+/// Whether each answer of a node is to a command, and stands in the history if it is ok.
 fn are_answers_right(scene: Scene<'_>, steps: &[Step], place: usize, answers: &[Answer]) -> bool {
     for answer in answers {
         match command_of(steps, place, answer.number) {

@@ -1,6 +1,6 @@
 //! Which updates of a history a node has applied.
 
-use crate::slow::held::Held;
+use crate::slow::held::{Held, bit_of};
 use crate::slow::scene::{History, Scene, State, entry_at, len_of, state_of};
 use pg_term::{Pid, Reference};
 use pg_world::{Answer, Entry};
@@ -14,6 +14,7 @@ pub(crate) struct LeftOut {
     pub is_short: bool,
 }
 
+/// Whether a command of this number was answered.
 fn has_number(answers: &[Answer], number: u32) -> bool {
     for answer in answers {
         if answer.number == number {
@@ -21,13 +22,6 @@ fn has_number(answers: &[Answer], number: u32) -> bool {
         }
     }
     false
-}
-
-/// The bits of the places.
-const BITS: [u32; 5] = [1, 2, 4, 8, 16];
-
-fn bit_of(place: usize) -> u32 {
-    *BITS.get(place).unwrap_or(&0)
 }
 
 /// The places of the nodes whose loss the node at a place saw, a bit for each.
@@ -66,7 +60,7 @@ impl Scene<'_> {
         false
     }
 
-    // Whether the command of an entry was answered.
+    /// Whether the command of an entry was answered.
     fn is_answered(&self, entry: &Entry) -> bool {
         let number = entry.op.number;
         match state_of(self.world, entry.node) {
@@ -75,7 +69,7 @@ impl Scene<'_> {
         }
     }
 
-    // The bit of the node of an entry, if its update is left out.
+    /// The bit of the node of an entry, if its update is left out.
     fn missed(&self, entry: &Entry, out: LeftOut) -> u32 {
         let bit = bit_of(entry.node) & out.of_lost;
         if bit > 0 && self.is_answered(entry) {
@@ -85,7 +79,29 @@ impl Scene<'_> {
         }
     }
 
-    /// How many updates of a history are left, if just one is left out of each of the nodes.
+    /// Whether there is a last update, and it is not answered.
+    fn is_last_open(&self, history: History<'_>) -> bool {
+        match entry_at(history, len_of(history).wrapping_sub(1)) {
+            Some(entry) => !self.is_answered(entry),
+            None => false,
+        }
+    }
+
+    /// Whether each update but the last is answered, unless the node that asked for it is lost.
+    pub(crate) fn are_others_answered(&self, history: History<'_>) -> bool {
+        for place in 0..len_of(history).saturating_sub(1) {
+            match entry_at(history, place) {
+                Some(entry) if !self.is_answered(entry) && !self.world.is_lost(entry.node) => {
+                    return false;
+                }
+                _ => {}
+            }
+        }
+        true
+    }
+
+    /// How many updates of a history are left, if just one is left out of each of the nodes. An update that is answered is never left
+    /// out.
     pub(crate) fn kept(&self, history: History<'_>, out: LeftOut) -> Option<u128> {
         let (mut kept, mut all) = (0u128, 0u32);
         for place in 0..len_of(history).saturating_sub(usize::from(out.is_short)) {
@@ -99,7 +115,7 @@ impl Scene<'_> {
             all |= missed;
             kept = kept.saturating_add(u128::from(missed == 0));
         }
-        if all == out.of_lost && (!out.is_short || len_of(history) > 0) {
+        if all == out.of_lost && (!out.is_short || self.is_last_open(history)) {
             Some(kept)
         } else {
             None

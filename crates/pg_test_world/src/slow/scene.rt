@@ -1,6 +1,6 @@
 //! The headline, read slowly off a world: what each node's table should be, by the history of each group.
 
-use crate::slow::held::{Held, count_in};
+use crate::slow::held::{ALL, Held, bit_of, count_in};
 use crate::slow::kept::{LeftOut, lost_to};
 use pg_term::{Pid, Term};
 use pg_world::{Entry, GroupTable, IndexTable, NodeState, Scope, Start};
@@ -52,6 +52,15 @@ pub struct Scene<'a> {
     pub starts: &'a [Start],
     /// The processes that a test speaks of.
     pub pids: &'a [Pid],
+    /// Which exchanges were taken.
+    pub heard: &'a [Heard],
+}
+
+/// The exchange of a peer was taken by a node: the places of both.
+#[derive(Clone, Copy)]
+pub struct Heard {
+    pub node: usize,
+    pub peer: usize,
 }
 
 /// What the table of a node should hold.
@@ -59,6 +68,8 @@ pub struct Scene<'a> {
 enum Wanted<'a> {
     /// What the updates of a history, but for these, make of what all began with, less the processes that it knows to have ended.
     AllBut(LeftOut),
+    /// What the nodes at these places began with, a bit for each, less the processes that it knows to have ended.
+    BegunBy(u32),
     /// What the table of another node holds.
     Of(&'a State),
 }
@@ -73,16 +84,16 @@ impl<'a> Scene<'a> {
         }
     }
 
-    // What a node should hold of a process in a group.
+    /// What a node should hold of a process in a group.
     fn wanted(&self, node: &State, name: &Term, wanted: Wanted<'_>, pid: &Pid) -> Held {
         match wanted {
             Wanted::AllBut(out) => {
-                let mut held = Held::begun(self.starts, name, pid);
+                let mut held = Held::begun(self.starts, ALL, name, pid);
                 self.replay(&mut held, self.world.history(name), out, pid);
-                if node.ended(pid) {
-                    held.count = 0;
-                }
-                held
+                held.less(node.ended(pid))
+            }
+            Wanted::BegunBy(places) => {
+                Held::begun(self.starts, places, name, pid).less(node.ended(pid))
             }
             Wanted::Of(other) => Held {
                 is_there: other.table().has(name),
@@ -91,7 +102,7 @@ impl<'a> Scene<'a> {
         }
     }
 
-    // Whether a node, whose list of a group this is, holds of each of these processes what it should.
+    /// Whether a node, whose list of a group this is, holds of each of these processes what it should.
     fn are_held(
         &self,
         node: &State,
@@ -110,7 +121,7 @@ impl<'a> Scene<'a> {
         true
     }
 
-    // Whether a node holds of a group what it should.
+    /// Whether a node holds of a group what it should.
     fn is_right(&self, node: &State, name: &Term, wanted: Wanted<'_>) -> bool {
         match node.table().list(self.alloc, name, Scope::All) {
             Ok(list) => {
@@ -124,8 +135,8 @@ impl<'a> Scene<'a> {
         }
     }
 
-    // Whether the table of a node is that of the updates that it has applied: the history, or all of it but the last, less one that is
-    // not answered of each lost node whose loss it saw. Where the lock is free the last is among them.
+    /// Whether the table of a node is that of the updates that it has applied: the history, or all of it but the last, less one that is
+    /// not answered of each lost node whose loss it saw. Where the lock is free the last is among them.
     fn has_its_table(&self, place: usize, node: &State, name: &Term, is_free: bool) -> bool {
         let seen = lost_to(place, node);
         let applied = Some(self.world.applied(place, name));
@@ -144,7 +155,7 @@ impl<'a> Scene<'a> {
         false
     }
 
-    // Whether one node sees the lock of a group free.
+    /// Whether one node sees the lock of a group free.
     fn is_free(&self, name: &Term) -> bool {
         for place in 0..self.starts.len() {
             if self.world.lock_free(place, name) {
@@ -154,7 +165,7 @@ impl<'a> Scene<'a> {
         false
     }
 
-    // Whether no process has ended at its home, and not everywhere. Lost nodes do not count.
+    /// Whether no process has ended at its home, and not everywhere. Lost nodes do not count.
     fn none_pending(&self) -> bool {
         for pid in self.pids {
             let mut has_ended = false;
@@ -173,14 +184,14 @@ impl<'a> Scene<'a> {
         true
     }
 
-    // Whether a formed live node has applied the whole history of a group, and has seen each loss.
+    /// Whether a formed live node has applied the whole history of a group, and has seen each loss.
     fn is_calm(&self, place: usize, node: &State, name: &Term) -> bool {
         node.formed()
             && self.world.applied(place, name) == len_of(self.world.history(name)) as u128
             && lost_to(place, node) == self.lost()
     }
 
-    // The first such node.
+    /// The first such node.
     fn first_calm(&self, name: &Term) -> Option<&'a State> {
         for place in 0..self.starts.len() {
             match self.left_at(place) {
@@ -191,7 +202,30 @@ impl<'a> Scene<'a> {
         None
     }
 
-    // What does not hold of a group at a node, if something does not. `is_free`: its lock is free; `none_pending`: no end is pending.
+    /// The places of a node and of the peers whose exchange it took, a bit for each.
+    fn known_at(&self, place: usize) -> u32 {
+        let mut known = bit_of(place);
+        for heard in self.heard {
+            if heard.node == place {
+                known |= bit_of(heard.peer);
+            }
+        }
+        known
+    }
+
+    /// What does not hold of a group at a node that is not formed, if something does not.
+    fn fault_unformed(&self, place: usize, node: &State, name: &Term) -> Option<&'static str> {
+        if len_of(self.world.history(name)) > 0 {
+            return Some("an update while a node is not formed");
+        }
+        if self.is_right(node, name, Wanted::BegunBy(self.known_at(place))) {
+            None
+        } else {
+            Some("the table of a node that is not formed is another")
+        }
+    }
+
+    /// What does not hold of a group at a node, if something does not. `is_free`: its lock is free; `none_pending`: no end is pending.
     fn fault_at(
         &self,
         place: usize,
@@ -204,11 +238,7 @@ impl<'a> Scene<'a> {
             return Some("a lock of a lost node");
         }
         if !node.formed() {
-            return if len_of(self.world.history(name)) == 0 {
-                None
-            } else {
-                Some("an update while a node is not formed")
-            };
+            return self.fault_unformed(place, node, name);
         }
         let is_free = is_free || self.world.lock_free(place, name);
         if !self.has_its_table(place, node, name, is_free) {
@@ -256,7 +286,11 @@ impl<'a> Scene<'a> {
             let name = Term::Int(group);
             // Where none is lost, all have applied the whole history if one sees the lock free.
             let is_free = self.lost() == 0 && self.is_free(&name);
-            let mut fault = None;
+            let mut fault = if self.are_others_answered(self.world.history(&name)) {
+                None
+            } else {
+                Some("two updates are not answered")
+            };
             for place in 0..self.starts.len() {
                 if fault.is_none() {
                     fault = self.fault_at(place, &name, is_free, none_pending);
