@@ -28,6 +28,7 @@ use Rattle.pg_cluster.specs.declared.fault.StartFault.TheVariants.{World, NoThre
 use Rattle.pg_cluster.specs.declared.runs.Made.{Made}
 use Rattle.pg_cluster.specs.Clients.{AllPairs, IsOpenClient}
 use Rattle.pg_cluster.specs.Ended.{NodeRow, AreWired, row_at}
+use Rattle.pg_cluster_judges.specs.PgWorldPackets.Openings.{CanBegin}
 use Rattle.pg_cluster.specs.Fault.{CantRun, IsShortage}
 use Rattle.pg_cluster.specs.Rows.{HaveRowRoom, Wired, RowsWired}
 use Rattle.pg_cluster.specs.Threads.{AreMade, HasLinks, HaveRings, RunOf}
@@ -99,14 +100,14 @@ are_made given nodes rows (Err fault) good count begins wired held rowed unlogge
 
 -- ---- why nothing was made
 
-pub shortage : (ring : ℕ) (given : Config) (fault : StartFault) → IsShortage fault → CantRun ring given fault
-shortage ring given (World OutOfMemory) short = tt
-shortage ring given NoThread short = tt
-shortage ring given (World fault) short = absurd short
+pub shortage : (ring : ℕ) (given : Config) (fault : StartFault) → CanBegin ring given → IsShortage fault → CantRun ring given fault
+shortage ring given (World OutOfMemory) can short = tt
+shortage ring given NoThread can short = can
+shortage ring given (World fault) can short = absurd short
 
-pub shortage_of : {A : Type 0} (ring : ℕ) (given : Config) (result : Result A StartFault) → IfErr result IsShortage → IfErr result (CantRun ring given)
-shortage_of ring given (Ok made) short = tt
-shortage_of ring given (Err fault) short = shortage ring given fault short
+pub shortage_of : {A : Type 0} (ring : ℕ) (given : Config) (result : Result A StartFault) → CanBegin ring given → IfErr result IsShortage → IfErr result (CantRun ring given)
+shortage_of ring given (Ok made) can short = tt
+shortage_of ring given (Err fault) can short = shortage ring given fault can short
 
 -- ---- the links of each node
 

@@ -5,7 +5,7 @@ use Rattle.pg_ring.specs.declared.slot_out.SlotOut.{SlotOut}
 use Rattle.pg_cluster_judges.specs.PgNodeRun.declared.notices.Notice.{Notice}
 use Rattle.pg_cluster_judges.specs.PgNodeRun.declared.port.Asked.{Asked}
 use Rattle.pg_cluster_judges.specs.PgNodeRun.declared.port.Client.{Client}
-use Rattle.pg_cluster_judges.specs.PgNodeRun.Ports.{submitted, polled}
+use Rattle.pg_cluster_judges.specs.PgNodeRun.Ports.{submitted, polled, places_free, answers_left}
 use Rattle.pg_cluster_judges.specs.PgStep.declared.answer.Answer.{Answer}
 use Rattle.pg_cluster_judges.specs.PgWorldConfig.declared.config.Config.{Config}
 use Rattle.pg_cluster.specs.declared.running.Running.{Running}
@@ -46,6 +46,13 @@ submitted_at place none running = submitted (get_or (clients_in running) place n
 
 abbrev pub polled_at : ℕ → Client → Running → List Answer
 polled_at place none running = polled (get_or (clients_in running) place none)
+
+-- for how many commands that client knows a free place, and the answers that it knows to be there
+abbrev pub free_at : ℕ → Client → Running → ℕ
+free_at place none running = places_free (get_or (clients_in running) place none)
+
+abbrev pub left_at : ℕ → Client → Running → List Answer
+left_at place none running = answers_left (get_or (clients_in running) place none)
 
 -- nothing but what the clients said and heard is changed
 pub record RunningGoes (a b : Running) : Type 0 where

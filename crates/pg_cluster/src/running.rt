@@ -41,9 +41,10 @@ pub struct Running {
 }
 
 impl Running {
-    ghost use Rattle.std.specs.Prelude.{◌<◌, ◌++◌, ◌∷◌, [], ◌↔◌, ◌≤◌, ◌⊎◌, true, get_or, IfErr, IfSome};
-    ghost use Rattle.std.specs.Prelude.{IfNone, OnOk, OnErr, Some, Err, MatchResult, slice_get, slice_set};
+    ghost use Rattle.std.specs.Prelude.{◌<◌, ◌+◌, ◌++◌, ◌∷◌, [], ◌↔◌, ◌≤◌, ◌⊎◌, true, get_or, IfErr, IfSome};
+    ghost use Rattle.std.specs.Prelude.{IfNone, IsOk, IsSome, OnOk, OnErr, Some, Err, MatchResult, slice_get, slice_set};
     ghost use Rattle.std.specs.List.{All};
+    ghost use mathlib.Core.List.{IsPrefix};
     ghost use Rattle.pg_cluster_judges.specs.PgNodeState.declared.state.fault.NodeFault.TheVariants.{Refused};
     ghost use Rattle.pg_cluster_judges.specs.PgNodeRun.Ports.{IsSilent, polled_count};
     ghost use Rattle.pg_cluster_judges.specs.PgNodeRun.declared.port.Client.{Client as ClientEnd};
@@ -57,7 +58,7 @@ impl Running {
     ghost use Rattle.pg_cluster_judges.specs.Judges.{Agree};
     ghost use Rattle.pg_cluster_judges.specs.Schedule.{NobodyLost};
     ghost use Rattle.pg_cluster.specs.Running.{clients_in, config_in, tellers_in, threads_in};
-    ghost use Rattle.pg_cluster.specs.Running.{losses_in, submitted_at, polled_at, OnlyClient};
+    ghost use Rattle.pg_cluster.specs.Running.{losses_in, submitted_at, polled_at, free_at, left_at, OnlyClient};
     ghost use Rattle.pg_cluster.specs.Threads.{limit_of, EndedWith, HaveRings};
     ghost use Rattle.pg_cluster_judges.specs.PgNodeRun.Runs.{generator_of};
     ghost use Rattle.pg_cluster_judges.specs.Survivors.{SurvivorsAgree};
@@ -130,7 +131,7 @@ impl Running {
 
     /// Submits a command at the client at a place, as `Client::submit` does.
     ///
-    /// Errors: the command, handed back as by `Client::submit`; then nothing was submitted.
+    /// Errors: the command, handed back where the client knows of no free place; then nothing was submitted.
     ///
     /// Cost: no memory; O(1).
     pub fn submit(&mut self, place: usize, command: Command) -> Result<(), Command>
@@ -141,11 +142,15 @@ impl Running {
         ensures back { IfErr result (λ back. back ≡ command) }
         ensures err { OnErr result ((none : ClientEnd) → submitted_at place none self.new ≡ submitted_at place none self.old) }
         ensures polled { (none : ClientEnd) → polled_at place none self.new ≡ polled_at place none self.old }
+        ensures free { OnOk result ((none : ClientEnd) → free_at place none self.old ≤ free_at place none self.new + 1) }
+        ensures full { OnErr result ((none : ClientEnd) → free_at place none self.new ≡ 0) }
+        ensures succeeds { (none : ClientEnd) → 0 < free_at place none self.old → IsOk result }
+        ensures left { (none : ClientEnd) → left_at place none self.new ≡ left_at place none self.old }
     {
         self.clients[place].submit(command)
     }
 
-    /// The next answer of the client at a place, if one is there, as `Client::poll` gives it.
+    /// The next answer of the client at a place, as `Client::poll` gives it: none only where the client knows of none.
     ///
     /// Cost: no memory; O(1).
     pub fn poll(&mut self, place: usize) -> Option<Answer>
@@ -154,6 +159,11 @@ impl Running {
         ensures some { IfSome result (λ answer. (none : ClientEnd) → polled_at place none self.new ≡ polled_at place none self.old ++ answer ∷ []) }
         ensures none { IfNone result ((none : ClientEnd) → polled_at place none self.new ≡ polled_at place none self.old) }
         ensures submitted { (none : ClientEnd) → submitted_at place none self.new ≡ submitted_at place none self.old }
+        // The answers that are known to be there come first.
+        ensures known { IfSome result (λ answer. (none : ClientEnd) → IsPrefix (left_at place none self.old) (answer ∷ left_at place none self.new)) }
+        ensures empty { IfNone result ((none : ClientEnd) → left_at place none self.new ≡ []) }
+        ensures succeeds { (none : ClientEnd) → 0 < length (left_at place none self.old) → IsSome result }
+        ensures free { (none : ClientEnd) → free_at place none self.new ≡ free_at place none self.old }
     {
         self.clients[place].poll()
     }
