@@ -23,11 +23,12 @@ use Rattle.pg_cluster.specs.Clients.{AllPairs}
 use Rattle.pg_talk.specs.declared.speaker.Speaker.{Speaker}
 use Rattle.pg_talk.specs.declared.speaker.Stage.{Stage}
 use Rattle.pg_talk.specs.declared.speaker.Stage.TheVariants.{Waiting, Creating, Making, Joining, Leaving, Silent}
-use Rattle.pg_talk.specs.Asking.{AllKeep, AllSpoke, HasHeard, HasRest, MayBe, Spoke, all_asked, commands_of}
+use Rattle.pg_talk.specs.Asking.{AllKeep, AllSpoke, AlternateWithAnswers, HasHeard, HasRest, MayBe, Spoke, all_asked, commands_of}
 use Rattle.pg_talk.specs.Asking.{first_asked, group_name, is_first, left_to_say, made_in, process_made}
 use Rattle.pg_talk.specs.Asking.{make_place, next_said, pid_after, rounds_after, rounds_asked, stage_after}
 use Rattle.pg_talk.specs.Conversations.{saturated}
 use Rattle.pg_talk.proofs.Conversing.{add_one_up_to}
+use Rattle.pg_talk.proofs.Posts.{turns_more}
 
 -- ---- what is left to be said
 
@@ -142,17 +143,22 @@ module _ (creates : Bool) (rounds : ℕ) where
         process = pid ∙ k.process;
         said = λ p may. ap (λ r. commands_of client ++ r) (rest p) ∙ k.said p (subst (MayBe p) pid may);
         turns = k.turns ∙ ap (λ x. count + cond x 1 0) (sym asked);
+        alternate = k.alternate;
         at = subst (λ s. HasHeard creates s b.is_asked count) (sym now) (at.2 ∙ sym (ap make_place at.0));
       }
 
   -- the command of the stage is submitted
-  pub asks : (a b : Speaker) (client client2 : Client) (command : Command) (number : ℕ) → a.is_asked ≡ false → next_said a.stage a.pid ≡ Some command
-      → submitted client2 ≡ submitted client ++ record { command = command; polled = number } ∷ [] → polled client2 ≡ polled client
+  pub asks : (a b : Speaker) (client client2 : Client) (command : Command) → a.is_asked ≡ false → next_said a.stage a.pid ≡ Some command
+      → submitted client2 ≡ submitted client ++ record { command = command; polled = polled_count client } ∷ [] → polled client2 ≡ polled client
       → b.stage ≡ a.stage → b.is_asked ≡ true → b.pid ≡ a.pid → b.rounds ≡ a.rounds → b.answered ≡ a.answered → HasRest creates rounds a client → HasRest creates rounds b client2
-  asks a b client client2 command number unasked next gave heard stage asked pid left answered k =
+  asks a b client client2 command unasked next gave heard stage asked pid left answered k =
       let count = length (polled client) in
       let at : HasHeard creates a.stage false count = subst (λ x. HasHeard creates a.stage x count) unasked k.at in
-      let commands : commands_of client2 ≡ commands_of client ++ command ∷ [] = ap (map (λ (x : Asked). x.command)) gave ∙ map-append (λ (x : Asked). x.command) (submitted client) (record { command = command; polled = number } ∷ []) in
+      let commands : commands_of client2 ≡ commands_of client ++ command ∷ [] = ap (map (λ (x : Asked). x.command)) gave ∙ map-append (λ (x : Asked). x.command) (submitted client) (record { command = command; polled = polled_count client } ∷ []) in
+      let one : Asked = record { command = command; polled = polled_count client } in
+      let level : count ≡ length (submitted client) =
+      let said : length (commands_of client) ≡ count + 0 = k.turns ∙ ap (λ x. count + cond x 1 0) unasked in
+      let all = length-map (submitted client) (λ (x : Asked). x.command) in omega (arith, said, all) in
       let rest : (p : Pid) → MayBe p a.pid → command ∷ left_to_say b.stage b.is_asked b.rounds p ≡ left_to_say a.stage a.is_asked a.rounds p = λ p may.
       (λ j. command ∷ left_to_say (stage j) (asked j) (left j) p) ∙ sym ((λ j. left_to_say a.stage (unasked j) a.rounds p) ∙ left_splits a.stage a.pid a.rounds command p next may) in record {
         counted = answered ∙ (k.counted ∙ ap (λ xs. min (length xs) (2 ^ 64 - 1)) (sym heard));
@@ -162,6 +168,7 @@ module _ (creates : Bool) (rounds : ℕ) where
             ∙ (ap (λ r. commands_of client ++ r) (rest p before) ∙ k.said p before));
         turns = ap length commands ∙ (length-append (commands_of client) (command ∷ []) ∙ (ap (λ n. n + 1) (k.turns ∙ ap (λ x. count + cond x 1 0) unasked)
             ∙ (plain count ∙ (λ j. length (sym heard j) + cond (sym asked j) 1 0))));
+        alternate = subst AlternateWithAnswers (sym gave) (turns_more (submitted client) one k.alternate (ap (λ n. min n (2 ^ 64 - 1)) level));
         at = subst (λ s. HasHeard creates s b.is_asked (length (polled client2))) (sym stage)
             (subst (λ x. HasHeard creates a.stage x (length (polled client2))) (sym asked)
             (subst (λ (h : List Answer). HasHeard creates a.stage true (length h)) (sym heard) (at_asked creates a.stage a.pid command count next at)));
@@ -180,6 +187,7 @@ module _ (creates : Bool) (rounds : ℕ) where
         said = λ p may. ap (λ (xs : List Asked). map (λ (x : Asked). x.command) xs ++ left_to_say b.stage b.is_asked b.rounds p) gave
             ∙ ((λ j. commands_of client ++ left_to_say (stage j) (asked j) (left j) p) ∙ k.said p (subst (MayBe p) pid may));
         turns = ap (λ (xs : List Asked). length (map (λ (x : Asked). x.command) xs)) gave ∙ (k.turns ∙ (λ j. length (sym heard j) + cond (sym asked j) 1 0));
+        alternate = subst AlternateWithAnswers (sym gave) k.alternate;
         at = subst (λ s. HasHeard creates s b.is_asked (length (polled client2))) (sym stage)
             (subst (λ x. HasHeard creates a.stage x (length (polled client2))) (sym asked)
             (subst (λ (h : List Answer). HasHeard creates a.stage a.is_asked (length h)) (sym heard) k.at));
@@ -201,6 +209,7 @@ module _ (creates : Bool) (rounds : ℕ) where
             ∙ (ap (λ r. commands_of client ++ r) (rest p) ∙ k.said p (may_before creates a.stage a.pid (polled client) answer.reply p at k.process (subst (MayBe p) pid may)));
         turns = ap (λ (xs : List Asked). length (map (λ (x : Asked). x.command) xs)) gave ∙ (k.turns ∙ (ap (λ x. count + cond x 1 0) asked
             ∙ (plain count ∙ (λ j. sym longer j + cond (sym unasked j) 1 0))));
+        alternate = subst AlternateWithAnswers (sym gave) k.alternate;
         at = subst (λ s. HasHeard creates s b.is_asked (length (polled client2))) (sym stage)
             (subst (λ x. HasHeard creates (stage_after a.stage a.rounds) x (length (polled client2))) (sym unasked)
             (subst (HasHeard creates (stage_after a.stage a.rounds) false) (sym longer) (at_after creates a.stage a.rounds count at)));
@@ -218,6 +227,7 @@ module _ (creates : Bool) (rounds : ℕ) where
     said = λ p may. ap (λ (xs : List Asked). map (λ (x : Asked). x.command) xs ++ left_to_say a.stage a.is_asked a.rounds p) silent.submitted
         ∙ ((λ j. left_to_say a.stage (unasked j) (left j) p) ∙ all p);
     turns = ap (λ (xs : List Asked). length (map (λ (x : Asked). x.command) xs)) silent.submitted ∙ (λ j. length (sym silent.polled j) + cond (sym unasked j) 1 0);
+    alternate = subst AlternateWithAnswers (sym silent.submitted) (λ n none low. absurd (omega (arith, low)));
     at = subst (λ x. HasHeard creates a.stage x (length (polled client))) (sym unasked) (subst (λ (xs : List Answer). HasHeard creates a.stage false (length xs)) (sym silent.polled) at);
   }
     where
@@ -231,6 +241,7 @@ module _ (creates : Bool) (rounds : ℕ) where
     asked = λ p may. ap (take (length (commands_of client))) (sym (k.said p (subst (MayBe p) (sym k.process) may))) ∙ take-append_seam (commands_of client) (left_to_say a.stage a.is_asked a.rounds p);
     heard = at_least a.is_asked (length (commands_of client)) (length (polled client)) k.turns;
     turns = at_most a.is_asked (length (commands_of client)) (length (polled client)) k.turns;
+    alternate = k.alternate;
   }
     where
       at_least : (b : Bool) (n m : ℕ) → n ≡ m + cond b 1 0 → m ≤ n

@@ -1,8 +1,8 @@
 -- A conversation that took place, and the answers that its clients count.
 use Rattle.std.proofs.Common.{◌≡◌, ◌≢◌, ◌⊎◌, ◌<◌, ◌+◌, ◌-◌, ◌^◌, ℕ, min, true, List, [], ◌∷◌, ◌++◌, length}
-use Rattle.std.proofs.Common.{get_or, map, set, inl, inr, refl, sym, ap, subst, ◌∙◌, suc, arith, length-append}
+use Rattle.std.proofs.Common.{get_or, map, set, inl, inr, refl, sym, ap, subst, ◌∙◌, zero, suc, arith, length-append}
 use Rattle.std.specs.List.{All, sum_by}
-use Rattle.std.specs.Prelude.{if◌then◌else◌, nat_lt, Bool, false, Ok, Err}
+use Rattle.std.specs.Prelude.{if◌then◌else◌, nat_lt, Bool, false, Result, Ok, Err, IfErr, IsErrAnd}
 use Rattle.std.proofs.Math.ListN.{get_or-append, get_or-map}
 use Rattle.std.proofs.lemmas.Bool.{cases_eq}
 use Rattle.std.proofs.lemmas.Bool.Decides.{eqb_tells}
@@ -16,8 +16,14 @@ use Rattle.pg_term.specs.Fault.{checked_atom}
 use Rattle.pg_cluster.specs.Clients.{AllPairs}
 use Rattle.pg_cluster.specs.ClientsLaws.{all_same_on}
 use Rattle.pg_cluster.specs.Running.{RunningGoes, clients_in}
+use Rattle.pg_cluster.specs.PgWorldConfig.declared.fault.WorldFault.TheVariants.{OutOfMemory}
+use Rattle.pg_cluster.specs.declared.fault.StartFault.{StartFault}
+use Rattle.pg_cluster.specs.declared.fault.StartFault.TheVariants.{World}
 use Rattle.pg_cluster.specs.declared.running.Running.{Running}
-use Rattle.pg_talk.specs.Conversations.{AreBare, IsBare, all_polled, saturated}
+use Rattle.pg_node_requests.specs.Members.{node_name}
+use Rattle.pg_talk.specs.Conversations.{AreBare, CantTalk, IsBare, all_polled, saturated}
+use Rattle.pg_talk.specs.declared.conversation.Conversation.{Conversation}
+use Rattle.pg_talk.specs.declared.conversation.Outcome.{Outcome}
 use Rattle.pg_talk.specs.declared.speaker.Speaker.{Speaker}
 
 -- ---- pairs
@@ -57,6 +63,44 @@ bare_push ports starts start all here i none low = elim (eqb_tells i (length sta
       let less : i < length starts = let n = length_push starts start in omega (arith, f.1, n, low) in
       subst (IsBare ports (i + 1)) (sym (get_or-append starts (start ∷ []) none i less)) (all i none less)
 ]
+
+-- so many nodes, numbered from this on
+abbrev bares : ℕ → ℕ → ℕ → List Start
+bares ports number zero = []
+bares ports number (suc count) = record { name = node_name number; made = 0; ports = ports; groups = [] } ∷ bares ports (suc number) count
+
+length-bares : (ports number count : ℕ) → length (bares ports number count) ≡ count
+length-bares ports number zero = refl
+length-bares ports number (suc count) = ap suc (length-bares ports (suc number) count)
+
+bare_at : (ports number count i : ℕ) (none : Start) → i < length (bares ports number count) → IsBare ports (number + i) (get_or (bares ports number count) i none)
+bare_at ports number zero i none low = absurd (omega (arith, low))
+bare_at ports number (suc count) zero none low =
+    let start : Start = record { name = node_name number; made = 0; ports = ports; groups = [] } in
+    let here : IsBare ports number start = record { named = refl; ports_are = refl; no_process = refl; no_group = refl } in
+    let e : number ≡ number + 0 = omega arith in
+    subst (λ n. IsBare ports n start) e here
+bare_at ports number (suc count) (suc i) none low =
+    let less : i < length (bares ports (suc number) count) = omega (arith, low) in
+    let e : suc number + i ≡ number + suc i = omega arith in
+    subst (λ n. IsBare ports n (get_or (bares ports (suc number) count) i none)) e (bare_at ports (suc number) count i none less)
+
+-- where there is no memory no cluster of the nodes that are asked for is started
+pub cant_without_memory : (asked : Conversation) → CantTalk asked (World OutOfMemory)
+cant_without_memory asked = (
+  bares asked.clients 1 asked.nodes,
+  record {
+    count = length-bares asked.clients 1 asked.nodes;
+    each = λ i none low.
+        let e : 1 + i ≡ i + 1 = omega arith in
+        subst (λ n. IsBare asked.clients n (get_or (bares asked.clients 1 asked.nodes) i none)) e (bare_at asked.clients 1 asked.nodes i none low);
+  },
+  tt,
+)
+
+pub no_memory : (asked : Conversation) (r : Result Outcome StartFault) → IsErrAnd r (λ e. e ≡ World OutOfMemory) → IfErr r (CantTalk asked)
+no_memory asked (Ok outcome) h = tt
+no_memory asked (Err e) h = subst (CantTalk asked) (sym h) (cant_without_memory asked)
 
 -- the atom of a text that has one
 pub atom_is : (text name : List ℕ) → checked_atom text ≡ Ok name → name ≡ text

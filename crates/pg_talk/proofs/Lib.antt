@@ -5,6 +5,7 @@ pub mod FramesRead
 pub mod InputsGoOn
 pub mod Judging
 pub mod Opening
+pub mod Passing
 pub mod Posts
 pub mod Sent
 pub mod Spoken

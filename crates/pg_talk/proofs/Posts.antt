@@ -17,9 +17,10 @@ use Rattle.pg_node_requests.specs.Replies.{bad_request_term, count_reply, error_
 use Rattle.pg_node_requests.specs.Replies.{numbered_term, refused_term, reply_term}
 use Rattle.std.specs.Str.{chars}
 use Rattle.pg_talk.specs.Conversations.{saturated}
-use Rattle.pg_talk.specs.Frames.{framed, IsUntellable, WritesReply}
+use Rattle.pg_talk.specs.Frames.{framed, IsUntellable, untellable_number, WritesReply}
 use Rattle.pg_talk.specs.Servings.{IsKept, with_node}
-use Rattle.pg_talk.specs.Written.{AreReplies, AlternateWithAnswers, IsDue, IsReply, Known, PortName}
+use Rattle.pg_talk.specs.Asking.{AlternateWithAnswers}
+use Rattle.pg_talk.specs.Written.{AreReplies, IsDue, IsReply, Known, PortName}
 use Rattle.pg_talk.specs.Written.{commands_of, ending_term, outcomes}
 use Rattle.pg_talk.specs.declared.service.ending.Ending.{Ending}
 use Rattle.pg_talk.specs.declared.service.ending.Ending.TheVariants.{Lost, Open, Unasked}
@@ -81,7 +82,7 @@ replies_more port os rs o r all is = record {
           (get_or-append os (o ∷ []) none k less_too) (get_or-append rs (r ∷ []) none k less) (all.each k none less_too)
     ]
 
-turns_more : (asked : List Asked) (one : Asked) → AlternateWithAnswers asked → one.polled ≡ saturated (length asked) → AlternateWithAnswers (asked ++ one ∷ [])
+pub turns_more : (asked : List Asked) (one : Asked) → AlternateWithAnswers asked → one.polled ≡ saturated (length asked) → AlternateWithAnswers (asked ++ one ∷ [])
 turns_more asked one all here k none low = elim (eqb_tells k (length asked)) [
   | inl t ↦ ap (λ (x : Asked). x.polled) (get_or_push asked one none k (sym t.1)) ∙ here ∙ ap saturated (sym t.1)
   | inr f ↦
@@ -101,7 +102,15 @@ reply_written port outcome before after n r is wrote = go wrote
 
     go : WritesReply before after port.name port.number (saturated (n + 1)) outcome → (term : Term) × IsReply port (r + 1) outcome term × Appends before after (framed term)
     go (inl whole) = (numbered_term port.name port.number (saturated (n + 1)) outcome, inl (same outcome), whole)
-    go (inr refused) = (numbered_term port.name port.number (saturated (n + 1)) (refused_term refused.1.0), inr (subst IsUntellable (same outcome) refused.0, (refused.1.0, same (refused_term refused.1.0))), refused.1.1)
+    go (inr refused) =
+        let told = untellable_number (numbered_term port.name port.number (saturated (n + 1)) outcome) in (
+          numbered_term port.name port.number (saturated (n + 1)) (refused_term told),
+          inr (
+            subst IsUntellable (same outcome) refused.0,
+            same (refused_term told) ∙ ap (λ (t : Term). numbered_term port.name port.number (r + 1) (refused_term (untellable_number t))) (same outcome),
+          ),
+          refused.1,
+        )
 
 -- ---- what is done
 

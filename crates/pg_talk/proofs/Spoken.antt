@@ -21,8 +21,8 @@ use Rattle.pg_cluster.specs.PgStep.declared.answer.Answer.{Answer}
 use Rattle.pg_cluster.specs.PgStep.declared.command.Command.{Command}
 use Rattle.pg_term.specs.declared.term.Term.{Term}
 use Rattle.pg_cluster.specs.declared.running.Running.{Running}
-use Rattle.pg_cluster.specs.Clusters.{lost_of}
-use Rattle.pg_cluster.specs.Running.{OnlyClient, clients_in, config_in, losses_in, polled_at, submitted_at}
+use Rattle.pg_cluster.specs.Clusters.{lost_of, threads_of}
+use Rattle.pg_cluster.specs.Running.{OnlyClient, clients_in, config_in, losses_in, polled_at, submitted_at, threads_in}
 use Rattle.pg_node_requests.specs.declared.input.Input.{Input}
 use Rattle.pg_node_requests.specs.declared.input.Input.TheVariants as forms
 use Rattle.pg_node_requests.specs.Replies.{bad_request_term, lost_term, reply_term}
@@ -32,7 +32,7 @@ use Rattle.pg_talk.specs.declared.service.serving.ServedNode.{ServedNode}
 use Rattle.pg_talk.specs.Conversations.{saturated}
 use Rattle.pg_talk.specs.Desks.{SameDesk, waiting_at}
 use Rattle.pg_talk.specs.Frames.{framed, WritesReply}
-use Rattle.pg_talk.specs.Servings.{AreDesksKept, IsDueAt, IsKept, IsKeptAt, Knows, Serves, ServesTold, View}
+use Rattle.pg_talk.specs.Servings.{AreDesksKept, Begun, IsDueAt, IsKept, IsKeptAt, Knows, Serves, ServesTold, View}
 use Rattle.pg_talk.specs.Servings.{asked_at, is_known_lost, known_lost, node_at, port_at, replied_at}
 use Rattle.pg_talk.specs.Written.{InputsSeen, IsAddressed, IsDue, IsReply, Known, PortName, Written, bytes_of}
 use Rattle.pg_talk.specs.Written.{ending_term, heard_at, is_full_end, is_lost_at, known_at, none_told, notices_in}
@@ -81,6 +81,7 @@ module _ {Y : Type 0} (f : Client → List Y) where
 record Beside (client : ℕ) (a b : Running) : Type 0 where
   config : config_in b ≡ config_in a
   losses : losses_in b ≡ losses_in a
+  threads : threads_in b ≡ threads_in a
   said : (i : ℕ) → i ≢ client → said_at i (clients_in b) ≡ said_at i (clients_in a)
   heard : (i : ℕ) → i ≢ client → heard_at i (clients_in b) ≡ heard_at i (clients_in a)
 
@@ -88,12 +89,13 @@ beside_only : (client : ℕ) (a b : Running) → OnlyClient client a b → Besid
 beside_only client a b only = record {
   config = only.config;
   losses = ap lost_of only.cluster;
+  threads = ap threads_of only.cluster;
   said = λ i n. stays_at submitted (clients_in a) (clients_in b) i only.count (λ none. only.others i none n);
   heard = λ i n. stays_at polled (clients_in a) (clients_in b) i only.count (λ none. only.others i none n);
 }
 
 beside_itself : (client : ℕ) (a : Running) → Beside client a a
-beside_itself client a = record { config = refl; losses = refl; said = λ i n. refl; heard = λ i n. refl }
+beside_itself client a = record { config = refl; losses = refl; threads = refl; said = λ i n. refl; heard = λ i n. refl }
 
 -- ---- desks
 
@@ -220,7 +222,7 @@ told_on given told [] input = refl
 told_on given told (other ∷ inputs) input = told_on given (tell_next given told other) inputs input
 
 -- what is served with one input more, by what that comes to
-takes_by : (given : Config) (first now : Option (List ℕ)) (inputs : List Input) (input : Input) (view : View) (told : InputsSeen) → told ≡ tell_next given (told_by given inputs) input
+takes_by : (given : Config) (first : Begun) (now : Option (List ℕ)) (inputs : List Input) (input : Input) (view : View) (told : InputsSeen) → told ≡ tell_next given (told_by given inputs) input
     → ServesTold given told first (inputs ++ input ∷ []) view now → Serves given first (inputs ++ input ∷ []) view now
 takes_by given first now inputs input view told is serves =
     subst (λ (t : InputsSeen). ServesTold given t first (inputs ++ input ∷ []) view now) (is ∙ sym (told_on given (none_told given) inputs input)) serves
@@ -246,7 +248,7 @@ not_asked_of client i command n = elim (eqb_tells client i) [
 
 -- ---- one desk
 
-module _ (given : Config) (first before : Option (List ℕ)) (inputs : List Input) (told : InputsSeen) (a : View) (k : ℕ) (x : Desk) (low : k < length a.desks) (value : x ≡ get_or a.desks k x)
+module _ (given : Config) (first : Begun) (before : Option (List ℕ)) (inputs : List Input) (told : InputsSeen) (a : View) (k : ℕ) (x : Desk) (low : k < length a.desks) (value : x ≡ get_or a.desks k x)
     (s : ServesTold given told first inputs a before) where
   abbrev requests_here : List Command
   requests_here = requests_to k inputs
@@ -277,8 +279,9 @@ module _ (given : Config) (first before : Option (List ℕ)) (inputs : List Inpu
     replied_so after term wrote here =
         let frame = reply_frame k term in record {
           knows = knows_so;
+          threads = beside.threads ∙ s.threads;
           frames = s.frames ++ frame ∷ [];
-          wrote = wrote_more first before after s.frames frame s.wrote wrote;
+          wrote = wrote_more first.written before after s.frames frame s.wrote wrote;
           addressed = addressed_more (length a.desks) (length (set a.desks k x2)) s.frames frame (length-set a.desks k x2) low s.addressed;
           notices = notices-append s.frames (frame ∷ []) ∙ append-nil (notices_in s.frames) ∙ s.notices;
           kept = kept_step told inputs inputs a.desks (clients_in a.running) (clients_in running) s.frames (s.frames ++ frame ∷ []) k x2 low (λ i n. refl) beside.said beside.heard
@@ -292,6 +295,7 @@ module _ (given : Config) (first before : Option (List ℕ)) (inputs : List Inpu
         → ServesTold given told first inputs (record a { running = running; desks = set a.desks k x2 }) before
     unreplied_so here = record {
       knows = knows_so;
+      threads = beside.threads ∙ s.threads;
       frames = s.frames;
       wrote = s.wrote;
       addressed = subst (λ n. All (λ (frame : Written). IsAddressed n frame.client) s.frames) (sym (length-set a.desks k x2)) s.addressed;
@@ -333,7 +337,7 @@ asked_told a k x so low value is = sym (found (λ (desk : Desk). desk.is_asked) 
 replied_same : (a b : Desk) → SameDesk a b → SameDesk (replied_at a) (replied_at b)
 replied_same a b same = record { name = same.name; node = same.node; port = same.port; asked = refl; replied = ap (λ n. saturated (n + 1)) same.replied }
 
-module _ (given : Config) (first before : Option (List ℕ)) (inputs : List Input) (a : View) (k : ℕ) (x : Desk) (low : k < length a.desks) (value : x ≡ get_or a.desks k x)
+module _ (given : Config) (first : Begun) (before : Option (List ℕ)) (inputs : List Input) (a : View) (k : ℕ) (x : Desk) (low : k < length a.desks) (value : x ≡ get_or a.desks k x)
     (s : Serves given first inputs a before) where
   abbrev told_here : InputsSeen
   told_here = told_by given inputs
@@ -373,6 +377,7 @@ module _ (given : Config) (first before : Option (List ℕ)) (inputs : List Inpu
         known = s.knows.known;
         over = s.knows.over;
       };
+      threads = ap threads_of only.cluster ∙ s.threads;
       frames = s.frames;
       wrote = s.wrote;
       addressed = s.addressed;
@@ -518,6 +523,7 @@ module _ (given : Config) (first before : Option (List ℕ)) (inputs : List Inpu
           known = s.knows.known;
           over = s.knows.over;
         };
+        threads = s.threads;
         frames = s.frames;
         wrote = s.wrote;
         addressed = subst (λ n. All (λ (frame : Written). IsAddressed n frame.client) s.frames) (sym (length-set a.desks k x2)) s.addressed;
@@ -559,7 +565,7 @@ full_is (Some (Some number)) e = elim (eqb_tells number 30) [
   | inr f ↦ absurd (true_is_not_false (sym e ∙ f.0))
 ]
 
-module _ (given : Config) (first before : Option (List ℕ)) (inputs : List Input) (a : View) (s : Serves given first inputs a before) where
+module _ (given : Config) (first : Begun) (before : Option (List ℕ)) (inputs : List Input) (a : View) (s : Serves given first inputs a before) where
   abbrev told_now : InputsSeen
   told_now = told_by given inputs
 
@@ -578,8 +584,9 @@ module _ (given : Config) (first before : Option (List ℕ)) (inputs : List Inpu
           known = s.knows.known;
           over = s.knows.over;
         };
+        threads = s.threads;
         frames = s.frames ++ frame ∷ [];
-        wrote = wrote_more first before after s.frames frame s.wrote wrote;
+        wrote = wrote_more first.written before after s.frames frame s.wrote wrote;
         addressed = addressed_more (length a.desks) (length a.desks) s.frames frame refl tt s.addressed;
         notices = notices-append s.frames (frame ∷ []) ∙ ap (λ (terms : List Term). terms ++ frame.term ∷ []) s.notices ∙ ap (λ (term : Term). told_now.notices ++ term ∷ []) same;
         kept = kept_all told_now (tell_bad told_now) inputs (inputs ++ input ∷ []) a.desks (clients_in a.running) (clients_in a.running) s.frames (s.frames ++ frame ∷ []) (still_known told_now)
@@ -617,10 +624,10 @@ module _ (given : Config) (first before : Option (List ℕ)) (inputs : List Inpu
 
   -- a node is lost
   pub node_loss_served : (after : Option (List ℕ)) (running : Running) (node : ℕ) (served : ServedNode) → clients_in running ≡ clients_in a.running → config_in running ≡ config_in a.running
-      → losses_in running ≡ set (losses_in a.running) node true → get_or (losses_in a.running) node true ≡ false → served ≡ get_or a.nodes node served → node < length a.nodes
+      → threads_in running ≡ threads_in a.running → losses_in running ≡ set (losses_in a.running) node true → get_or (losses_in a.running) node true ≡ false → served ≡ get_or a.nodes node served → node < length a.nodes
       → Appends before after (framed (lost_term served.name))
       → Serves given first (inputs ++ forms.Lose node ∷ []) (record a { running = running; nodes = set a.nodes node (record served { is_lost = true }); bodies = saturated (a.bodies + 1) }) after
-  node_loss_served after running node served clients config losses there value low wrote =
+  node_loss_served after running node served clients config threads losses there value low wrote =
       takes_by given first after inputs (forms.Lose node) view (tell_lost given node told_now) (sym is)
       (record {
         knows = record {
@@ -632,8 +639,9 @@ module _ (given : Config) (first before : Option (List ℕ)) (inputs : List Inpu
           known = map-set (λ (node : ServedNode). node.is_lost) a.nodes node (record served { is_lost = true }) ∙ ap (λ (lost : List Bool). set lost node true) s.knows.known;
           over = s.knows.over;
         };
+        threads = threads ∙ s.threads;
         frames = s.frames ++ frame ∷ [];
-        wrote = wrote_more first before after s.frames frame s.wrote wrote;
+        wrote = wrote_more first.written before after s.frames frame s.wrote wrote;
         addressed = addressed_more (length a.desks) (length a.desks) s.frames frame refl tt s.addressed;
         notices = notices-append s.frames (frame ∷ []) ∙ ap (λ (terms : List Term). terms ++ frame.term ∷ []) s.notices ∙ ap (λ (name : List ℕ). told_now.notices ++ lost_term name ∷ []) named;
         kept = kept_all told_now (tell_lost given node told_now) inputs (inputs ++ forms.Lose node ∷ []) a.desks (clients_in a.running) (clients_in running) s.frames (s.frames ++ frame ∷ [])
@@ -687,6 +695,7 @@ module _ (given : Config) (first before : Option (List ℕ)) (inputs : List Inpu
           known = s.knows.known;
           over = ap (λ over. over_by over fault) s.knows.over;
         };
+        threads = s.threads;
         frames = s.frames;
         wrote = s.wrote;
         addressed = s.addressed;

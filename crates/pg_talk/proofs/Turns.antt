@@ -21,13 +21,17 @@ use Rattle.pg_talk.specs.declared.service.ending.Ending.{Ending}
 use Rattle.pg_talk.specs.declared.service.serving.Serving.{Serving}
 use Rattle.pg_talk.specs.Conversations.{saturated}
 use Rattle.pg_talk.specs.Frames.{WritesReply}
-use Rattle.pg_talk.specs.Servings.{Advances, CameSince, RepliesEnding, RepliesNext, Serves, ServesOne, ServingGoes, asked_at}
+use Rattle.pg_talk.specs.Servings.{Advances, Begun, CameSince, RepliesEnding, RepliesNext, Serves, ServesOne, ServingGoes, asked_at}
 use Rattle.pg_talk.specs.Servings.{desks_of, is_known_lost, kept_in, lost_at, nodes_of, replied_at, view_of}
 use Rattle.pg_talk.specs.Written.{ending_term}
 
 pub on_ok : {T E : Type 0} (r : Result T E) (P Q : Type 0) → OnOk r P → (P → Q) → OnOk r Q
 on_ok (Ok t) P Q p f = f p
 on_ok (Err e) P Q p f = tt
+
+pub ok_of : {T E : Type 0} (r : Result T E) (P : Type 0) → P → OnOk r P
+ok_of (Ok t) P p = p
+ok_of (Err e) P p = tt
 
 pub goes_itself : (a : Serving) (x : Option (List ℕ)) → ServingGoes a a x x
 goes_itself a x = record { kept = refl; goes = λ given first inputs s. s }
@@ -41,8 +45,9 @@ goes_flushed a b x y view kept keeps = record {
   kept = kept;
   goes = λ given before inputs s. subst (λ seen. Serves given before inputs seen y) (sym view) (record {
     knows = s.knows;
+    threads = s.threads;
     frames = s.frames;
-    wrote = appends_kept before x y _ s.wrote keeps;
+    wrote = appends_kept before.written x y _ s.wrote keeps;
     addressed = s.addressed;
     notices = s.notices;
     kept = s.kept;
@@ -53,7 +58,7 @@ pub goes_passed_on : (a b c : Serving) (x y z : Option (List ℕ)) → ServingGo
 goes_passed_on a b c x y z one view kept keeps = goes_then a b c x y z one (goes_flushed b c y z view kept keeps)
 
 -- to what is seen so
-pub goes_to : (a b : Serving) (x y : Option (List ℕ)) → b.kept ≡ a.kept → ((given : Config) (first : Option (List ℕ)) (inputs : List Input) → Serves given first inputs (view_of a) x → Serves given first inputs (view_of b) y) → ServingGoes a b x y
+pub goes_to : (a b : Serving) (x y : Option (List ℕ)) → b.kept ≡ a.kept → ((given : Config) (first : Begun) (inputs : List Input) → Serves given first inputs (view_of a) x → Serves given first inputs (view_of b) y) → ServingGoes a b x y
 goes_to a b x y kept goes = record { kept = kept; goes = goes }
 
 -- ---- where inputs come in
@@ -126,8 +131,9 @@ module _ (a b : Serving) (came came2 : List Input) (x y : Option (List ℕ)) whe
     whole = same ∙ s.whole ∙ ap (λ k. s.inputs ++ kept_in k) (sym kept);
     serves = subst (λ view. Serves given before s.inputs view y) (sym view) (record {
       knows = s.serves.knows;
+      threads = s.serves.threads;
       frames = s.serves.frames;
-      wrote = appends_kept before x y _ s.serves.wrote keeps;
+      wrote = appends_kept before.written x y _ s.serves.wrote keeps;
       addressed = s.serves.addressed;
       notices = s.serves.notices;
       kept = s.serves.kept;
@@ -137,7 +143,7 @@ module _ (a b : Serving) (came came2 : List Input) (x y : Option (List ℕ)) whe
 -- ---- what one call does
 
 pub takes_to : (input : Input) (a b : Serving) (x y : Option (List ℕ)) → b.kept ≡ a.kept
-    → ((given : Config) (first : Option (List ℕ)) (inputs : List Input) → Serves given first inputs (view_of a) x → Serves given first (inputs ++ input ∷ []) (view_of b) y) → ServesOne input a b x y
+    → ((given : Config) (first : Begun) (inputs : List Input) → Serves given first inputs (view_of a) x → Serves given first (inputs ++ input ∷ []) (view_of b) y) → ServesOne input a b x y
 takes_to input a b x y kept takes = record { kept = kept; takes = takes }
 
 -- the reply was written by the desk as it is now

@@ -25,6 +25,7 @@ use Rattle.pg_cluster.specs.Threads.{AreMade, begun_by}
 use Rattle.pg_node_requests.specs.declared.input.Input.{Input}
 use Rattle.pg_node_requests.specs.declared.input.Input.TheVariants as forms
 use Rattle.pg_node_requests.specs.Layouts.{layout_of}
+use Rattle.pg_talk.specs.declared.service.Service.{Service}
 use Rattle.pg_talk.specs.declared.service.desk.Desk.{Desk}
 use Rattle.pg_talk.specs.declared.service.reader.Reader.{Reader}
 use Rattle.pg_talk.specs.declared.service.run.Served.{Served}
@@ -32,8 +33,8 @@ use Rattle.pg_talk.specs.Readers.{IsPaired, Reads}
 use Rattle.pg_talk.specs.declared.service.serving.ServedNode.{ServedNode}
 use Rattle.pg_talk.specs.Desks.{is_idle, is_none, waiting_at}
 use Rattle.pg_talk.specs.Readings.{AreRead}
-use Rattle.pg_talk.specs.Services.{CameOf, WasServed}
-use Rattle.pg_talk.specs.Servings.{IsKept, IsKeptAt, IsNew, Serves, View, known_lost}
+use Rattle.pg_talk.specs.Services.{AreThreadsOf, CameOf, WasServed}
+use Rattle.pg_talk.specs.Servings.{Begun, IsKept, IsKeptAt, IsNew, Serves, View, known_lost}
 use Rattle.pg_talk.specs.Servings.{names_of, port_at, ports_of, with_node}
 use Rattle.pg_talk.specs.Verdicts.{IsJudged}
 use Rattle.pg_talk.specs.Written.{AllServed, InputsSeen, IsAddressed, IsServed, Known, PortName, Written}
@@ -72,7 +73,7 @@ kept_at_first told desk new =
 
 pub served_at_first : (given : Config) (before : Option (List ℕ)) (running : Running) (desks : List Desk) (nodes : List ServedNode) → (config_in running).starts.items ≡ given
     → ports_of desks ≡ ports_in 0 given → All IsNew desks → names_of nodes ≡ map (λ start. start.name) given → known_lost nodes ≡ map (λ start. false) given → NobodyLost (losses_in running)
-    → All IsSilent (clients_in running) → Serves given before [] (record { running = running; desks = desks; nodes = nodes; bodies = 0; over = None }) before
+    → All IsSilent (clients_in running) → Serves given (record { threads = threads_in running; written = before }) [] (record { running = running; desks = desks; nodes = nodes; bodies = 0; over = None }) before
 served_at_first given before running desks nodes config ports new names there nobody silent = record {
   knows = record {
     config = config;
@@ -83,6 +84,7 @@ served_at_first given before running desks nodes config ports new names there no
     known = there;
     over = refl;
   };
+  threads = refl;
   frames = [];
   wrote = appends_none before;
   addressed = All-nil (λ (frame : Written). IsAddressed (length desks) frame.client);
@@ -116,9 +118,9 @@ served_whole port known requests waiting asked replied said heard replies idle e
     subst (λ (all : List Command). IsServed port known all 0 said heard replies) (sym (k.line ∙ ap (λ (cs : List Command). k.up ++ cs) empty ∙ append-nil k.up))
     (subst (λ n. IsServed port known k.up n said heard replies) (ap with_node idle) k.served)
 
-pub all_served : (given : Config) (before after : Option (List ℕ)) (inputs : List Input) (view : View) → list_all is_idle view.desks ≡ true → Serves given before inputs view after
-    → AllServed given inputs (clients_in view.running) before after
-all_served given before after inputs view idle s = record {
+pub all_served : (given : Config) (first : Begun) (after : Option (List ℕ)) (inputs : List Input) (view : View) → list_all is_idle view.desks ≡ true → Serves given first inputs view after
+    → AllServed given inputs (clients_in view.running) first.written after
+all_served given first after inputs view idle s = record {
   frames = s.frames;
   wrote = s.wrote;
   addressed = subst (λ n. All (λ (frame : Written). IsAddressed n frame.client) s.frames) count s.addressed;
@@ -170,36 +172,41 @@ over_by_end given (input ∷ inputs) told fault none some =
     end_or_later input inputs (λ e. over_by_end given inputs (tell_next given told input) fault (over_kept given told input e ∙ none) some)
 
 -- The cluster was closed, and judged so, when its input was over by these inputs.
-served_of : {S : Type 0} (remaining : S → Option (List ℕ)) (fails : S → S → Type 0) (given : Config) (wanted : ℕ) (source before after : Option (List ℕ)) (inputs : List Input) (view : View)
-    (served : Served) → CameOf remaining fails (layout_of 0 given) wanted source inputs → view.over ≡ Some served.fault → list_all is_idle view.desks ≡ true
-    → IsJudged (config_in view.running).starts.items (losses_in view.running) (threads_in view.running) (clients_in view.running) served.verdict → Serves given before inputs view after
-    → WasServed remaining fails given wanted source before after served
-served_of remaining fails given wanted source before after inputs view served came over idle judged s = record {
-  inputs = inputs;
-  read = came;
-  over = sym s.knows.over ∙ over;
-  threads = threads_in view.running;
-  clients = clients_in view.running;
-  judged = subst (λ (starts : Config). IsJudged starts (told_by given inputs).lost (threads_in view.running) (clients_in view.running) served.verdict) s.knows.config
-      (subst (λ (lost : List Bool). IsJudged (config_in view.running).starts.items lost (threads_in view.running) (clients_in view.running) served.verdict) s.knows.lost judged);
-  all = all_served given before after inputs view idle s;
-}
+served_of : {S : Type 0} (remaining : S → Option (List ℕ)) (fails : S → S → Type 0) (service : Service) (source : Option (List ℕ)) (first : Begun) (after : Option (List ℕ)) (inputs : List Input) (view : View)
+    (served : Served) → CameOf remaining fails (layout_of 0 service.config.starts.items) service.requests source inputs → view.over ≡ Some served.fault → list_all is_idle view.desks ≡ true
+    → IsJudged (config_in view.running).starts.items (losses_in view.running) (threads_in view.running) (clients_in view.running) served.verdict → AreThreadsOf service first.threads
+    → Serves service.config.starts.items first inputs view after → WasServed remaining fails service source first.written after served
+served_of remaining fails service source first after inputs view served came over idle judged own s =
+    let given = service.config.starts.items in record {
+      inputs = inputs;
+      read = came;
+      over = sym s.knows.over ∙ over;
+      threads = threads_in view.running;
+      own = subst (AreThreadsOf service) (sym s.threads) own;
+      clients = clients_in view.running;
+      judged = subst (λ (starts : Config). IsJudged starts (told_by given inputs).lost (threads_in view.running) (clients_in view.running) served.verdict) s.knows.config
+          (subst (λ (lost : List Bool). IsJudged (config_in view.running).starts.items lost (threads_in view.running) (clients_in view.running) served.verdict) s.knows.lost judged);
+      all = all_served given first after inputs view idle s;
+    }
 
 -- What came in is the first of what is read, and has its end: it is all.
-pub served_to_the_end : {S : Type 0} (remaining : S → Option (List ℕ)) (fails : S → S → Type 0) (given : Config) (wanted : ℕ) (source before after : Option (List ℕ)) (inputs further : List Input) (view : View)
-    (served : Served) → AreRead remaining fails (layout_of 0 given) wanted source (inputs ++ further) → view.over ≡ Some served.fault → list_all is_idle view.desks ≡ true
-    → IsJudged (config_in view.running).starts.items (losses_in view.running) (threads_in view.running) (clients_in view.running) served.verdict → Serves given before inputs view after
-    → WasServed remaining fails given wanted source before after served
-served_to_the_end remaining fails given wanted source before after inputs further view served read over idle judged s =
-    served_of remaining fails given wanted source before after inputs view served
-    (inl (read_whole (layout_of 0 given) (goes_on (layout_of 0 given)) remaining fails source [] wanted inputs further read
-    (over_by_end given inputs (none_told given) served.fault refl (sym s.knows.over ∙ over)))) over idle judged s
+pub served_to_the_end : {S : Type 0} (remaining : S → Option (List ℕ)) (fails : S → S → Type 0) (service : Service) (source : Option (List ℕ)) (first : Begun) (after : Option (List ℕ))
+    (inputs further : List Input) (view : View) (served : Served) → AreRead remaining fails (layout_of 0 service.config.starts.items) service.requests source (inputs ++ further)
+    → view.over ≡ Some served.fault → list_all is_idle view.desks ≡ true
+    → IsJudged (config_in view.running).starts.items (losses_in view.running) (threads_in view.running) (clients_in view.running) served.verdict → AreThreadsOf service first.threads
+    → Serves service.config.starts.items first inputs view after → WasServed remaining fails service source first.written after served
+served_to_the_end remaining fails service source first after inputs further view served read over idle judged own s =
+    let given = service.config.starts.items in
+    served_of remaining fails service source first after inputs view served
+    (inl (read_whole (layout_of 0 given) (goes_on (layout_of 0 given)) remaining fails source [] service.requests inputs further read
+    (over_by_end given inputs (none_told given) served.fault refl (sym s.knows.over ∙ over)))) over idle judged own s
 
 -- A clock was full, and this is all that had come in.
-pub served_until_full : {S : Type 0} (remaining : S → Option (List ℕ)) (fails : S → S → Type 0) (given : Config) (wanted : ℕ) (source before after : Option (List ℕ)) (reader : Reader S) (view : View)
-    (served : Served) → Reads remaining (layout_of 0 given) wanted source reader → IsPaired reader → view.over ≡ Some served.fault → list_all is_idle view.desks ≡ true
-    → IsJudged (config_in view.running).starts.items (losses_in view.running) (threads_in view.running) (clients_in view.running) served.verdict
-    → Serves given before (taken reader.inlet ++ forms.Broken 30 ∷ []) view after → WasServed remaining fails given wanted source before after served
-served_until_full remaining fails given wanted source before after reader view served reads paired over idle judged s =
-    served_of remaining fails given wanted source before after (taken reader.inlet ++ forms.Broken 30 ∷ []) view served
-    (inr (record { reader = reader; reads = reads; paired = paired; came = refl })) over idle judged s
+pub served_until_full : {S : Type 0} (remaining : S → Option (List ℕ)) (fails : S → S → Type 0) (service : Service) (source : Option (List ℕ)) (first : Begun) (after : Option (List ℕ)) (reader : Reader S)
+    (view : View) (served : Served) → Reads remaining (layout_of 0 service.config.starts.items) service.requests source reader → IsPaired reader → view.over ≡ Some served.fault
+    → list_all is_idle view.desks ≡ true
+    → IsJudged (config_in view.running).starts.items (losses_in view.running) (threads_in view.running) (clients_in view.running) served.verdict → AreThreadsOf service first.threads
+    → Serves service.config.starts.items first (taken reader.inlet ++ forms.Broken 30 ∷ []) view after → WasServed remaining fails service source first.written after served
+served_until_full remaining fails service source first after reader view served reads paired over idle judged own s =
+    served_of remaining fails service source first after (taken reader.inlet ++ forms.Broken 30 ∷ []) view served
+    (inr (record { reader = reader; reads = reads; paired = paired; came = refl })) over idle judged own s

@@ -1,5 +1,5 @@
 -- What each client of a conversation asks, in its order.
-use Rattle.std.specs.Prelude.{◌≡◌, ◌≤◌, ◌<◌, ◌+◌, ◌-◌, ◌++◌, ℕ, zero, suc, Bool, true, false, cond, List}
+use Rattle.std.specs.Prelude.{◌≡◌, ◌≤◌, ◌<◌, ◌+◌, ◌-◌, ◌^◌, ◌++◌, min, ℕ, zero, suc, Bool, true, false, cond, List}
 use Rattle.std.specs.Prelude.{[], ◌∷◌, Option, Some, None, codes, length, map, slice_get, take, get_or}
 use Rattle.std.specs.Option.{option_map_or}
 use Rattle.pg_term.specs.declared.pid.Pid.{Pid}
@@ -57,11 +57,16 @@ MayBe pid None = Unit {0}
 abbrev pub commands_of : Client → List Command
 commands_of client = map (λ asked. asked.command) (submitted client)
 
+-- the first was submitted before an answer was heard, the second after one, and so on
+abbrev pub AlternateWithAnswers : List Asked → Type 0
+AlternateWithAnswers asked = (k : ℕ) (none : Asked) → k < length asked → (get_or asked k none).polled ≡ min k (2 ^ 64 - 1)
+
 -- What a client asked are the first of its commands, by the process that it made; and it asked each once all before it were answered.
 pub record Spoke (creates : Bool) (rounds : ℕ) (client : Client) : Type 0 where
   pub asked : (pid : Pid) → MayBe pid (made_in creates (polled client)) → take (length (commands_of client)) (all_asked creates rounds pid) ≡ commands_of client
   pub heard : length (polled client) ≤ length (commands_of client)
   pub turns : length (commands_of client) ≤ length (polled client) + 1
+  pub alternate : AlternateWithAnswers (submitted client)
 
 -- the first of the clients creates the group
 abbrev pub is_first : ℕ → Bool
@@ -126,6 +131,7 @@ pub record HasRest (creates : Bool) (rounds : ℕ) (speaker : Speaker) (client :
   pub process : speaker.pid ≡ made_in creates (polled client)
   pub said : (pid : Pid) → MayBe pid speaker.pid → commands_of client ++ left_to_say speaker.stage speaker.is_asked speaker.rounds pid ≡ all_asked creates rounds pid
   pub turns : length (commands_of client) ≡ length (polled client) + cond speaker.is_asked 1 0
+  pub alternate : AlternateWithAnswers (submitted client)
   pub at : HasHeard creates speaker.stage speaker.is_asked (length (polled client))
 
 -- the same of each client and its speaker, of which the first creates the group

@@ -6,6 +6,8 @@ use Rattle.pg_cluster.specs.PgNodeRun.Runs.{generator_of}
 use Rattle.pg_cluster.specs.PgNodeRun.declared.port.Client.{Client}
 use Rattle.pg_cluster.specs.PgStep.Config.{Config}
 use Rattle.pg_cluster.specs.PgStep.declared.start.Start.{Start}
+use Rattle.pg_cluster.specs.Fault.{CantRun}
+use Rattle.pg_cluster.specs.declared.fault.StartFault.{StartFault}
 use Rattle.rand_pcg.specs.Lcg.{Lcg}
 use Rattle.pg_cluster.specs.PgClusterJudges.Schedule.{NobodyLost}
 use Rattle.pg_cluster.specs.Seeds.{AreSeeded}
@@ -31,6 +33,10 @@ AreBare ports starts = (i : ℕ) (none : Start) → i < length starts → IsBare
 pub record AreAsked (asked : Conversation) (given : Config) : Type 0 where
   pub count : length given ≡ asked.nodes
   pub each : AreBare asked.clients given
+
+-- a cluster of nodes that are asked for, with rings of 64 KB, was not started, as this fault tells
+abbrev pub CantTalk : Conversation → StartFault → Type 0
+CantTalk asked fault = (given : Config) × AreAsked asked given × CantRun 65536 given fault
 
 -- a number of 64 bits at most
 abbrev pub saturated : ℕ → ℕ

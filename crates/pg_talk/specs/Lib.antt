@@ -1,8 +1,10 @@
 pub mod Asking
 pub mod Conversations
 pub mod Desks
+pub mod Faults
 pub mod Frames
 pub mod Outcomes
+pub mod Outlets
 pub mod Readers
 pub mod ReadingLaws
 pub mod ReadingThread

@@ -4,7 +4,9 @@ use Rattle.std.specs.Prelude.{◌++◌, Option, Some, None, get_or, length, map,
 use Rattle.std.specs.Io.KnownBytes.{Appends}
 use Rattle.std.specs.List.{All, list_all}
 use Rattle.pg_cluster.specs.declared.running.Running.{Running}
-use Rattle.pg_cluster.specs.Running.{clients_in, config_in, losses_in}
+use Rattle.pg_cluster.specs.Running.{clients_in, config_in, losses_in, threads_in}
+use Rattle.pg_cluster.specs.Threads.{Thread}
+use Rattle.rand_pcg.specs.Lcg.{Lcg}
 use Rattle.pg_cluster.specs.PgNodeRun.declared.port.Asked.{Asked}
 use Rattle.pg_cluster.specs.PgNodeRun.declared.port.Client.{Client}
 use Rattle.pg_cluster.specs.PgStep.Config.{Config}
@@ -104,16 +106,22 @@ pub record Knows (given : Config) (told : InputsSeen) (view : View) : Type 0 whe
   pub known : known_lost view.nodes ≡ told.lost
   pub over : view.over ≡ told.over
 
--- the frames that were written for these inputs so far, which came to so much
-pub record ServesTold (given : Config) (told : InputsSeen) (first : Option (List ℕ)) (inputs : List Input) (view : View) (now : Option (List ℕ)) : Type 0 where
+-- with what a service begins: its threads, and what was written before
+pub record Begun : Type 0 where
+  pub threads : List (Thread Lcg)
+  pub written : Option (List ℕ)
+
+-- the frames that were written for these inputs so far, which came to so much; the threads are those of the beginning
+pub record ServesTold (given : Config) (told : InputsSeen) (first : Begun) (inputs : List Input) (view : View) (now : Option (List ℕ)) : Type 0 where
   pub knows : Knows given told view
+  pub threads : threads_in view.running ≡ first.threads
   pub frames : List Written
-  pub wrote : Appends first now (bytes_of frames)
+  pub wrote : Appends first.written now (bytes_of frames)
   pub addressed : All (λ frame. IsAddressed (length view.desks) frame.client) frames
   pub notices : notices_in frames ≡ told.notices
   pub kept : AreDesksKept told inputs view.desks (clients_in view.running) frames
 
-abbrev pub Serves : Config → Option (List ℕ) → List Input → View → Option (List ℕ) → Type 0
+abbrev pub Serves : Config → Begun → List Input → View → Option (List ℕ) → Type 0
 Serves given first inputs view now = ServesTold given (told_by given inputs) first inputs view now
 
 abbrev pub running_of : Serving → Running
@@ -141,13 +149,13 @@ kept_in None = []
 kept_in (Some input) = input ∷ []
 
 -- all that came was served, but for the input that is kept
-pub record HasServedAll (given : Config) (first : Option (List ℕ)) (came : List Input) (serving : Serving) (now : Option (List ℕ)) : Type 0 where
+pub record HasServedAll (given : Config) (first : Begun) (came : List Input) (serving : Serving) (now : Option (List ℕ)) : Type 0 where
   pub inputs : List Input
   pub whole : came ≡ inputs ++ kept_in serving.kept
   pub serves : Serves given first inputs (view_of serving) now
 
 -- all that came was served, and then that a clock is full; nothing is kept
-pub record HasServedFull (given : Config) (first : Option (List ℕ)) (came : List Input) (serving : Serving) (now : Option (List ℕ)) : Type 0 where
+pub record HasServedFull (given : Config) (first : Begun) (came : List Input) (serving : Serving) (now : Option (List ℕ)) : Type 0 where
   pub kept : serving.kept ≡ None
   pub serves : Serves given first (came ++ Broken 30 ∷ []) (view_of serving) now
 
@@ -166,16 +174,16 @@ CameSince came kept came2 kept2 = (inputs : List Input) → came ≡ inputs ++ k
 
 -- what came meanwhile was served
 abbrev pub Advances : Serving → Serving → List Input → List Input → Option (List ℕ) → Option (List ℕ) → Type 0
-Advances a b came came2 before after = (given : Config) (first : Option (List ℕ)) → HasServedAll given first came a before → HasServedAll given first came2 b after
+Advances a b came came2 before after = (given : Config) (first : Begun) → HasServedAll given first came a before → HasServedAll given first came2 b after
 
 -- and then a clock was full
 abbrev pub EndsFull : Serving → Serving → List Input → List Input → Option (List ℕ) → Option (List ℕ) → Type 0
-EndsFull a b came came2 before after = (given : Config) (first : Option (List ℕ)) → HasServedAll given first came a before → HasServedFull given first came2 b after
+EndsFull a b came came2 before after = (given : Config) (first : Begun) → HasServedAll given first came a before → HasServedFull given first came2 b after
 
 -- the same inputs are served still
 pub record ServingGoes (a b : Serving) (before after : Option (List ℕ)) : Type 0 where
   pub kept : b.kept ≡ a.kept
-  pub goes : (given : Config) (first : Option (List ℕ)) (inputs : List Input) → Serves given first inputs (view_of a) before → Serves given first inputs (view_of b) after
+  pub goes : (given : Config) (first : Begun) (inputs : List Input) → Serves given first inputs (view_of a) before → Serves given first inputs (view_of b) after
 
 -- and nothing is written
 abbrev pub WritesNothing : Serving → Serving → Type 0
@@ -184,7 +192,7 @@ WritesNothing a b = (now : Option (List ℕ)) → ServingGoes a b now now
 -- one input more is served
 pub record ServesOne (input : Input) (a b : Serving) (before after : Option (List ℕ)) : Type 0 where
   pub kept : b.kept ≡ a.kept
-  pub takes : (given : Config) (first : Option (List ℕ)) (inputs : List Input) → Serves given first inputs (view_of a) before
+  pub takes : (given : Config) (first : Begun) (inputs : List Input) → Serves given first inputs (view_of a) before
       → Serves given first (inputs ++ input ∷ []) (view_of b) after
 
 -- a reply was written under the next number of a port, and is counted

@@ -16,8 +16,8 @@ use Rattle.pg_node_requests.specs.Replies.{bad_request_term, lost_term, node_los
 use Rattle.pg_node_requests.specs.Replies.{numbered_term, refused_term, reply_term, unknown_term}
 use Rattle.pg_talk.specs.declared.service.ending.Ending.{Ending}
 use Rattle.pg_talk.specs.declared.service.ending.Ending.TheVariants.{Lost, Open, Unasked}
-use Rattle.pg_talk.specs.Conversations.{saturated}
-use Rattle.pg_talk.specs.Frames.{framed, IsUntellable}
+use Rattle.pg_talk.specs.Asking.{AlternateWithAnswers}
+use Rattle.pg_talk.specs.Frames.{framed, IsUntellable, untellable_number}
 
 -- ---- ports
 
@@ -139,10 +139,6 @@ told_by given inputs = tell_on given (none_told given) inputs
 abbrev pub commands_of : List Asked → List Command
 commands_of asked = map (λ one. one.command) asked
 
--- the first was handed over before an answer was heard, the second after one, and so on
-abbrev pub AlternateWithAnswers : List Asked → Type 0
-AlternateWithAnswers asked = (k : ℕ) (none : Asked) → k < length asked → (get_or asked k none).polled ≡ saturated k
-
 -- what is told of why a request has no answer
 abbrev pub ending_term : List ℕ → Ending → Term
 ending_term name Lost = node_lost_term name
@@ -164,11 +160,12 @@ IsDue known handed Lost = known.lost ≡ true
 IsDue known handed Open = (known.full ≡ true) × (handed ≡ true)
 IsDue known handed Unasked = (known.full ≡ true) × (handed ≡ false)
 
--- the term is this outcome under a number of the port; or, where no frame holds that, that it is refused by the number of a fault
+-- the term is this outcome under a number of the port; or, where no frame holds that, that it is refused by the number of that fault
 abbrev pub IsReply : PortName → ℕ → Term → Term → Type 0
 IsReply port number outcome term =
     (term ≡ numbered_term port.name port.number number outcome)
-    ⊎ (IsUntellable (numbered_term port.name port.number number outcome) × ((fault : ℕ) × (term ≡ numbered_term port.name port.number number (refused_term fault))))
+    ⊎ (IsUntellable (numbered_term port.name port.number number outcome)
+    × (term ≡ numbered_term port.name port.number number (refused_term (untellable_number (numbered_term port.name port.number number outcome)))))
 
 -- the replies are these outcomes, one for each, in their order, numbered from 1
 pub record AreReplies (port : PortName) (told replies : List Term) : Type 0 where

@@ -1,13 +1,15 @@
 //! A conversation of clients with a cluster: what the program's `threads` does.
 
-ghost use Rattle.std.specs.Prelude.{◌≡◌, ◌<◌, ◌++◌, true, ℕ, List, IfOk, OnOk, length};
+ghost use Rattle.std.specs.Prelude.{◌≡◌, ◌<◌, ◌++◌, true, ℕ, List, IfOk, IfErr, OnOk, length};
 ghost use Rattle.std.specs.Io.KnownBytes.{Appends};
 ghost use Rattle.std.specs.List.{All, sum_by};
 ghost use Rattle.pg_cluster.specs.PgNodeRun.Ports.{IsSilent};
 ghost use Rattle.pg_cluster.specs.PgNodeRun.declared.port.Client.{Client};
+ghost use Rattle.pg_cluster.specs.PgWorldConfig.declared.fault.WorldFault.TheVariants.{OutOfMemory};
 ghost use Rattle.pg_cluster.specs.Running.{clients_in, RunningGoes};
+ghost use Rattle.pg_cluster.specs.declared.fault.StartFault.TheVariants.{World};
 ghost use Rattle.pg_talk.specs.Asking.{AllKeep, AllSpoke, HasRest, is_first};
-ghost use Rattle.pg_talk.specs.Conversations.{AreAsked, IsBare, TookPlace, all_polled, saturated};
+ghost use Rattle.pg_talk.specs.Conversations.{AreAsked, CantTalk, IsBare, TookPlace, all_polled, saturated};
 ghost use Rattle.pg_talk.specs.Outcomes.{agree_line, answered_line, is_good, nodes_line};
 ghost use Rattle.pg_talk.specs.Outcomes.{outcome_lines, replay_line, yes_or_no};
 
@@ -165,7 +167,8 @@ pub fn run_threads<R: Threads, C: Clock + Clone + Drop + Send + 'static, O: Onlo
     asked: Conversation,
     onlooker: &mut O,
 ) -> Result<Outcome, StartFault>
-    ensures { IfOk result (TookPlace asked) }
+    ensures took { IfOk result (TookPlace asked) }
+    ensures fault { IfErr result (CantTalk asked) }
 {
     let clocks = Clocks::new(alloc, usize::from(asked.nodes))?;
     let gate = clocks.share()?;
@@ -199,6 +202,7 @@ fn ends_full(answered: u64, commands: u64, clocks: &Clocks, margin: u32) -> bool
 fn config_of(alloc: Global, asked: Conversation) -> Result<Config, StartFault>
     ensures asked { IfOk result (λ config. AreAsked asked config.starts.items) }
     ensures ring { IfOk result (λ config. config.ring ≡ 65536) }
+    ensures fault { IfErr result (λ fault. fault ≡ World OutOfMemory) }
 {
     let mut starts = Vec::with_capacity(alloc, MAX_NODES)?;
     for place in 0..asked.nodes {
@@ -208,7 +212,8 @@ fn config_of(alloc: Global, asked: Conversation) -> Result<Config, StartFault>
 }
 
 fn start_of(alloc: Global, number: u32, ports: u16) -> Result<Start, StartFault>
-    ensures { IfOk result (IsBare ports number) }
+    ensures bare { IfOk result (IsBare ports number) }
+    ensures fault { IfErr result (λ fault. fault ≡ World OutOfMemory) }
 {
     let name = node_name(alloc, number)?;
     Ok(Start {

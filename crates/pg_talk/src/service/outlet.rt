@@ -26,13 +26,19 @@ pub(crate) struct Address<'a> {
 }
 
 impl Outlet {
-    ghost use Rattle.std.specs.Prelude.{◌≡◌, IfOk, IfSome, IfNone, OnOk};
+    ghost use Rattle.std.specs.Prelude.{◌≡◌, true, false, IfOk, IfErr, IfSome, IfNone, OnOk};
     ghost use Rattle.std.specs.Io.KnownBytes.{Appends, Keeps};
-    ghost use Rattle.pg_talk.specs.Frames.{framed, IsUntellable, WritesReply};
+    ghost use Rattle.pg_cluster.specs.PgNode.Replicas.Causes.{FailedAt};
+    ghost use Rattle.pg_talk.specs.Faults.{Interrupted};
+    ghost use Rattle.pg_talk.specs.Frames.{framed, IsUntellable, WritesReply, untellable_number};
+    ghost use Rattle.pg_talk.specs.Outlets.{StaysPassedOn};
+    ghost use Rattle.pg_talk.specs.declared.service.fault.ServiceFault.TheVariants.{OutOfMemory};
     ghost use Rattle.pg_node_requests.specs.Replies.{numbered_term, refused_term};
 
     /// One by which nothing was written. It takes no memory.
-    pub(crate) fn new(alloc: Global) -> Outlet {
+    pub(crate) fn new(alloc: Global) -> Outlet
+        ensures { result.is_waiting ≡ false }
+    {
         Outlet {
             body: BytesMut::new(alloc),
             frame: BytesMut::new(alloc),
@@ -45,7 +51,9 @@ impl Outlet {
     ///
     /// Faults: `WriteFault`, where a write fails; else `OutOfMemory`, also where no frame holds the term.
     pub(crate) fn put<W: Sink>(&mut self, writer: &mut W, term: &Term) -> Result<(), ServiceFault>
-        ensures { OnOk result (Appends (W.contents writer.old) (W.contents writer.new) (framed term.now)) }
+        ensures wrote { OnOk result (Appends (W.contents writer.old) (W.contents writer.new) (framed term.now)) }
+        ensures passed { OnOk result (StaysPassedOn W.flushed self.old self.new writer.old writer.new) }
+        ensures fault { IfErr result (Interrupted (FailedAt W.fails writer.new)) }
     {
         match self.put_or_tell(writer, term) {
             Ok(None) => Ok(()),
@@ -63,7 +71,9 @@ impl Outlet {
         address: Address<'_>,
         reply: Term,
     ) -> Result<(), ServiceFault>
-        ensures { OnOk result (WritesReply (W.contents writer.old) (W.contents writer.new) address.entry.name.now address.entry.port address.entry.number reply) }
+        ensures wrote { OnOk result (WritesReply (W.contents writer.old) (W.contents writer.new) address.entry.name.now address.entry.port address.entry.number reply) }
+        ensures passed { OnOk result (StaysPassedOn W.flushed self.old self.new writer.old writer.new) }
+        ensures fault { IfErr result (Interrupted (FailedAt W.fails writer.new)) }
     {
         match self.put_numbered(writer, address, reply) {
             Ok(None) => Ok(()),
@@ -83,6 +93,10 @@ impl Outlet {
             (framed (numbered_term address.entry.name.now address.entry.port address.entry.number reply)))) }
         ensures some { IfOk result (λ told. IfSome told (λ fault. IsUntellable (numbered_term address.entry.name.now address.entry.port address.entry.number reply)
             × Keeps (W.contents writer.old) (W.contents writer.new))) }
+        ensures number { IfOk result (λ told. IfSome told (λ fault. fault ≡ untellable_number
+            (numbered_term address.entry.name.now address.entry.port address.entry.number reply))) }
+        ensures passed { OnOk result (StaysPassedOn W.flushed self.old self.new writer.old writer.new) }
+        ensures fault { IfErr result (Interrupted (FailedAt W.fails writer.new)) }
     {
         let term = numbered(
             self.alloc,
@@ -103,8 +117,10 @@ impl Outlet {
         address: Address<'_>,
         fault: u8,
     ) -> Result<(), ServiceFault>
-        ensures { OnOk result (Appends (W.contents writer.old) (W.contents writer.new)
+        ensures wrote { OnOk result (Appends (W.contents writer.old) (W.contents writer.new)
             (framed (numbered_term address.entry.name.now address.entry.port address.entry.number (refused_term fault)))) }
+        ensures passed { OnOk result (StaysPassedOn W.flushed self.old self.new writer.old writer.new) }
+        ensures fault { IfErr result (Interrupted (FailedAt W.fails writer.new)) }
     {
         let reply = refused(self.alloc, fault)?;
         let term = numbered(
@@ -127,6 +143,9 @@ impl Outlet {
     ) -> Result<Option<u8>, ServiceFault>
         ensures none { IfOk result (λ told. IfNone told (Appends (W.contents writer.old) (W.contents writer.new) (framed term.now))) }
         ensures some { IfOk result (λ told. IfSome told (λ fault. IsUntellable term.now × Keeps (W.contents writer.old) (W.contents writer.new))) }
+        ensures number { IfOk result (λ told. IfSome told (λ fault. fault ≡ untellable_number term.now)) }
+        ensures passed { OnOk result (StaysPassedOn W.flushed self.old self.new writer.old writer.new) }
+        ensures fault { IfErr result (Interrupted (FailedAt W.fails writer.new)) }
     {
         match self.frame_of(term)? {
             None => {
@@ -141,6 +160,9 @@ impl Outlet {
     fn frame_of(&mut self, term: &Term) -> Result<Option<u8>, ServiceFault>
         ensures none { IfOk result (λ told. IfNone told (self.new.frame.items ≡ framed term.now)) }
         ensures some { IfOk result (λ told. IfSome told (λ fault. IsUntellable term.now)) }
+        ensures number { IfOk result (λ told. IfSome told (λ fault. fault ≡ untellable_number term.now)) }
+        ensures waiting { self.new.is_waiting ≡ self.old.is_waiting }
+        ensures fault { IfErr result (λ fault. fault ≡ OutOfMemory) }
     {
         self.body.clear();
         match encode_into(term, &mut self.body) {
@@ -158,7 +180,9 @@ impl Outlet {
 
     /// Writes the frame.
     fn write<W: Sink>(&mut self, writer: &mut W) -> Result<(), ServiceFault>
-        ensures { OnOk result (Appends (W.contents writer.old) (W.contents writer.new) self.old.frame.items) }
+        ensures wrote { OnOk result (Appends (W.contents writer.old) (W.contents writer.new) self.old.frame.items) }
+        ensures waiting { self.new.is_waiting ≡ true }
+        ensures fault { IfErr result (Interrupted (FailedAt W.fails writer.new)) }
     {
         self.is_waiting = true;
         put_whole(writer, self.frame.as_slice())
@@ -168,7 +192,10 @@ impl Outlet {
     ///
     /// Fault: `WriteFault`, where a flush fails.
     pub(crate) fn flush<W: Sink>(&mut self, writer: &mut W) -> Result<(), ServiceFault>
-        ensures { OnOk result (Keeps (W.contents writer.old) (W.contents writer.new)) }
+        ensures bytes { OnOk result (Keeps (W.contents writer.old) (W.contents writer.new)) }
+        ensures none { OnOk result (self.new.is_waiting ≡ false) }
+        ensures passed { OnOk result (StaysPassedOn W.flushed self.old self.new writer.old writer.new) }
+        ensures fault { IfErr result (Interrupted (FailedAt W.fails writer.new)) }
     {
         if !self.is_waiting {
             return Ok(());
@@ -183,14 +210,17 @@ impl Outlet {
     }
 }
 
-ghost use Rattle.std.specs.Prelude.{OnOk};
+ghost use Rattle.std.specs.Prelude.{OnOk, IfErr};
 ghost use Rattle.std.specs.Io.KnownBytes.{Appends};
+ghost use Rattle.pg_cluster.specs.PgNode.Replicas.Causes.{FailedAt};
+ghost use Rattle.pg_talk.specs.Faults.{Interrupted};
 
 /// Writes all the bytes.
 ///
 /// Fault: `WriteFault`, where a write fails.
 fn put_whole<W: Sink>(writer: &mut W, bytes: &[u8]) -> Result<(), ServiceFault>
-    ensures { OnOk result (Appends (W.contents writer.old) (W.contents writer.new) bytes.now) }
+    ensures wrote { OnOk result (Appends (W.contents writer.old) (W.contents writer.new) bytes.now) }
+    ensures fault { IfErr result (Interrupted (FailedAt W.fails writer.new)) }
 {
     let mut rest = bytes;
     while !rest.is_empty() {

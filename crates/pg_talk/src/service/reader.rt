@@ -26,13 +26,15 @@ pub(crate) struct Reader<S: Source + Drop> {
 }
 
 impl<S: Source + Send + Drop + 'static> Reader<S> {
-    ghost use Rattle.std.specs.Prelude.{◌≡◌, ◌++◌, [], ℕ, List, Option, IfOk};
+    ghost use Rattle.std.specs.Prelude.{◌≡◌, ◌⊎◌, ◌++◌, [], ℕ, List, Option, IfOk, IfErr};
+    ghost use Rattle.pg_cluster.specs.declared.fault.StartFault.TheVariants.{NoThread};
     ghost use Rattle.pg_cluster.specs.PgRing.Slots.{taken};
     ghost use Rattle.pg_node_requests.specs.declared.input.Input.{Input as InputValue};
     ghost use Rattle.pg_node_requests.specs.declared.layout.NodePorts.{NodePorts};
     ghost use Rattle.pg_talk.specs.Readers.{IsPaired, Reads};
     ghost use Rattle.pg_talk.specs.Readings.{AreRead};
     ghost use Rattle.pg_talk.specs.ReadingThread.{EndsAt};
+    ghost use Rattle.pg_talk.specs.declared.service.fault.ServiceFault.TheVariants.{OutOfMemory, Start};
 
     /// Starts a thread that reads requests to the ports of a layout from a source. `requests`: after how many the input counts as
     /// ended. `clock`: that by which it sleeps where there is no place for what it read.
@@ -49,6 +51,7 @@ impl<S: Source + Send + Drop + 'static> Reader<S> {
         ensures taken { IfOk result (λ reader. taken reader.inlet ≡ []) }
         ensures paired { IfOk result IsPaired }
         ensures reads { IfOk result (Reads S.remaining layout.nodes.items requests (S.remaining source)) }
+        ensures fault { IfErr result (λ fault. (fault ≡ Start NoThread) ⊎ (fault ≡ OutOfMemory)) }
     {
         let is_over = Arc::new(alloc, AtomicBool::new(false))?;
         let told = Arc::try_clone(&is_over)?;

@@ -1,14 +1,18 @@
 //! A service from its start to its end.
 
-ghost use Rattle.std.specs.Prelude.{◌≡◌, [], None, Option, ℕ, List, false, IfOk, map};
+ghost use Rattle.std.specs.Prelude.{◌≡◌, [], None, Option, ℕ, List, false, IfOk, IfErr, OnOk, map};
 ghost use Rattle.std.specs.List.{All};
+ghost use Rattle.pg_cluster.specs.PgNode.Replicas.Causes.{FailedAt, IsFlushed};
 ghost use Rattle.pg_cluster.specs.PgRing.Slots.{taken};
-ghost use Rattle.pg_cluster.specs.PgStep.Config.{Config as Starts};
+ghost use Rattle.pg_cluster.specs.Running.{config_in};
 ghost use Rattle.pg_talk.specs.Written.{ports_in};
 ghost use Rattle.pg_node_requests.specs.Layouts.{layout_of};
 ghost use Rattle.pg_talk.specs.Readers.{IsPaired, Reads};
-ghost use Rattle.pg_talk.specs.Services.{WasServed};
-ghost use Rattle.pg_talk.specs.Servings.{HasServedAll, IsNew, Serves, known_lost, names_of, ports_of, view_of};
+ghost use Rattle.pg_talk.specs.Faults.{Interrupted, NotServed};
+ghost use Rattle.pg_talk.specs.Outlets.{EndsPassedOn};
+ghost use Rattle.pg_talk.specs.Services.{AreThreadsOf, Begins, WasServed};
+ghost use Rattle.pg_talk.specs.Servings.{Begun, HasServedAll, IsNew, known_lost, names_of, ports_of, running_of, view_of};
+ghost use Rattle.pg_talk.specs.declared.service.Service.{Service as ServiceValue};
 
 use crate::service::Service;
 use crate::service::fault::ServiceFault;
@@ -47,12 +51,12 @@ pub struct Served {
 ///
 /// A request of a port is handed over once the one before it there was replied to. Each has one reply in a frame, in their order and
 /// numbered from 1: what the node answered, or why it has no answer. A loss and a body that asks for nothing have a notice each,
-/// and nothing else is written (`AllServed`). What was written is passed on whenever no further reply is at hand.
+/// and nothing else is written (`AllServed`). What was written is passed on whenever no further reply is at hand, and all of it by the end.
 ///
-/// Errors: first `Start`, where no cluster was started, or no thread that reads. Then `WriteFault`, where a write or a flush fails, also
-/// while more could be read. `OutOfMemory`, where memory runs out before or after one of these. No node runs after an error, none is
-/// judged, and the reading thread ends after the read that it is in, as it does where a clock was full. Some of what was due may be written
-/// then.
+/// Errors: first `Start`, where no cluster was started, as `Running::start` of pg_cluster tells, or no thread that reads; nothing was
+/// written then. Then `WriteFault`, only where a write or a flush failed, also while more could be read. `OutOfMemory`, where memory runs
+/// out before or after one of these. No node runs after an error, none is judged, and the reading thread ends after the read that it is
+/// in, as it does where a clock was full. Some of what was due may be written then.
 ///
 /// Cost: the logs of all nodes, which grow with each event until the end, and 64 KB for each ring between two nodes. At most 1,024 requests
 /// wait at a port, and 1,024 inputs before all ports. A thread for each node, and one that reads.
@@ -69,7 +73,9 @@ pub fn serve_cluster<
     source: S,
     writer: &mut W,
 ) -> Result<Served, ServiceFault>
-    ensures { IfOk result (WasServed S.remaining S.fails service.config.starts.items service.requests (S.remaining source) (W.contents writer.old) (W.contents writer.new)) }
+    ensures served { IfOk result (WasServed S.remaining S.fails service (S.remaining source) (W.contents writer.old) (W.contents writer.new)) }
+    ensures flushed { OnOk result (IsFlushed W.flushed writer.old writer.new) }
+    ensures fault { IfErr result (NotServed service.config.ring service.config.starts.items (writer.new ≡ writer.old) (FailedAt W.fails writer.new)) }
 {
     let Service {
         config,
@@ -145,8 +151,12 @@ fn serve_by<
     writer: &mut W,
 ) -> Result<Served, ServiceFault>
     requires { serving.kept ≡ None }
-    ensures { IfOk result (λ served. (given : Starts) → layout.nodes.items ≡ layout_of 0 given → Serves given (W.contents writer.old) [] (view_of serving) (W.contents writer.old)
-        → WasServed S.remaining S.fails given requests (S.remaining source) (W.contents writer.old) (W.contents writer.new) served) }
+    ensures served { IfOk result (λ served. (service : ServiceValue) → layout.nodes.items ≡ layout_of 0 service.config.starts.items → requests ≡ service.requests
+        → Begins service (view_of serving) (W.contents writer.old)
+        → WasServed S.remaining S.fails service (S.remaining source) (W.contents writer.old) (W.contents writer.new) served) }
+    ensures flushed { OnOk result (IsFlushed W.flushed writer.old writer.new) }
+    ensures fault { IfErr result (NotServed (config_in (running_of serving)).ring (config_in (running_of serving)).starts.items
+        (writer.new ≡ writer.old) (FailedAt W.fails writer.new)) }
 {
     match Reader::start(rt, alloc, &clock, source, layout, requests) {
         Ok(reader) => serve_all(rt, alloc, &clock, serving, reader, writer),
@@ -185,9 +195,11 @@ fn serve_all<R: Threads, C: Clock, S: Source + Send + Drop + 'static, W: Sink>(
     requires kept { serving.kept ≡ None }
     requires came { taken reader.inlet ≡ [] }
     requires paired { IsPaired reader }
-    ensures { IfOk result (λ served. (given : Starts) (wanted : ℕ) (source : Option (List ℕ)) → Reads S.remaining (layout_of 0 given) wanted source reader
-        → Serves given (W.contents writer.old) [] (view_of serving) (W.contents writer.old)
-        → WasServed S.remaining S.fails given wanted source (W.contents writer.old) (W.contents writer.new) served) }
+    ensures served { IfOk result (λ served. (service : ServiceValue) (source : Option (List ℕ))
+        → Reads S.remaining (layout_of 0 service.config.starts.items) service.requests source reader → Begins service (view_of serving) (W.contents writer.old)
+        → WasServed S.remaining S.fails service source (W.contents writer.old) (W.contents writer.new) served) }
+    ensures flushed { OnOk result (IsFlushed W.flushed writer.old writer.new) }
+    ensures fault { IfErr result (Interrupted (FailedAt W.fails writer.new)) }
 {
     let mut serving = serving;
     let mut reader = reader;
@@ -220,9 +232,12 @@ fn serve_full<R: Threads, C: Clock, S: Source + Send + Drop + 'static, W: Sink>(
     writer: &mut W,
 ) -> Result<Served, ServiceFault>
     requires paired { IsPaired reader }
-    ensures { IfOk result (λ served. (given : Starts) (first : Option (List ℕ)) (wanted : ℕ) (source : Option (List ℕ)) → Reads S.remaining (layout_of 0 given) wanted source reader
-        → HasServedAll given first (taken reader.inlet) serving (W.contents writer.old)
-        → WasServed S.remaining S.fails given wanted source first (W.contents writer.new) served) }
+    ensures served { IfOk result (λ served. (service : ServiceValue) (first : Begun) (source : Option (List ℕ))
+        → Reads S.remaining (layout_of 0 service.config.starts.items) service.requests source reader → AreThreadsOf service first.threads
+        → HasServedAll service.config.starts.items first (taken reader.inlet) serving (W.contents writer.old)
+        → WasServed S.remaining S.fails service source first.written (W.contents writer.new) served) }
+    ensures flushed { OnOk result (EndsPassedOn W.flushed serving.outlet writer.old writer.new) }
+    ensures fault { IfErr result (Interrupted (FailedAt W.fails writer.new)) }
 {
     let mut serving = serving;
     let mut reader = reader;

@@ -119,17 +119,21 @@ pub(crate) struct Serving {
 }
 
 impl Serving {
-    ghost use Rattle.std.specs.Prelude.{◌≡◌, ◌<◌, ◌∷◌, true, false, Option, ℕ, None, Some, IsTrue, IfOk, IfNone, IfSome, OnOk, length};
+    ghost use Rattle.std.specs.Prelude.{◌≡◌, ◌<◌, ◌∷◌, true, false, Option, ℕ, None, Some, IsTrue, IfOk, IfErr, IfNone, IfSome, OnOk, length};
     ghost use Rattle.std.specs.List.{list_all as all_of};
     ghost use Rattle.pg_node_requests.specs.declared.input.Input.TheVariants.{Ask, Lose};
     ghost use Rattle.pg_cluster.specs.Running.{clients_in};
+    ghost use Rattle.pg_cluster.specs.PgNode.Replicas.Causes.{FailedAt};
     ghost use Rattle.pg_cluster.specs.PgRing.Slots.{SameSlotIn, taken};
     ghost use Rattle.pg_talk.specs.Desks.{is_idle as is_idle_one};
+    ghost use Rattle.pg_talk.specs.Faults.{Interrupted};
+    ghost use Rattle.pg_talk.specs.Outlets.{StaysPassedOn};
     ghost use Rattle.pg_talk.specs.Servings.{Advances, CameSince, EndsFull, IsDueAt, IsOver, LosesNode, RepliesEnding};
     ghost use Rattle.pg_talk.specs.Servings.{RepliesNext, ServesOne, ServingGoes, TellsBad, WritesNothing, asked_at, desks_of};
     ghost use Rattle.pg_talk.specs.Servings.{is_known_lost, kept_in, lost_at, nodes_of, running_of, view_of};
     ghost use Rattle.pg_talk.specs.Written.{IsDue, is_full_end, over_by};
     ghost use Rattle.pg_talk.specs.declared.service.ending.Ending.TheVariants.{Open};
+    ghost use Rattle.pg_talk.specs.declared.service.fault.ServiceFault.TheVariants.{OutOfMemory};
     ghost use Rattle.pg_talk.specs.declared.service.serving.Stop.TheVariants.{Over as StopOver};
 
     /// One to which nothing came. It takes no memory.
@@ -196,6 +200,9 @@ impl Serving {
         ensures same { SameSlotIn inlet.old inlet.new }
         ensures advances { OnOk result (Advances self.old self.new (taken inlet.old) (taken inlet.new) (W.contents writer.old) (W.contents writer.new)) }
         ensures over { IfOk result (λ stop. stop ≡ StopOver → IsOver self.new) }
+        ensures passed { OnOk result (StaysPassedOn W.flushed self.old.outlet self.new.outlet writer.old writer.new) }
+        ensures passed_on { IfOk result (λ stop. stop ≡ StopOver → self.new.outlet.is_waiting ≡ false) }
+        ensures fault { IfErr result (Interrupted (FailedAt W.fails writer.new)) }
     {
         let mut rest = Rest::new();
         for _ in 0..u64::MAX {
@@ -225,6 +232,9 @@ impl Serving {
         ensures full { OnOk result (EndsFull self.old self.new (taken inlet.old) (taken inlet.new) (W.contents writer.old) (W.contents writer.new)) }
         ensures over { OnOk result (is_full_end self.new.end ≡ true) }
         ensures idle { OnOk result (all_of is_idle_one (desks_of self.new) ≡ true) }
+        ensures passed { OnOk result (StaysPassedOn W.flushed self.old.outlet self.new.outlet writer.old writer.new) }
+        ensures passed_on { OnOk result (self.new.outlet.is_waiting ≡ false) }
+        ensures fault { IfErr result (Interrupted (FailedAt W.fails writer.new)) }
     {
         self.take_rest(rt, inlet, writer)?;
         self.end_by(Some(CLOCK_FULL));
@@ -242,6 +252,8 @@ impl Serving {
         ensures same { SameSlotIn inlet.old inlet.new }
         ensures advances { OnOk result (Advances self.old self.new (taken inlet.old) (taken inlet.new) (W.contents writer.old) (W.contents writer.new)) }
         ensures kept { OnOk result (self.new.kept ≡ None) }
+        ensures passed { OnOk result (StaysPassedOn W.flushed self.old.outlet self.new.outlet writer.old writer.new) }
+        ensures fault { IfErr result (Interrupted (FailedAt W.fails writer.new)) }
     {
         for _ in 0..u64::MAX {
             let Some(input) = self.next_input(inlet) else {
@@ -256,6 +268,7 @@ impl Serving {
     fn end_by(&mut self, fault: Option<u8>)
         ensures view { view_of self.new ≡ record (view_of self.old) { over = over_by self.old.end fault } }
         ensures kept { self.new.kept ≡ self.old.kept }
+        ensures outlet { self.new.outlet ≡ self.old.outlet }
     {
         if !self.is_full() {
             self.end = Some(fault);
@@ -282,6 +295,9 @@ impl Serving {
         ensures goes { OnOk result (ServingGoes self.old self.new (W.contents writer.old) (W.contents writer.new)) }
         ensures end { self.new.end ≡ self.old.end }
         ensures idle { OnOk result (all_of is_idle_one (desks_of self.new) ≡ true) }
+        ensures passed { OnOk result (StaysPassedOn W.flushed self.old.outlet self.new.outlet writer.old writer.new) }
+        ensures passed_on { OnOk result (self.new.outlet.is_waiting ≡ false) }
+        ensures fault { IfErr result (Interrupted (FailedAt W.fails writer.new)) }
     {
         let waiting = self.limits.begin(clock);
         let mut rest = Rest::new();
@@ -305,6 +321,9 @@ impl Serving {
         ensures goes { OnOk result (ServingGoes self.old self.new (W.contents writer.old) (W.contents writer.new)) }
         ensures end { self.new.end ≡ self.old.end }
         ensures idle { IfOk result (λ done. IsTrue done → all_of is_idle_one (desks_of self.new) ≡ true) }
+        ensures passed { OnOk result (StaysPassedOn W.flushed self.old.outlet self.new.outlet writer.old writer.new) }
+        ensures passed_on { IfOk result (λ done. IsTrue done → self.new.outlet.is_waiting ≡ false) }
+        ensures fault { IfErr result (Interrupted (FailedAt W.fails writer.new)) }
     {
         if self.attend_all(writer)? {
             rest.found();
@@ -327,6 +346,8 @@ impl Serving {
         requires { is_full_end self.old.end ≡ true }
         ensures goes { OnOk result (ServingGoes self.old self.new (W.contents writer.old) (W.contents writer.new)) }
         ensures end { self.new.end ≡ self.old.end }
+        ensures passed { OnOk result (StaysPassedOn W.flushed self.old.outlet self.new.outlet writer.old writer.new) }
+        ensures fault { IfErr result (Interrupted (FailedAt W.fails writer.new)) }
     {
         for client in 0..self.desks.len() {
             self.give_up(client, writer)?;
@@ -339,6 +360,8 @@ impl Serving {
         requires { is_full_end self.old.end ≡ true }
         ensures goes { OnOk result (ServingGoes self.old self.new (W.contents writer.old) (W.contents writer.new)) }
         ensures end { self.new.end ≡ self.old.end }
+        ensures passed { OnOk result (StaysPassedOn W.flushed self.old.outlet self.new.outlet writer.old writer.new) }
+        ensures fault { IfErr result (Interrupted (FailedAt W.fails writer.new)) }
     {
         if client >= self.desks.len() {
             return Ok(());
@@ -363,6 +386,9 @@ impl Serving {
         ensures same { SameSlotIn inlet.old inlet.new }
         ensures advances { OnOk result (Advances self.old self.new (taken inlet.old) (taken inlet.new) (W.contents writer.old) (W.contents writer.new)) }
         ensures over { IfOk result (λ over. IsTrue over → IsOver self.new) }
+        ensures passed { OnOk result (StaysPassedOn W.flushed self.old.outlet self.new.outlet writer.old writer.new) }
+        ensures passed_on { IfOk result (λ over. IsTrue over → self.new.outlet.is_waiting ≡ false) }
+        ensures fault { IfErr result (Interrupted (FailedAt W.fails writer.new)) }
     {
         let took = self.take_inputs(rt, inlet, writer)?;
         let attended = self.attend_all(writer)?;
@@ -395,6 +421,8 @@ impl Serving {
     ) -> Result<bool, ServiceFault>
         ensures same { SameSlotIn inlet.old inlet.new }
         ensures advances { OnOk result (Advances self.old self.new (taken inlet.old) (taken inlet.new) (W.contents writer.old) (W.contents writer.new)) }
+        ensures passed { OnOk result (StaysPassedOn W.flushed self.old.outlet self.new.outlet writer.old writer.new) }
+        ensures fault { IfErr result (Interrupted (FailedAt W.fails writer.new)) }
     {
         for count in 0..INPUTS_AT_ONCE {
             let Some(input) = self.next_input(inlet) else {
@@ -416,6 +444,7 @@ impl Serving {
         ensures kept { self.new.kept ≡ None }
         ensures same { SameSlotIn inlet.old inlet.new }
         ensures came { CameSince (taken inlet.old) (kept_in self.old.kept) (taken inlet.new) (kept_in result) }
+        ensures outlet { self.new.outlet ≡ self.old.outlet }
     {
         match self.kept.take() {
             Some(input) => Some(input),
@@ -438,6 +467,7 @@ impl Serving {
     fn keep(&mut self, input: Input)
         ensures view { view_of self.new ≡ view_of self.old }
         ensures kept { self.new.kept ≡ Some input }
+        ensures outlet { self.new.outlet ≡ self.old.outlet }
     {
         drop(self.kept.replace(input));
     }
@@ -449,7 +479,9 @@ impl Serving {
         input: Input,
         writer: &mut W,
     ) -> Result<(), ServiceFault>
-        ensures { OnOk result (ServesOne input self.old self.new (W.contents writer.old) (W.contents writer.new)) }
+        ensures serves { OnOk result (ServesOne input self.old self.new (W.contents writer.old) (W.contents writer.new)) }
+        ensures passed { OnOk result (StaysPassedOn W.flushed self.old.outlet self.new.outlet writer.old writer.new) }
+        ensures fault { IfErr result (Interrupted (FailedAt W.fails writer.new)) }
     {
         match input {
             Input::Ask { client, command } => self.take_request(client, command, writer),
@@ -473,7 +505,9 @@ impl Serving {
         command: Command,
         writer: &mut W,
     ) -> Result<(), ServiceFault>
-        ensures { OnOk result (ServesOne (Ask client command) self.old self.new (W.contents writer.old) (W.contents writer.new)) }
+        ensures serves { OnOk result (ServesOne (Ask client command) self.old self.new (W.contents writer.old) (W.contents writer.new)) }
+        ensures passed { OnOk result (StaysPassedOn W.flushed self.old.outlet self.new.outlet writer.old writer.new) }
+        ensures fault { IfErr result (Interrupted (FailedAt W.fails writer.new)) }
     {
         if client >= self.desks.len() {
             drop(command);
@@ -493,7 +527,9 @@ impl Serving {
         node: usize,
         writer: &mut W,
     ) -> Result<(), ServiceFault>
-        ensures { OnOk result (ServesOne (Lose node) self.old self.new (W.contents writer.old) (W.contents writer.new)) }
+        ensures serves { OnOk result (ServesOne (Lose node) self.old self.new (W.contents writer.old) (W.contents writer.new)) }
+        ensures passed { OnOk result (StaysPassedOn W.flushed self.old.outlet self.new.outlet writer.old writer.new) }
+        ensures fault { IfErr result (Interrupted (FailedAt W.fails writer.new)) }
     {
         match self.running.lose(rt, node) {
             Ok(()) => self.tell_lost(node, writer),
@@ -505,6 +541,8 @@ impl Serving {
     fn tell_lost<W: Sink>(&mut self, node: usize, writer: &mut W) -> Result<(), ServiceFault>
         ensures kept { self.new.kept ≡ self.old.kept }
         ensures loses { OnOk result (node < length (nodes_of self.old) → LosesNode node self.old self.new (W.contents writer.old) (W.contents writer.new)) }
+        ensures passed { OnOk result (StaysPassedOn W.flushed self.old.outlet self.new.outlet writer.old writer.new) }
+        ensures fault { IfErr result (Interrupted (FailedAt W.fails writer.new)) }
     {
         if node >= self.nodes.len() {
             return Ok(());
@@ -519,7 +557,9 @@ impl Serving {
 
     /// Tells that a body asks for nothing.
     fn tell_bad<W: Sink>(&mut self, writer: &mut W) -> Result<(), ServiceFault>
-        ensures { OnOk result (TellsBad self.old self.new (W.contents writer.old) (W.contents writer.new)) }
+        ensures tells { OnOk result (TellsBad self.old self.new (W.contents writer.old) (W.contents writer.new)) }
+        ensures passed { OnOk result (StaysPassedOn W.flushed self.old.outlet self.new.outlet writer.old writer.new) }
+        ensures fault { IfErr result (Interrupted (FailedAt W.fails writer.new)) }
     {
         self.bodies = self.bodies.saturating_add(1);
         let term = bad_request(self.alloc, self.bodies)?;
@@ -532,6 +572,8 @@ impl Serving {
     fn attend_all<W: Sink>(&mut self, writer: &mut W) -> Result<bool, ServiceFault>
         ensures goes { OnOk result (ServingGoes self.old self.new (W.contents writer.old) (W.contents writer.new)) }
         ensures end { self.new.end ≡ self.old.end }
+        ensures passed { OnOk result (StaysPassedOn W.flushed self.old.outlet self.new.outlet writer.old writer.new) }
+        ensures fault { IfErr result (Interrupted (FailedAt W.fails writer.new)) }
     {
         let mut moved = false;
         for client in 0..self.running.client_count() {
@@ -546,6 +588,8 @@ impl Serving {
     fn attend<W: Sink>(&mut self, client: usize, writer: &mut W) -> Result<bool, ServiceFault>
         ensures goes { OnOk result (ServingGoes self.old self.new (W.contents writer.old) (W.contents writer.new)) }
         ensures end { self.new.end ≡ self.old.end }
+        ensures passed { OnOk result (StaysPassedOn W.flushed self.old.outlet self.new.outlet writer.old writer.new) }
+        ensures fault { IfErr result (Interrupted (FailedAt W.fails writer.new)) }
     {
         if client >= self.desks.len() || client >= self.running.client_count() {
             return Ok(false);
@@ -597,6 +641,8 @@ impl Serving {
         requires lost { is_lost ≡ lost_at client self.old }
         ensures goes { OnOk result (ServingGoes self.old self.new (W.contents writer.old) (W.contents writer.new)) }
         ensures end { self.new.end ≡ self.old.end }
+        ensures passed { OnOk result (StaysPassedOn W.flushed self.old.outlet self.new.outlet writer.old writer.new) }
+        ensures fault { IfErr result (Interrupted (FailedAt W.fails writer.new)) }
     {
         match self.running.poll(client) {
             Some(answer) => {
@@ -625,6 +671,8 @@ impl Serving {
         requires due { IsDueAt (view_of self.old) client false ending }
         ensures goes { OnOk result (ServingGoes self.old self.new (W.contents writer.old) (W.contents writer.new)) }
         ensures end { self.new.end ≡ self.old.end }
+        ensures passed { OnOk result (StaysPassedOn W.flushed self.old.outlet self.new.outlet writer.old writer.new) }
+        ensures fault { IfErr result (Interrupted (FailedAt W.fails writer.new)) }
     {
         match self.desks[client].next() {
             Some(command) => {
@@ -644,6 +692,8 @@ impl Serving {
         requires on_time { is_full_end self.old.end ≡ false }
         ensures goes { OnOk result (WritesNothing self.old self.new) }
         ensures end { self.new.end ≡ self.old.end }
+        ensures outlet { self.new.outlet ≡ self.old.outlet }
+        ensures fault { IfErr result (λ fault. fault ≡ OutOfMemory) }
     {
         let Some(command) = self.desks[client].next() else {
             return Ok(false);
@@ -670,6 +720,8 @@ impl Serving {
         requires { client < length (desks_of self.old) }
         ensures replies { OnOk result (RepliesEnding client ending self.old self.new (W.contents writer.old) (W.contents writer.new)) }
         ensures end { self.new.end ≡ self.old.end }
+        ensures passed { OnOk result (StaysPassedOn W.flushed self.old.outlet self.new.outlet writer.old writer.new) }
+        ensures fault { IfErr result (Interrupted (FailedAt W.fails writer.new)) }
     {
         let reply = ending.term(self.alloc, self.desks[client].name())?;
         self.reply(client, reply, writer)
@@ -685,6 +737,8 @@ impl Serving {
         requires { client < length (desks_of self.old) }
         ensures replies { OnOk result (RepliesNext client reply self.old self.new (W.contents writer.old) (W.contents writer.new)) }
         ensures end { self.new.end ≡ self.old.end }
+        ensures passed { OnOk result (StaysPassedOn W.flushed self.old.outlet self.new.outlet writer.old writer.new) }
+        ensures fault { IfErr result (Interrupted (FailedAt W.fails writer.new)) }
     {
         let number = self.desks[client].reply();
         let desk = &self.desks[client];

@@ -3,11 +3,12 @@ use Rattle.pg_talk.proofs.Turns.{goes_itself, goes_then}
 use Rattle.pg_talk.proofs.service.serving.Serving.attend_all.Goals as goal
 
 pub loop-client-init : goal.loop-client-init
-loop-client-init g c = (goes_itself c.args.self.now (g.W.Sink.contents c.args.writer.now), refl)
+loop-client-init g c = (goes_itself c.args.self.now (g.W.Sink.contents c.args.writer.now), refl, λ first h. h)
 
 pub loop-client-preserved : goal.loop-client-preserved
 loop-client-preserved g c = (
   goes_then c.args.self.now c.loop-client.self c.attend.new.self (g.W.Sink.contents c.args.writer.now) (g.W.Sink.contents c.loop-client.writer) (g.W.Sink.contents c.attend.new.writer)
       c.loop-client.invariant.0 c.in_ok-attend.ensures.goes,
   c.in_ok-attend.ensures.end ∙ c.loop-client.invariant.1,
+  λ first h. c.in_ok-attend.ensures.passed first (c.loop-client.invariant.2 first h),
 )

@@ -3,6 +3,7 @@ use Rattle.pg_node_requests.specs.declared.input.Input.TheVariants.{Broken}
 use Rattle.pg_cluster.specs.PgRing.Slots.{taken}
 use Rattle.pg_talk.specs.Servings.{EndsFull, Serves, ServingGoes, kept_in, view_of}
 use Rattle.pg_talk.specs.Written.{is_full_end}
+use Rattle.pg_talk.proofs.Passing.{passed_same}
 use Rattle.pg_talk.proofs.Spoken.{end_served, full_at_last}
 use Rattle.pg_talk.proofs.Turns.{on_ok}
 use Rattle.pg_talk.proofs.service.serving.Serving.end_full.Goals as goal
@@ -35,3 +36,8 @@ pub returns-clause-over : goal.returns-clause-over
 returns-clause-over g c =
     on_ok c.close_desks.result _ (is_full_end c.close_desks.new.self.end ≡ true) c.close_desks.ensures.idle
     (λ idle. ap is_full_end c.close_desks.ensures.end ∙ ap (λ view. is_full_end view.over) c.end_by.ensures.view ∙ full_at_last c.take_rest.new.self.end)
+
+pub returns-clause-passed : goal.returns-clause-passed
+returns-clause-passed g c =
+    on_ok c.close_desks.result _ _ c.close_desks.ensures.passed
+    (λ passed first h. passed first (passed_same g.W.Sink.flushed c.take_rest.new.self.outlet c.end_by.new.self.outlet c.take_rest.new.writer c.end_by.ensures.outlet first (c.in_ok-take_rest.ensures.passed first h)))

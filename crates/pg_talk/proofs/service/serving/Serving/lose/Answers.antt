@@ -7,8 +7,8 @@ use Rattle.pg_talk.proofs.Spoken.{loss_of_nobody, node_loss_served, nodes_there}
 use Rattle.pg_talk.proofs.Turns.{not_lost_before, on_ok, was_lost}
 use Rattle.pg_talk.proofs.service.serving.Serving.lose.Goals as goal
 
-pub returns-in-Ok : goal.returns-in-Ok
-returns-in-Ok g c =
+pub returns-in-Ok-clause-serves : goal.returns-in-Ok-clause-serves
+returns-in-Ok-clause-serves g c =
     let self = c.args.self.now in
     let node = c.args.node in
     let new = c.tell_lost.new.self in
@@ -22,19 +22,19 @@ returns-in-Ok g c =
           let low = nodes_there given first before inputs (view_of self) s node there in
           let told = loses low in
           subst (λ view. Serves given first (inputs ++ Lose node ∷ []) view after) (sym told.view)
-          (node_loss_served given first before inputs (view_of self) s after c.lose.new.self node told.served c.in-Ok.ensures.clients c.in-Ok.ensures.config c.in-Ok.ensures.lost there told.was low
+          (node_loss_served given first before inputs (view_of self) s after c.lose.new.self node told.served c.in-Ok.ensures.clients c.in-Ok.ensures.config c.in-Ok.ensures.threads c.in-Ok.ensures.lost there told.was low
           told.wrote);
     })
 
-pub returns-in-Err : goal.returns-in-Err
-returns-in-Err g c =
+pub returns-in-Err-clause-serves : goal.returns-in-Err-clause-serves
+returns-in-Err-clause-serves g c =
     let self = c.args.self.now in
     let node = c.args.node in
     let new = c.tell_bad.new.self in
     let before = g.W.Sink.contents c.args.writer.now in
     let after = g.W.Sink.contents c.tell_bad.new.writer in
     let gone = was_lost (losses_in self.running) node c.in-Err.field-0 c.in-Err.ensures.fault (λ e. c.in-Err.ensures.place.0 (ap Err e)) (λ e. c.in-Err.ensures.again.0 (ap Err e)) in
-    on_ok c.tell_bad.result _ (ServesOne (Lose node) self new before after) c.tell_bad.ensures
+    on_ok c.tell_bad.result _ (ServesOne (Lose node) self new before after) c.tell_bad.ensures.tells
     (λ bad. record {
       kept = bad.kept;
       takes = λ given first inputs s. subst (λ view. Serves given first (inputs ++ Lose node ∷ []) view after) (sym bad.view)

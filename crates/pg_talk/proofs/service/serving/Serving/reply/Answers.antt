@@ -7,4 +7,4 @@ returns-clause-replies g c =
     let x = c.index_mut.result.now in
     replied_by c.args.self.now _ c.args.client x c.reply-number.new.self c.index-desk.result.now c.reply-number.result c.args.reply (g.W.Sink.contents c.args.writer.now)
     (g.W.Sink.contents c.put_reply.new.writer) c.requires c.index_mut.ensures.value c.reply-number.ensures.number c.reply-number.ensures.rest c.index-desk.ensures refl refl
-    (rw (c.name.ensures, c.port.ensures) at c.in_ok-put_reply.ensures)
+    (rw (c.name.ensures, c.port.ensures) at c.in_ok-put_reply.ensures.wrote)

@@ -1,9 +1,11 @@
+use Rattle.std.proofs.Common.{◌∙◌}
 use Rattle.pg_cluster.specs.PgRing.Slots.{taken}
+use Rattle.pg_talk.proofs.Passing.{passed_same}
 use Rattle.pg_talk.proofs.Turns.{advances_empty, advances_kept, advances_took, inlet_itself, inlet_on}
 use Rattle.pg_talk.proofs.service.serving.Serving.take_inputs.Goals as goal
 
 pub loop-count-init : goal.loop-count-init
-loop-count-init g c = (inlet_itself c.args.inlet.now, λ given first s. s)
+loop-count-init g c = (inlet_itself c.args.inlet.now, λ given first s. s, λ first h. h)
 
 pub loop-count-preserved : goal.loop-count-preserved
 loop-count-preserved g c =
@@ -11,7 +13,8 @@ loop-count-preserved g c =
     let contents = g.W.Sink.contents in (
       inlet_on c.args.inlet.now c.loop-count.inlet c.next_input.new.inlet c.loop-count.invariant.0 c.in-Some.ensures.same,
       λ given first s. advances_took self c.take_input.new.self (taken c.loop-count.inlet) (taken c.next_input.new.inlet) (contents c.loop-count.writer) (contents c.take_input.new.writer) c.in-Some.input c.next_input.new.self
-          c.in-Some.ensures.view c.in-Some.ensures.kept c.in-Some.ensures.came c.in_ok-take_input.ensures given first (c.loop-count.invariant.1 given first s),
+          c.in-Some.ensures.view c.in-Some.ensures.kept c.in-Some.ensures.came c.in_ok-take_input.ensures.serves given first (c.loop-count.invariant.1 given first s),
+      λ first h. c.in_ok-take_input.ensures.passed first (passed_same g.W.Sink.flushed self.outlet c.next_input.new.self.outlet c.loop-count.writer c.in-Some.ensures.outlet first (c.loop-count.invariant.2 first h)),
     )
 
 pub returns-in_default-clause-advances : goal.returns-in_default-clause-advances
@@ -27,3 +30,10 @@ returns-then-not-has_room-clause-advances g c given first s =
     let same = g.W.Sink.contents c.loop-count.writer in
     advances_kept self c.keep.new.self (taken c.loop-count.inlet) (taken c.next_input.new.inlet) same same c.in-Some.input c.next_input.new.self c.in-Some.ensures.view c.in-Some.ensures.came c.keep.ensures.view
     c.keep.ensures.kept given first (c.loop-count.invariant.1 given first s)
+
+pub returns-in_default-clause-passed : goal.returns-in_default-clause-passed
+returns-in_default-clause-passed g c = λ first h. passed_same g.W.Sink.flushed c.loop-count.self.outlet c.next_input.new.self.outlet c.loop-count.writer c.in_default.ensures.outlet first (c.loop-count.invariant.2 first h)
+
+pub returns-then-not-has_room-clause-passed : goal.returns-then-not-has_room-clause-passed
+returns-then-not-has_room-clause-passed g c = λ first h.
+    passed_same g.W.Sink.flushed c.loop-count.self.outlet c.keep.new.self.outlet c.loop-count.writer (c.keep.ensures.outlet ∙ c.in-Some.ensures.outlet) first (c.loop-count.invariant.2 first h)
