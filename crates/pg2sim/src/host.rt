@@ -18,8 +18,8 @@ use std::thread::Threads;
 use std::time::{Clock, Instant};
 use std::{fs, io};
 
-/// The system that runs the program: a conversation that it tells of took place. While one goes on, or an exploration, its progress is
-/// shown on the terminal. No clause says when a file can't be made.
+/// The system that runs the program: a conversation that it tells of took place, and a service that it tells of was served. While a
+/// conversation goes on, or an exploration, its progress is shown on the terminal. No clause says when a file can't be made or read.
 #[derive(Drop)]
 pub(crate) struct HostSystem<'a, R, T> {
     pub(crate) alloc: Global,
@@ -56,8 +56,11 @@ impl<T: Write, C: Clock> Onlooker for Shown<T, C> {
 impl<R: Threads, T: Write> System for HostSystem<'_, R, T> {
     ghost use Rattle.std.specs.Prelude.{IfOk};
     ghost use Rattle.pg_talk.specs.Conversations.{TookPlace};
+    ghost use Rattle.pg2sim.specs.Services.{IsServed};
 
     ghost went = { λ a asked told b. IfOk told (TookPlace asked) };
+
+    ghost served = { λ a service before after told b. IfOk told (IsServed service before after) };
 
     fn put(&mut self, name: &str, bytes: &[u8]) -> io::Result<()> {
         let done = fs::write(self.rt, name, bytes);

@@ -46,7 +46,8 @@ impl<T: Write + IsTerminal, C: Clock> Progress<T, C> {
     ///
     /// Cost: no memory; the terminal is asked once whether it is one.
     pub fn new(terminal: T, clock: C, word: &'static str) -> Progress<T, C>
-        ensures { result.terminal ≡ terminal }
+        ensures terminal { result.terminal ≡ terminal }
+        ensures none { result.written ≡ None }
     {
         let is_terminal = terminal.is_terminal();
         Progress {

@@ -18,12 +18,10 @@ use Rattle.pg_program.specs.CommandLine.{IsScriptWord, IsServe, IsServeWord, IsT
 use Rattle.pg_program.specs.Explorations.{WasAsked}
 use Rattle.pg_program.specs.Scripts.{ScriptEnd}
 use Rattle.pg_program.specs.Status.{BytesEnd, Ends, end_of_bytes, end_status}
-use Rattle.pg_program.specs.Services.{EndsService, ServiceEnds, service_end}
+use Rattle.pg_program.specs.Services.{EndsService, WasOffered}
 use Rattle.pg_program.specs.Talks.{EndsTalk, OrNoMemory}
 use Rattle.pg_program.specs.declared.words.Offer.{Offer}
 use Rattle.pg_program.specs.declared.words.Quest.{Quest}
-use Rattle.pg_talk.specs.declared.service.Service.{Service}
-use Rattle.pg_talk.specs.declared.service.fault.ServiceFault.{ServiceFault}
 use Rattle.pg_talk.specs.declared.service.run.Served.{Served}
 use Rattle.pg_program.specs.declared.fault.Fault.{Fault}
 use Rattle.pg_program.specs.declared.fault.Fault.TheVariants.{Run}
@@ -135,15 +133,14 @@ pub asked_so : (unchanged : Type 0) (IsAsked : Quest → Type 0) (E : Quest → 
     → EndsTalk (OrNoMemory unchanged (WasAsked IsAsked E)) T status
 asked_so unchanged IsAsked E T status quest asked h = record { end = h.end; is = inr (record { quest = quest; asked = asked; ends = h.is }); told = h.told; status_is = h.status_is }
 
--- a service was asked for
-pub it_was_served : {D : Type 0} (served : D → Service → Result Served ServiceFault → D → Type 0) (service : Service) (told : Result Served ServiceFault) (before after : D)
-    (end : Result Served Fault) → served before service told after → end ≡ service_end told → ServiceEnds served end
-it_was_served served service told before after end is e = inl (service, told, record { before = before; after = after; is = is }, e)
+-- it was served as it was asked
+pub offered_so : (unchanged : Type 0) (IsAsked : Offer → Type 0) (E : Offer → Result Served Fault → Type 0) (T : Result Served Fault → Type 0) (status : ℕ) (offer : Offer) → IsAsked offer
+    → EndsService (E offer) T status → EndsService (OrNoMemory unchanged (WasOffered IsAsked E)) T status
+offered_so unchanged IsAsked E T status offer asked h = record { end = h.end; is = inr (record { offer = offer; asked = asked; ends = h.is }); told = h.told; status_is = h.status_is }
 
 -- no service began
-pub not_served : {D : Type 0} (served : D → Service → Result Served ServiceFault → D → Type 0) (T : Result Served Fault → Type 0) (status : ℕ) → status ≡ 1 → T (Err (Run 10))
-    → EndsService served T status
-not_served served T status e told = record { end = Err (Run 10); is = inr (Run 10, inl refl, refl); told = told; status_is = e }
+pub not_served : (unchanged : Type 0) (E T : Result Served Fault → Type 0) (status : ℕ) → unchanged → status ≡ 1 → T (Err (Run 10)) → EndsService (OrNoMemory unchanged E) T status
+not_served unchanged E T status u e told = record { end = Err (Run 10); is = inl (refl, u); told = told; status_is = e }
 
 pub same_names : (m : Option (Text × List Row)) (own peer own2 peer2 : List ℕ) → AsksBytes m own peer → AsksBytes m own2 peer2 → (own ≡ own2) × (peer ≡ peer2)
 same_names None own peer own2 peer2 h k = absurd h

@@ -1,5 +1,5 @@
 -- How an exploration ends.
-use Rattle.std.proofs.Common.{◌≡◌, ◌≢◌, ◌<◌, ◌≤◌, ℕ, Bool, true, false, List, [], length, nat_lt, Option, Some}
+use Rattle.std.proofs.Common.{◌≡◌, ◌≢◌, ◌<◌, ◌≤◌, ℕ, Bool, true, false, List, [], length, max, nat_lt, Option, Some}
 use Rattle.std.proofs.Common.{None, Result, Ok, Err, refl, sym, ap, ◌∙◌, subst, ◌⊎◌, inl, inr, ◌↔◌, arith}
 use Rattle.std.specs.Prelude.{IsTrue, if◌then◌else◌}
 use Rattle.std.specs.Str.{is_utf8}
@@ -9,6 +9,7 @@ use Rattle.pg_explore.specs.declared.fault.ExploreFault.{ExploreFault}
 use Rattle.pg_explore.specs.declared.fault.ExploreFault.TheVariants as explore
 use Rattle.pg_explore.specs.Explorations.{AreUnlike, AreFollowed, AreReached}
 use Rattle.pg_explore.specs.Faults.{CantExplore}
+use Rattle.pg_explore.specs.Ways.{AreWays}
 use Rattle.pg_script.specs.Faults.{line_number_of}
 use Rattle.pg_script.specs.Scripts.{Contents}
 use Rattle.pg_script.specs.declared.fault.LineFault.{LineFault}
@@ -17,15 +18,15 @@ use Rattle.pg_script.specs.declared.fault.ScriptFault.{ScriptFault}
 use Rattle.pg_cluster.specs.PgWorldPackets.Openings.{CantBegin}
 use Rattle.pg_explore_survey.specs.declared.findings.Findings.{Findings}
 use Rattle.pg_explore_survey.specs.declared.scenario.Scenario.{Scenario}
-use Rattle.pg_explore_survey.specs.Findings.{met_in}
+use Rattle.pg_explore_survey.specs.Findings.{IsCounted, led_in, met_in}
 use Rattle.pg_explore_survey.specs.Scenarios.{IsScenario, IsScenarioOf, scenario_of}
 use Rattle.pg_program.specs.declared.fault.Fault.{Fault}
 use Rattle.pg_program.specs.declared.fault.Fault.TheVariants.{Run, Given, Line}
-use Rattle.pg_program.specs.declared.input.TheConstants.{MAX_SCRIPT_LEN}
 use Rattle.pg_program.specs.declared.words.Quest.{Quest}
 use Rattle.pg_program.specs.Explorations.{AreFound, ExploreEnd, IsAnswer, NotPictured, PlannedEnd}
 use Rattle.pg_program.specs.Explorations.{Shown, WasExplored, WhyNot, bytes_planned, input_planned}
 use Rattle.pg_program.specs.Inputs.{NoInput, Said, told_fault}
+use Rattle.pg_program.specs.Limits.{max_script_len}
 use Rattle.pg_program.specs.Scripts.{script_fault_of}
 use Rattle.pg_program.specs.Talks.{Printed}
 
@@ -59,18 +60,22 @@ not_drawn quest found unchanged here there flushed before after (Line line numbe
 
 -- ---- what is explored
 
-pub found_of : (contents : Contents) (scenario : Scenario) (quest : Quest) (found : Findings) → IsScenarioOf contents scenario
-    → AreReached scenario.config.starts.items scenario.plans.items quest.retries (met_in found) → AreUnlike (met_in found)
-    → AreFollowed scenario.plans.items quest.retries (met_in found) found.explored.lent → (found.explored.lent < length (met_in found) → quest.limit ≤ length (met_in found))
+pub found_of : (contents : Contents) (scenario : Scenario) (quest : Quest) (found : Findings) → IsScenarioOf contents scenario → found.scenario.now ≡ scenario
+    → AreReached scenario.config.starts.items scenario.plans.items quest.retries (met_in found) → AreUnlike (met_in found) → 0 < length (met_in found)
+    → length (met_in found) ≤ max 1 quest.limit → AreFollowed scenario.plans.items quest.retries (met_in found) found.explored.lent
+    → (found.explored.lent < length (met_in found) → quest.limit ≤ length (met_in found))
+    → AreWays scenario.plans.items quest.retries (met_in found) found.explored.lent (led_in found) → IsCounted found
     → AreFound contents quest found
-found_of contents scenario quest found is reached apart followed cut = record {
-  plans = scenario.plans.items;
-  planned = is.plans;
-  size = is.len;
-  reached = subst (λ starts. AreReached starts scenario.plans.items quest.retries (met_in found)) is.starts reached;
+found_of contents scenario quest found is same reached apart first few followed cut ways counted = record {
+  scenario = subst (λ (s : Scenario). IsScenarioOf contents s) (sym same) is;
+  first = first;
+  few = few;
+  reached = subst (λ (s : Scenario). AreReached contents.starts s.plans.items quest.retries (met_in found)) (sym same) (subst (λ starts. AreReached starts scenario.plans.items quest.retries (met_in found)) is.starts reached);
   distinct = apart;
-  followed = followed;
+  followed = subst (λ (s : Scenario). AreFollowed s.plans.items quest.retries (met_in found) found.explored.lent) (sym same) followed;
   cut = cut;
+  ways = subst (λ (s : Scenario). AreWays s.plans.items quest.retries (met_in found) found.explored.lent (led_in found)) (sym same) ways;
+  counted = counted;
 }
 
 pub was_explored : (contents : Contents) (quest : Quest) (unchanged unwritten flushed : Type 0) (before after : Option (List ℕ)) (end : Result Bool Fault) (found : Findings) → AreFound contents quest found
@@ -131,14 +136,14 @@ text_refused bytes text fault quest unchanged unwritten flushed before after is 
 
 -- ---- what an input says
 
-few : (input : List ℕ) → length input ≤ MAX_SCRIPT_LEN → nat_lt MAX_SCRIPT_LEN (length input) ≡ false
+few : (input : List ℕ) → length input ≤ max_script_len → nat_lt max_script_len (length input) ≡ false
 few input l = grind (arith, nat_tests)
 
-many : (input : List ℕ) → MAX_SCRIPT_LEN < length input → nat_lt MAX_SCRIPT_LEN (length input) ≡ true
+many : (input : List ℕ) → max_script_len < length input → nat_lt max_script_len (length input) ≡ true
 many input l = grind (arith, nat_tests)
 
 pub input_explored : (is_input : List ℕ → Type 0) (unread unchanged unwritten flushed : Type 0) (quest : Quest) (before after : Option (List ℕ)) (end : Result Bool Fault) (input : List ℕ) → is_input input
-    → length input ≤ MAX_SCRIPT_LEN → PlannedEnd (bytes_planned input) quest unchanged unwritten flushed before after end
+    → length input ≤ max_script_len → PlannedEnd (bytes_planned input) quest unchanged unwritten flushed before after end
     → ExploreEnd is_input unread quest unchanged unwritten flushed before after end
 input_explored is_input unread unchanged unwritten flushed quest before after end input is l h =
     inr (bytes_planned input, (input, is, ap (λ (b : Bool). if b then Err (Given 11) else bytes_planned input) (few input l)), h)

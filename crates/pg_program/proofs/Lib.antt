@@ -2,4 +2,5 @@ pub mod Ends
 pub mod Exploring
 pub mod Inputs
 pub mod Numbers
+pub mod Offers
 pub mod Telling

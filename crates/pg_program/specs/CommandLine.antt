@@ -1,12 +1,13 @@
 -- The words that the program knows, and what they ask for.
 use Rattle.std.specs.Prelude.{◌≡◌, ◌<◌, ◌⊎◌, ℕ, ◌-◌, ◌^◌, List, ◌∷◌, [], Bool, true}
-use Rattle.std.specs.Prelude.{false, Option, Some, None, codes, unwrap_or, option_map}
+use Rattle.std.specs.Prelude.{false, Option, Some, None, codes, map, unwrap_or, option_map}
+use Rattle.std.specs.Borrow.{Bor}
 use Rattle.std.specs.Option.{option_map_or}
 use Rattle.std.specs.Str.{bytes_eq}
 use Rattle.std.specs.Str.Parse.{IsNumeral, digits_value, without_leading_plus}
 use Rattle.clap.specs.declared.builder.action.ArgAction.TheVariants.{Append, SetTrue}
 use Rattle.clap.specs.declared.builder.value_parser.ValueParser.TheVariants.{Unsigned}
-use Rattle.clap.specs.Words.{App, Row, Rule, Text, first_of, one_of, new_app, new_rule, with_rule, with_subcommand}
+use Rattle.clap.specs.Words.{App, Row, Rule, Text, all_of, first_of, one_of, new_app, new_rule, with_rule, with_subcommand}
 use Rattle.clap.specs.Simple.{on_top}
 use Rattle.pg_talk.specs.declared.conversation.Conversation.{Conversation}
 use Rattle.pg_program.specs.declared.words.Aids.{Aids}
@@ -133,10 +134,19 @@ abbrev pub IsThreads : Option (Text × List Row) → Talk → Type 0
 IsThreads (Some p) talk = (p.0 ≡ codes "threads") × AsksTalk p.1 talk.asked × (talk.is_json ≡ is_flag (codes "json") p.1)
 IsThreads None talk = ⊥
 
--- the numbers and the file of a service are those of its options
+-- all that were given of an option, in their order
+abbrev pub given_all : Text → List Row → List Text
+given_all id rows = unwrap_or (all_of id rows) []
+
+-- what texts say
+abbrev pub texts_of : List (Bor (List ℕ)) → List Text
+texts_of texts = map (λ (text : Bor (List ℕ)). text.now) texts
+
+-- the numbers, the names and the file of a service are those of its options
 pub record AsksOffer (rows : List Row) (offer : Offer) : Type 0 where
   pub nodes : GivesNumber 16 3 (one_of (codes "nodes") rows) offer.nodes
   pub ports : GivesNumber 16 2 (one_of (codes "ports") rows) offer.ports
+  pub names : texts_of offer.names.items ≡ given_all (codes "name") rows
   pub members : option_map (λ s. s.now) offer.members ≡ first_of (codes "members") rows
   pub requests : GivesNumber 64 1000000 (one_of (codes "commands") rows) offer.requests
   pub seed : GivesNumber 64 1 (one_of (codes "seed") rows) offer.seed

@@ -1,5 +1,5 @@
 -- How an exploration ends.
-use Rattle.std.specs.Prelude.{◌≡◌, ◌≢◌, ◌⊎◌, ◌↔◌, ◌<◌, ◌≤◌, ℕ, zero, suc, List, [], length, nat_lt, is_some, Bool}
+use Rattle.std.specs.Prelude.{◌≡◌, ◌≢◌, ◌⊎◌, ◌↔◌, ◌<◌, ◌≤◌, ℕ, zero, suc, List, length, max, nat_lt, is_some, Bool}
 use Rattle.std.specs.Prelude.{true, false, IsTrue, Option, Some, None, Result, Ok, Err, string_bytes, if◌then◌else◌}
 use Rattle.std.specs.Io.KnownBytes.{Appends}
 use Rattle.std.specs.Str.{is_utf8}
@@ -9,15 +9,16 @@ use Rattle.pg_explore.specs.declared.fault.ExploreFault.{ExploreFault}
 use Rattle.pg_explore.specs.declared.fault.ExploreFault.TheVariants as explore
 use Rattle.pg_explore.specs.declared.plan.Plan.{Plan}
 use Rattle.pg_explore.specs.Explorations.{AreUnlike, AreFollowed, AreReached}
+use Rattle.pg_explore.specs.Ways.{AreWays}
 use Rattle.pg_script.specs.Scripts.{Contents}
 use Rattle.pg_explore_survey.specs.declared.findings.Findings.{Findings}
-use Rattle.pg_explore_survey.specs.Findings.{IsPage, IsWhereMarked, end_numbered, end_places, differing_marks, met_in}
-use Rattle.pg_explore_survey.specs.Scenarios.{ArePlans, scenario_of}
+use Rattle.pg_explore_survey.specs.Findings.{IsCounted, IsPage, IsWhereMarked, end_numbered, end_places, differing_marks, led_in, met_in}
+use Rattle.pg_explore_survey.specs.Scenarios.{IsScenarioOf, scenario_of}
 use Rattle.pg_program.specs.declared.fault.Fault.{Fault}
 use Rattle.pg_program.specs.declared.fault.Fault.TheVariants.{Run, Given, Line}
-use Rattle.pg_program.specs.declared.input.TheConstants.{MAX_SCRIPT_LEN}
 use Rattle.pg_program.specs.declared.words.Quest.{Quest}
 use Rattle.pg_program.specs.Inputs.{NotRead, Said, told_fault}
+use Rattle.pg_program.specs.Limits.{max_script_len}
 use Rattle.pg_program.specs.Scripts.{IsRefused, NotWritten}
 
 -- ---- what is explored
@@ -28,7 +29,7 @@ bytes_planned bytes = if is_utf8 bytes then told_fault (scenario_of bytes) else 
 
 -- what an input says: it is too long, or its bytes say it
 abbrev pub input_planned : List ℕ → Said
-input_planned input = if nat_lt MAX_SCRIPT_LEN (length input) then Err (Given 11) else bytes_planned input
+input_planned input = if nat_lt max_script_len (length input) then Err (Given 11) else bytes_planned input
 
 -- this is said of some input
 abbrev pub IsPlanned : (List ℕ → Type 0) → Said → Type 0
@@ -36,15 +37,21 @@ IsPlanned is_input said = (input : List ℕ) × is_input input × (input_planned
 
 -- ---- what is found
 
--- Worlds are found of what an input says, within limits: each is reached, no two are alike, and each step from those that were explored is followed.
+abbrev pub plans_in : Findings → List Plan
+plans_in found = found.scenario.now.plans.items
+
+-- Worlds are found of what an input says: some, and no more than the limit; each is reached, no two are alike, and each step from those that were explored is followed. Fewer
+-- than all are explored only where the limit was met. The ways from these are the steps that happen there, and what is counted is counted of these worlds and ways.
 pub record AreFound (contents : Contents) (quest : Quest) (found : Findings) : Type 0 where
-  pub plans : List Plan
-  pub planned : ArePlans contents.lines plans
-  pub size : length plans ≡ length contents.starts
-  pub reached : AreReached contents.starts plans quest.retries (met_in found)
+  pub scenario : IsScenarioOf contents found.scenario.now
+  pub first : 0 < length (met_in found)
+  pub few : length (met_in found) ≤ max 1 quest.limit
+  pub reached : AreReached contents.starts (plans_in found) quest.retries (met_in found)
   pub distinct : AreUnlike (met_in found)
-  pub followed : AreFollowed plans quest.retries (met_in found) found.explored.lent
+  pub followed : AreFollowed (plans_in found) quest.retries (met_in found) found.explored.lent
   pub cut : found.explored.lent < length (met_in found) → quest.limit ≤ length (met_in found)
+  pub ways : AreWays (plans_in found) quest.retries (met_in found) found.explored.lent (led_in found)
+  pub counted : IsCounted found
 
 -- ---- what is asked
 
@@ -54,18 +61,18 @@ HasWhatIsAsked zero false found there = there ≡ true
 HasWhatIsAsked zero true found there = IsWhereMarked (differing_marks found) there
 HasWhatIsAsked (suc number) differing found there = there ≡ is_some (end_numbered (end_places found) (suc number))
 
--- a text of what was counted is its page
+-- a text of what was counted is its page; of the text of a run nothing is said
 abbrev pub IsAskedText : ℕ → Bool → Findings → List ℕ → Type 0
 IsAskedText zero false found text = IsPage found text
 IsAskedText zero true found text = Unit {0}
 IsAskedText (suc number) differing found text = Unit {0}
 
--- the text that is asked for; None: it is not there
+-- a text where what is asked for is there; None: it is not
 abbrev pub IsAnswer : ℕ → Bool → Findings → Option (List ℕ) → Type 0
 IsAnswer show differing found None = HasWhatIsAsked show differing found false
 IsAnswer show differing found (Some text) = HasWhatIsAsked show differing found true × IsAskedText show differing found text
 
--- it was printed and flushed, and it is told whether all worlds were explored
+-- such a text was printed and flushed, and it is told whether all worlds were explored
 pub record WasShown (quest : Quest) (found : Findings) (flushed : Type 0) (before after : Option (List ℕ)) (whole : Bool) : Type 0 where
   pub text : List ℕ
   pub answer : IsAnswer quest.show quest.is_differing found (Some text)

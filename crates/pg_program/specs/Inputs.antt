@@ -9,7 +9,7 @@ use Rattle.pg_script.specs.declared.fault.ScriptFault.{ScriptFault}
 use Rattle.pg_script.specs.declared.script.Script.{Script}
 use Rattle.pg_program.specs.declared.fault.Fault.{Fault}
 use Rattle.pg_program.specs.declared.fault.Fault.TheVariants.{Run, Given, Line}
-use Rattle.pg_program.specs.declared.input.TheConstants.{MAX_SCRIPT_LEN}
+use Rattle.pg_program.specs.Limits.{max_script_len}
 
 -- ---- reading
 
@@ -21,7 +21,7 @@ pub record GaveBytes {R : Type 0} (gives : R → List ℕ → R → Type 0) (old
 
 -- the last read found the end; or there are more bytes than a script may have
 abbrev pub IsOver : {R : Type 0} → (R → Option (List ℕ)) → (R → List ℕ → R → Type 0) → R → R → List ℕ → Type 0
-IsOver remaining gives before new input = (gives before [] new × IsAtEnd (remaining new)) ⊎ ((new ≡ before) × (MAX_SCRIPT_LEN < length input))
+IsOver remaining gives before new input = (gives before [] new × IsAtEnd (remaining new)) ⊎ ((new ≡ before) × (max_script_len < length input))
 
 -- these are the bytes of the input: all that the source has, or the first of more than a script may have
 pub record IsInput {R : Type 0} (remaining : R → Option (List ℕ)) (gives : R → List ℕ → R → Type 0) (old new : R) (input : List ℕ) : Type 0 where
@@ -35,7 +35,7 @@ pub record IsUnread {R : Type 0} (gives : R → List ℕ → R → Type 0) (fail
   pub before : R
   pub bytes : List ℕ
   pub gave : GaveBytes gives old before bytes
-  pub few : length bytes ≤ MAX_SCRIPT_LEN
+  pub few : length bytes ≤ max_script_len
   pub failed : fails before new
 
 -- there was no memory, or a read failed
@@ -45,7 +45,7 @@ NotRead unread number = (number ≡ 10) ⊎ ((number ≡ 31) × unread)
 -- why an input is not read: there are too many bytes, or it was not read
 abbrev pub NoInput : (List ℕ → Type 0) → Type 0 → Fault → Type 0
 NoInput is_input unread (Run number) = NotRead unread number
-NoInput is_input unread (Given number) = (number ≡ 11) × ((bytes : List ℕ) × is_input bytes × (MAX_SCRIPT_LEN < length bytes))
+NoInput is_input unread (Given number) = (number ≡ 11) × ((bytes : List ℕ) × is_input bytes × (max_script_len < length bytes))
 NoInput is_input unread (Line line number) = ⊥
 
 -- ---- what it says
@@ -64,7 +64,7 @@ bytes_said bytes = if is_utf8 bytes then told_fault (script_of bytes) else Err (
 
 -- what an input says: it is too long, or its bytes say it
 abbrev pub input_said : List ℕ → Said
-input_said input = if nat_lt MAX_SCRIPT_LEN (length input) then Err (Given 11) else bytes_said input
+input_said input = if nat_lt max_script_len (length input) then Err (Given 11) else bytes_said input
 
 -- this is said of some input
 abbrev pub IsReadAs : (List ℕ → Type 0) → Said → Type 0

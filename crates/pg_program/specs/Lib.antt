@@ -3,6 +3,7 @@ pub mod CommandLine
 pub mod Explorations
 pub mod Faults
 pub mod Inputs
+pub mod Limits
 pub mod Scripts
 pub mod Services
 pub mod Status

@@ -1,11 +1,12 @@
 //! `pg2sim explore`.
 
-ghost use Rattle.std.specs.Prelude.{◌≡◌, ◌⊎◌, ◌<◌, ◌≤◌, IfErr, IfOk, Ok, length, option_map, string_bytes};
+ghost use Rattle.std.specs.Prelude.{◌≡◌, ◌⊎◌, ◌<◌, ◌≤◌, IfErr, IfOk, Ok, length, max, option_map, string_bytes};
 ghost use Rattle.pg_explore.specs.Explorations.{AreUnlike, AreFollowed, AreReached};
 ghost use Rattle.pg_explore.specs.Faults.{CantExplore};
+ghost use Rattle.pg_explore.specs.Ways.{AreWays};
 ghost use Rattle.pg_cluster.specs.PgNode.Replicas.Causes.{FailedAt};
 ghost use Rattle.pg_script.specs.Scripts.{Contents};
-ghost use Rattle.pg_explore_survey.specs.Findings.{met_in};
+ghost use Rattle.pg_explore_survey.specs.Findings.{IsCounted, led_in, met_in};
 ghost use Rattle.pg_explore_survey.specs.Scenarios.{IsScenarioOf};
 ghost use Rattle.pg_program.specs.Explorations.{ExploreEnd, IsAnswer, NotPictured};
 ghost use Rattle.pg_program.specs.Explorations.{PlannedEnd, Shown, WhyNot, bytes_planned};
@@ -114,8 +115,13 @@ fn found_in<'a, 'b, D: System>(
 ) -> Result<Findings<'a, 'b>, ExploreFault>
     ensures reached { IfOk result (λ found. AreReached scenario.now.config.starts.items scenario.now.plans.items quest.entry.retries (met_in found)) }
     ensures distinct { IfOk result (λ found. AreUnlike (met_in found)) }
+    ensures first { IfOk result (λ found. 0 < length (met_in found)) }
+    ensures few { IfOk result (λ found. length (met_in found) ≤ max 1 quest.entry.limit) }
     ensures followed { IfOk result (λ found. AreFollowed scenario.now.plans.items quest.entry.retries (met_in found) found.explored.lent) }
     ensures cut { IfOk result (λ found. found.explored.lent < length (met_in found) → quest.entry.limit ≤ length (met_in found)) }
+    ensures ways { IfOk result (λ found. AreWays scenario.now.plans.items quest.entry.retries (met_in found) found.explored.lent (led_in found)) }
+    ensures scenario { IfOk result (λ found. found.scenario.now ≡ scenario.now) }
+    ensures counted { IfOk result IsCounted }
     ensures fault { IfErr result (CantExplore scenario.now.config) }
 {
     let limits = Limits {

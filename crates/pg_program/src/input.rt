@@ -3,8 +3,8 @@
 ghost use Rattle.std.specs.Prelude.{◌≡◌, true, false, IfOk, ◌≤◌, length, IfErr};
 ghost use Rattle.std.specs.Str.{is_utf8};
 ghost use Rattle.pg_program.specs.Inputs.{IsInput, IsUnread, NoInput};
+ghost use Rattle.pg_program.specs.Limits.{max_script_len};
 ghost use Rattle.pg_program.specs.declared.fault.Fault.TheVariants.{Given};
-ghost use Rattle.pg_program.specs.declared.input.TheConstants.{MAX_SCRIPT_LEN};
 
 use crate::fault::Fault;
 use pg_streams::Source;
@@ -22,7 +22,7 @@ const PIECE_LEN: usize = 65_536;
 /// Faults: where a read fails, where the input is longer, or where there is no memory.
 pub(crate) fn read_input<R: Source>(alloc: Global, reader: &mut R) -> Result<Vec<u8>, Fault>
     ensures bytes { IfOk result (λ bytes. IsInput R.remaining R.gives reader.old reader.new bytes.items
-        × (length bytes.items ≤ MAX_SCRIPT_LEN)) }
+        × (length bytes.items ≤ max_script_len)) }
     ensures fault { IfErr result (NoInput (IsInput R.remaining R.gives reader.old reader.new)
         (IsUnread R.gives R.fails reader.old reader.new)) }
 {

@@ -19,5 +19,6 @@ mod threads;
 mod words;
 
 pub use input::MAX_SCRIPT_LEN;
+pub use laws::limit_of_scripts;
 pub use run::{refuse, refuse_given, run_words};
 pub use system::System;

@@ -8,11 +8,11 @@ ghost use Rattle.clap.specs.Words.{fault_of, kind_of, subcommand_of};
 ghost use Rattle.pg_cluster.specs.PgNode.Replicas.Causes.{AllAnswered, FailedAt, Unread};
 ghost use Rattle.pg_program.specs.Bytes.{BytesCause, pair_of_texts};
 ghost use Rattle.pg_program.specs.CommandLine.{command_line, AsksBytes, IsExplore, IsExploreWord};
-ghost use Rattle.pg_program.specs.CommandLine.{IsScriptWord, IsServeWord, IsThreads};
+ghost use Rattle.pg_program.specs.CommandLine.{IsScriptWord, IsServe, IsServeWord, IsThreads};
 ghost use Rattle.pg_program.specs.Explorations.{ExploreEnd, WasAsked};
 ghost use Rattle.pg_program.specs.Inputs.{IsInput, IsUnread};
 ghost use Rattle.pg_program.specs.Scripts.{ScriptEnd};
-ghost use Rattle.pg_program.specs.Services.{EndsService, ToldService, service_status};
+ghost use Rattle.pg_program.specs.Services.{EndsService, ServiceEnds, ToldService, WasOffered, service_status};
 ghost use Rattle.pg_program.specs.Status.{BytesEnd, Ends, ToldEnd, WordsEnd, end_of_bytes, end_status};
 ghost use Rattle.pg_program.specs.Talks.{EndsTalk, OrNoMemory, TalkEnd};
 ghost use Rattle.pg_program.specs.declared.fault.Fault.TheVariants.{Run};
@@ -88,7 +88,9 @@ pub fn run_words<R: Source, W: Sink, D: System, F: Sink>(
         (ToldEnd F.fails F.contents faults.old faults.new) result }
     ensures serve { fault_of command_line (map string_bytes words.now) ≡ []
         → IsServeWord (subcommand_of command_line (map string_bytes words.now))
-        → EndsService D.served (ToldService F.fails F.contents faults.old faults.new) result }
+        → EndsService (OrNoMemory (writer.new ≡ writer.old) (WasOffered (IsServe (subcommand_of command_line (map string_bytes words.now)))
+        (λ offer. ServiceEnds D.got D.unread D.served offer system.old system.new (writer.new ≡ writer.old) (W.contents writer.old) (W.contents writer.new))))
+        (ToldService F.fails F.contents faults.old faults.new) result }
     ensures explore { fault_of command_line (map string_bytes words.now) ≡ []
         → IsExploreWord (subcommand_of command_line (map string_bytes words.now))
         → EndsTalk (OrNoMemory (writer.new ≡ writer.old) (WasAsked (IsExplore (subcommand_of command_line (map string_bytes words.now)))
@@ -99,7 +101,11 @@ pub fn run_words<R: Source, W: Sink, D: System, F: Sink>(
     match read_words(alloc, words) {
         Ok(Task::Bytes { own, peer }) => run_bytes(alloc, own, peer, reader, writer, faults),
         Ok(Task::Threads(talk)) => run_conversation(alloc, talk, writer, system, faults),
-        Ok(Task::Serve(offer)) => run_service(alloc, offer, writer, system, faults),
+        Ok(Task::Serve(offer)) => {
+            let status = run_service(alloc, &offer, writer, system, faults);
+            drop(offer);
+            status
+        }
         Ok(Task::Explore(quest)) => {
             run_exploration(alloc, quest, reader, writer, system, faults)
         }
@@ -185,12 +191,13 @@ fn run_exploration<R: Source, W: Sink, D: System, F: Sink>(
 /// Serves the requests of the input, and gives the status.
 fn run_service<W: Sink, D: System, F: Sink>(
     alloc: Global,
-    offer: Offer<'_>,
+    offer: &Offer<'_>,
     writer: &mut W,
     system: &mut D,
     faults: &mut F,
 ) -> u8
-    ensures { EndsService D.served (ToldService F.fails F.contents faults.old faults.new) result }
+    ensures { EndsService (ServiceEnds D.got D.unread D.served offer.now system.old system.new (writer.new ≡ writer.old) (W.contents writer.old) (W.contents writer.new))
+        (ToldService F.fails F.contents faults.old faults.new) result }
 {
     match serve(alloc, offer, writer, system) {
         Ok(served) => tell_served(faults, served),

@@ -7,7 +7,6 @@ ghost use Rattle.pg_script.specs.Scripts.{contents_of};
 ghost use Rattle.pg_program.specs.Inputs.{IsInput, IsUnread, ScriptRead, bytes_said};
 ghost use Rattle.pg_program.specs.Scripts.{NotDrawn, ScriptEnds, ScriptEnd, run_fault_of, script_fault_of};
 ghost use Rattle.pg_program.specs.declared.fault.Fault.TheVariants.{Run};
-ghost use Rattle.pg_program.specs.declared.input.TheConstants.{MAX_SCRIPT_LEN};
 
 use crate::fault::Fault;
 use crate::input::{read_input, text_of};

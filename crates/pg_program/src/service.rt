@@ -1,7 +1,11 @@
 //! `pg2sim serve`.
 
-ghost use Rattle.std.specs.Prelude.{◌≡◌, IfErr};
-ghost use Rattle.pg_program.specs.Services.{IsEarly, ServiceEnds, service_fault_of, verdict_lines};
+ghost use Rattle.std.specs.Prelude.{◌≡◌, [], false, IfOk, IfErr, chars, map};
+ghost use Rattle.std.specs.List.{list_any};
+ghost use Rattle.pg_node_requests.specs.Members.{starts_said};
+ghost use Rattle.pg_program.specs.CommandLine.{texts_of};
+ghost use Rattle.pg_program.specs.Services.{Asks, CantSpell, FileTells, MembersTell, NamesEnd, OfferGives, ServiceBy};
+ghost use Rattle.pg_program.specs.Services.{ServiceEnds, StartsBy, is_too_long, service_fault_of, starts_in, verdict_lines};
 ghost use Rattle.pg_program.specs.Told.{WritesOut};
 
 use crate::fault::Fault;
@@ -14,77 +18,133 @@ use pg_streams::Sink;
 use pg_talk::{
     CLOCK_MARGIN, CLOCK_WAIT, Served, Service, ServiceFault, Verdict, config_of, node_names,
 };
-use pg_term::faults::{BAD_CONFIG, OUT_OF_MEMORY, READ_FAULT};
+use pg_term::faults::{BAD_ATOM, BAD_CONFIG, BAD_LINE, OUT_OF_MEMORY, READ_FAULT};
 use pg_term::{Atom, TermFault};
 use std::alloc::Global;
 
 /// No node made a process or knows a group.
-const NO_MEMBERS: &str = "[]";
+const NO_MEMBERS: &[u8] = b"[]";
 
 /// Serves requests from the system's input, and writes the replies; how it went.
 pub(crate) fn serve<W: Sink, D: System>(
     alloc: Global,
-    offer: Offer<'_>,
+    offer: &Offer<'_>,
     writer: &mut W,
     system: &mut D,
 ) -> Result<Served, Fault>
-    ensures { ServiceEnds D.served result }
+    ensures { ServiceEnds D.got D.unread D.served offer.now system.old system.new (writer.new ≡ writer.old) (W.contents writer.old) (W.contents writer.new) result }
 {
-    let Offer {
-        nodes,
-        ports,
-        names,
-        members,
-        requests,
-        seed,
-    } = offer;
-    let names = match atoms_of(alloc, nodes, names) {
-        Ok(names) => names,
-        Err(fault) => return Err(fault),
-    };
-    let config = config_by(alloc, names.as_slice(), ports, members, system);
-    drop(names);
-    let service = Service {
-        config: config?,
-        requests,
-        seed,
-        margin: CLOCK_MARGIN,
-        wait: CLOCK_WAIT,
-    };
+    match service_of(alloc, offer, system) {
+        Ok(service) => ask(service, writer, system),
+        Err(fault) => Err(fault),
+    }
+}
+
+/// Asks the system for a service; how it went.
+fn ask<W: Sink, D: System>(
+    service: Service,
+    writer: &mut W,
+    system: &mut D,
+) -> Result<Served, Fault>
+    ensures { Asks D.served system.old system.new service (W.contents writer.old) (W.contents writer.new) result }
+{
     match system.serve(service, writer) {
         Ok(served) => Ok(served),
         Err(fault) => Err(service_fault(fault)),
     }
 }
 
-/// The names that were given, as often as there are nodes, or those of nodes that were given none.
-fn atoms_of(alloc: Global, nodes: u16, names: Vec<&str>) -> Result<Vec<Atom>, Fault>
-    ensures { IfErr result IsEarly }
+/// The service that is offered.
+fn service_of<D: System>(alloc: Global, offer: &Offer<'_>, system: &mut D) -> Result<Service, Fault>
+    ensures { OfferGives D.got D.unread offer.now system.old system.new result }
 {
-    if names.is_empty() {
-        return match node_names(alloc, nodes) {
-            Ok(names) => Ok(names),
-            Err(_) => Err(Fault::Run(OUT_OF_MEMORY)),
-        };
+    match atoms_of(alloc, offer.nodes, offer.names.as_slice()) {
+        Ok(names) => {
+            let service = service_by(alloc, offer, names.as_slice(), system);
+            drop(names);
+            service
+        }
+        Err(fault) => Err(fault),
+    }
+}
+
+/// The service that is offered, over nodes with these names.
+fn service_by<D: System>(
+    alloc: Global,
+    offer: &Offer<'_>,
+    names: &[Atom],
+    system: &mut D,
+) -> Result<Service, Fault>
+    ensures { ServiceBy D.got D.unread offer.now names.now system.old system.new result }
+{
+    match config_by(alloc, names, offer.ports, offer.members, system) {
+        Ok(config) => Ok(Service {
+            config,
+            requests: offer.requests,
+            seed: offer.seed,
+            margin: CLOCK_MARGIN,
+            wait: CLOCK_WAIT,
+        }),
+        Err(fault) => Err(fault),
+    }
+}
+
+/// The names that are given, as many as there are nodes, or those of nodes that are given none.
+fn atoms_of(alloc: Global, nodes: u16, names: &[&str]) -> Result<Vec<Atom>, Fault>
+    ensures { NamesEnd nodes (texts_of names.now) result }
+{
+    if names.len() == 0 {
+        return numbered(alloc, nodes);
     }
     if names.len() != usize::from(nodes) {
         return Err(Fault::Given(BAD_CONFIG));
     }
+    atoms_in(alloc, names)
+}
+
+/// The names of so many nodes that are given none.
+fn numbered(alloc: Global, nodes: u16) -> Result<Vec<Atom>, Fault>
+    ensures { NamesEnd nodes [] result }
+{
+    match node_names(alloc, nodes) {
+        Ok(names) => Ok(names),
+        Err(_) => Err(Fault::Run(OUT_OF_MEMORY)),
+    }
+}
+
+/// The names that texts are.
+fn atoms_in(alloc: Global, names: &[&str]) -> Result<Vec<Atom>, Fault>
+    ensures names { IfOk result (λ atoms. atoms.items ≡ map (λ name. chars name.now) names.now) }
+    ensures fault { IfErr result (CantSpell (list_any (λ name. is_too_long name.now) names.now)) }
+{
     let mut atoms = Vec::new(alloc);
     for name in names {
-        let atom = match Atom::new(alloc, name) {
-            Ok(atom) => atom,
-            Err(TermFault::OutOfMemory) => return Err(Fault::Run(OUT_OF_MEMORY)),
-            Err(fault) => return Err(Fault::Given(fault.number())),
-        };
-        if atoms.push(atom).is_err() {
-            return Err(Fault::Run(OUT_OF_MEMORY));
+        match atom_of(alloc, name) {
+            Ok(atom) => {
+                if atoms.push(atom).is_err() {
+                    return Err(Fault::Run(OUT_OF_MEMORY));
+                }
+            }
+            Err(fault) => return Err(fault),
         }
     }
     Ok(atoms)
 }
 
-/// The configuration of these nodes, by the file of what they know as they start, if one was given.
+/// The name that a text is.
+fn atom_of(alloc: Global, text: &str) -> Result<Atom, Fault>
+    ensures name { IfOk result (λ name. name ≡ chars text.now) }
+    ensures short { IfOk result (λ name. is_too_long text.now ≡ false) }
+    ensures fault { IfErr result (CantSpell (is_too_long text.now)) }
+{
+    match Atom::new(alloc, text) {
+        Ok(atom) => Ok(atom),
+        Err(TermFault::BadAtom) => Err(Fault::Given(BAD_ATOM)),
+        Err(_) => Err(Fault::Run(OUT_OF_MEMORY)),
+    }
+}
+
+/// The configuration of these nodes, by the file of what they know as they start, if one is given.
 fn config_by<D: System>(
     alloc: Global,
     names: &[Atom],
@@ -92,17 +152,27 @@ fn config_by<D: System>(
     members: Option<&str>,
     system: &mut D,
 ) -> Result<Config, Fault>
-    ensures { IfErr result IsEarly }
+    ensures { MembersTell D.got D.unread system.old system.new members.entry names.now ports result }
 {
-    let Some(file) = members else {
-        return config_in(alloc, names, ports, NO_MEMBERS);
-    };
+    match members {
+        Some(file) => config_from(alloc, names, ports, file, system),
+        None => config_told(alloc, names, ports, NO_MEMBERS),
+    }
+}
+
+/// The configuration of these nodes, by that file.
+fn config_from<D: System>(
+    alloc: Global,
+    names: &[Atom],
+    ports: u16,
+    file: &str,
+    system: &mut D,
+) -> Result<Config, Fault>
+    ensures { FileTells D.got D.unread system.old system.new file.now names.now ports result }
+{
     match system.get(file) {
         Ok(bytes) => {
-            let config = match text_of(bytes.as_slice()) {
-                Ok(text) => config_in(alloc, names, ports, text.trim()),
-                Err(fault) => Err(fault),
-            };
+            let config = config_told(alloc, names, ports, bytes.as_slice());
             drop(bytes);
             config
         }
@@ -110,13 +180,24 @@ fn config_by<D: System>(
     }
 }
 
+/// The configuration of these nodes, by the bytes of that file.
+fn config_told(alloc: Global, names: &[Atom], ports: u16, bytes: &[u8]) -> Result<Config, Fault>
+    ensures { StartsBy (starts_in names.now ports bytes.now) result }
+{
+    match text_of(bytes) {
+        Ok(text) => config_in(alloc, names, ports, text.trim()),
+        Err(fault) => Err(fault),
+    }
+}
+
 /// The configuration of these nodes, by the text of what they know as they start.
 fn config_in(alloc: Global, names: &[Atom], ports: u16, text: &str) -> Result<Config, Fault>
-    ensures { IfErr result IsEarly }
+    ensures { StartsBy (starts_said names.now ports (chars text.now)) result }
 {
     match config_of(alloc, names, ports, text) {
         Ok(config) => Ok(config),
-        Err(fault) => Err(service_fault(fault)),
+        Err(ServiceFault::BadText) => Err(Fault::Given(BAD_LINE)),
+        Err(_) => Err(Fault::Run(OUT_OF_MEMORY)),
     }
 }
 

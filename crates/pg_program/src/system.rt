@@ -1,6 +1,6 @@
 //! What the program asks of the system: files, threads and time.
 
-ghost use Rattle.std.specs.Prelude.{⊤, Result, OnErr};
+ghost use Rattle.std.specs.Prelude.{⊤, ℕ, List, Option, Result, IfOk, OnErr};
 ghost use Rattle.pg_talk.specs.declared.conversation.Conversation.{Conversation};
 ghost use Rattle.pg_talk.specs.declared.conversation.Outcome.{Outcome};
 ghost use Rattle.pg_talk.specs.declared.service.Service.{Service};
@@ -21,8 +21,14 @@ pub trait System {
     /// `went a asked told b`: a conversation that was asked for in `a` went as it is told, and that left `b`.
     ghost went: { Self → Conversation → Result Outcome StartFault → Self → Type 0 } = { λ a asked told b. ⊤ };
 
-    /// `served a service told b`: a service that was asked for in `a` went as it is told, and that left `b`.
-    ghost served: { Self → Service → Result Served ServiceFault → Self → Type 0 } = { λ a service told b. ⊤ };
+    /// `got a name bytes b`: a file of this name held these bytes in `a`, and to read it left `b`.
+    ghost got: { Self → List ℕ → List ℕ → Self → Type 0 } = { λ a name bytes b. ⊤ };
+
+    /// `unread a b`: a file could not be read in `a`, and that left `b`.
+    ghost unread: { Self → Self → Type 0 } = { λ a b. ⊤ };
+
+    /// `served a service before after told b`: a service that was asked for in `a` went as it is told, made of this output that one, and left `b`.
+    ghost served: { Self → Service → Option (List ℕ) → Option (List ℕ) → Result Served ServiceFault → Self → Type 0 } = { λ a service before after told b. ⊤ };
 
     /// Makes a file of this name hold just these bytes.
     ///
@@ -39,13 +45,15 @@ pub trait System {
     /// The bytes of the file of this name.
     ///
     /// Error: any, where it can't be read.
-    fn get(&mut self, name: &str) -> io::Result<Vec<u8>>;
+    fn get(&mut self, name: &str) -> io::Result<Vec<u8>>
+        ensures ok { IfOk result (λ bytes. got self.old name.now bytes.items self.new) }
+        ensures err { OnErr result (unread self.old self.new) };
 
     /// Serves requests from the input, and writes the replies. It may wait for threads.
     ///
     /// Faults: those of `serve_cluster`.
     fn serve<W: Sink>(&mut self, service: Service, writer: &mut W) -> Result<Served, ServiceFault>
-        ensures told { served self.old service result self.new };
+        ensures told { served self.old service (W.contents writer.old) (W.contents writer.new) result self.new };
 
     /// Shows how many worlds were explored, of how many at most.
     fn look(&mut self, explored: u64, limit: u64);

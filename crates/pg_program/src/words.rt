@@ -7,7 +7,7 @@ ghost use Rattle.clap.specs.declared.builder.Command.TheViews.{out-Command};
 ghost use Rattle.pg_program.specs.CommandLine.{name_rule, bytes_line, script_line, flag_rule, file_rule, number_rule};
 ghost use Rattle.pg_program.specs.CommandLine.{cluster_line, threads_line, names_rule, served_line, serve_line};
 ghost use Rattle.pg_program.specs.CommandLine.{explored_line, explore_line, top_line, command_line, given_name};
-ghost use Rattle.pg_program.specs.CommandLine.{is_flag, AsksAids, AsksOffer, AsksQuest, AsksTalk, GivesNumber, AsksFor};
+ghost use Rattle.pg_program.specs.CommandLine.{given_all, is_flag, texts_of, AsksAids, AsksOffer, AsksQuest, AsksTalk, GivesNumber, AsksFor};
 
 use crate::help::{
     ABOUT, BYTES_ABOUT, CLIENTS_HELP, COMMANDS_HELP, DIAGRAM_HELP, DIFFERING_HELP, EXPLORE_ABOUT,
@@ -125,10 +125,7 @@ fn task_of<'a>(alloc: Global, matches: &ArgMatches<'a>) -> Result<Task<'a>, Allo
 fn offer_of<'a>(alloc: Global, given: &ArgMatches<'a>) -> Result<Offer<'a>, AllocError>
     ensures { IfOk result (AsksOffer (rows_of (found_of given.now))) }
 {
-    let names = match given.get_strs("name") {
-        Some(names) => names.to_vec(alloc)?,
-        None => Vec::new(alloc),
-    };
+    let names = texts_of(alloc, given, "name")?;
     Ok(Offer {
         nodes: small_number(given, "nodes", 3),
         ports: small_number(given, "ports", 2),
@@ -137,6 +134,18 @@ fn offer_of<'a>(alloc: Global, given: &ArgMatches<'a>) -> Result<Offer<'a>, Allo
         requests: large_number(given, "commands", 1_000_000),
         seed: large_number(given, "seed", 1),
     })
+}
+
+/// The texts of an option, as often as it was given.
+///
+/// Error: `AllocError`.
+fn texts_of<'a>(alloc: Global, given: &ArgMatches<'a>, id: &str) -> Result<Vec<&'a str>, AllocError>
+    ensures { IfOk result (λ texts. texts_of texts.items ≡ given_all id.now (rows_of (found_of given.now))) }
+{
+    match given.get_strs(id) {
+        Some(texts) => texts.to_vec(alloc),
+        None => Ok(Vec::new(alloc)),
+    }
 }
 
 /// What is asked of an exploration.

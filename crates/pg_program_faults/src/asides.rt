@@ -1,5 +1,8 @@
 //! Questions about the program itself: `fault [N]`, `help [WORD]` and `version`.
 
+ghost use Rattle.std.specs.Prelude.{IfOk, codes, map, string_bytes};
+ghost use Rattle.pg_program_faults.specs.Asides.{IsAside, IsAskedBy, IsAskedIn};
+
 use crate::faults::{FAULTS, line_of_fault};
 use std::alloc::{AllocError, Global};
 
@@ -19,11 +22,20 @@ pub enum Aside {
 /// Errors: `AllocError`.
 ///
 /// Cost: memory for what is said.
-pub fn aside_of(alloc: Global, words: &[String]) -> Result<Option<Aside>, AllocError> {
-    let Some((first, rest)) = words.split_first() else {
-        return Ok(None);
-    };
-    match (first.as_str(), rest) {
+pub fn aside_of(alloc: Global, words: &[String]) -> Result<Option<Aside>, AllocError>
+    ensures { IfOk result (IsAside (map string_bytes words.now)) }
+{
+    match words.split_first() {
+        Some((first, rest)) => aside_in(alloc, first.as_str(), rest),
+        None => Ok(None),
+    }
+}
+
+/// The same of words of which this is the first.
+fn aside_in(alloc: Global, first: &str, rest: &[String]) -> Result<Option<Aside>, AllocError>
+    ensures { IfOk result (IsAskedIn first.now) }
+{
+    match (first, rest) {
         ("version", []) => Ok(Some(Aside::Shows(words_of(alloc, &["--version"])?))),
         ("help", []) | ("help", [_]) if is_own(rest) => {
             Ok(Some(Aside::Shows(words_of(alloc, &["--help"])?)))
@@ -60,7 +72,9 @@ fn words_of(alloc: Global, given: &[&str]) -> Result<Vec<String>, AllocError> {
 }
 
 /// The line of the fault of this number.
-fn fault_of(alloc: Global, number: &str) -> Aside {
+fn fault_of(alloc: Global, number: &str) -> Aside
+    ensures { IsAskedBy (codes "fault") result }
+{
     let line = match number.parse::<u8>() {
         Ok(number) => line_of_fault(alloc, number),
         Err(_) => None,

@@ -12,7 +12,7 @@ pub(crate) struct Declared {
     pub(crate) nodes: Vec<(String, usize)>,
     /// The first line that is no declaration.
     pub(crate) others: Option<usize>,
-    /// How many processes a node made that made too many, and its line.
+    /// The line that tells the capacity of rings.
     pub(crate) ring: Option<usize>,
 }
 

@@ -1,6 +1,7 @@
 //! The table of faults: what `docs/FAULTS.md` has of each number.
 
-ghost use Rattle.std.specs.Prelude.{◌≡◌, IfSome};
+ghost use Rattle.std.specs.Prelude.{◌≡◌, IfSome, is_some};
+ghost use Rattle.pg_program_faults.specs.Faults.{is_fault};
 
 use crate::saying::Saying;
 use std::alloc::Global;
@@ -205,7 +206,8 @@ pub const FAULTS: &[FaultRow] = &[
 
 /// The row of a fault, if there is one of this number.
 pub(crate) fn row_of(number: u8) -> Option<&'static FaultRow>
-    ensures { IfSome result (λ row. row.now.number ≡ number) }
+    ensures number { IfSome result (λ row. row.now.number ≡ number) }
+    ensures known { is_some result ≡ is_fault number }
 {
     FAULTS.iter().find(|row| row.number == number)
 }
@@ -213,7 +215,9 @@ pub(crate) fn row_of(number: u8) -> Option<&'static FaultRow>
 /// `N NAME: WHEN`, and a line feed; `None` where no fault has this number. Where memory is short it is cut.
 ///
 /// Cost: memory for the line.
-pub fn line_of_fault(alloc: Global, number: u8) -> Option<String> {
+pub fn line_of_fault(alloc: Global, number: u8) -> Option<String>
+    ensures { is_some result ≡ is_fault number }
+{
     match row_of(number) {
         Some(row) => {
             let mut saying = Saying::new(alloc);

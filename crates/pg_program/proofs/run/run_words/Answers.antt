@@ -2,7 +2,7 @@ use Rattle.std.proofs.Common.{map, refl, string_bytes}
 use Rattle.clap.specs.Words.{fault_of, kind_of, subcommand_of}
 use Rattle.pg_program.specs.CommandLine.{command_line}
 use Rattle.pg_program.proofs.Ends.{explore_no_bytes, explore_no_script, explore_no_script_word, explore_no_serve_word}
-use Rattle.pg_program.proofs.Ends.{explore_no_threads, explore_word, asked_so, not_other, not_read, not_spoken}
+use Rattle.pg_program.proofs.Ends.{explore_no_threads, explore_word, asked_so, offered_so, not_other, not_read, not_spoken}
 use Rattle.pg_program.proofs.Ends.{only_memory, same_names, script_not_read, spoken, script_no_bytes}
 use Rattle.pg_program.proofs.Ends.{script_no_threads, serve_no_bytes, serve_no_script, serve_no_script_word}
 use Rattle.pg_program.proofs.Ends.{serve_no_threads, serve_word, not_served, threads_no_bytes, threads_no_script}
@@ -73,6 +73,12 @@ returns-in-Ok-Explore-clause-explore g c =
     asked_so _ _ _ _ c.run_exploration.result c.in-Ok-Explore.quest asked.1 c.run_exploration.ensures
 
 -- ---- `serve`
+
+pub returns-in-Ok-Serve-clause-serve : goal.returns-in-Ok-Serve-clause-serve
+returns-in-Ok-Serve-clause-serve g c =
+    λ none is.
+    let asked = rw c.in-Ok-Serve.field-0-is at c.in-Ok-Serve.ensures.asked in
+    offered_so _ _ _ _ c.run_service-status.result c.in-Ok-Serve.offer asked.1 c.run_service-status.ensures
 
 pub returns-in-Ok-Serve-clause-explore : goal.returns-in-Ok-Serve-clause-explore
 returns-in-Ok-Serve-clause-explore g c =
@@ -169,7 +175,7 @@ pub returns-in-Err-clause-serve : goal.returns-in-Err-clause-serve
 returns-in-Err-clause-serve g c =
     λ none is.
     let ended = c.refuse_words.ensures.memory (only_memory (fault_of command_line (map string_bytes c.args.words.now)) (kind_of c.in-Err.error) none c.in-Err.ensures.refused) in
-    not_served _ _ c.refuse_words.result ended.0 ended.1
+    not_served _ _ _ c.refuse_words.result refl ended.0 ended.1
 
 pub returns-in-Err-clause-bytes : goal.returns-in-Err-clause-bytes
 returns-in-Err-clause-bytes g c =

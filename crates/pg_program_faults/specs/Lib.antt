@@ -1,0 +1,3 @@
+pub mod Asides
+pub mod Faults
+pub mod Heard
