@@ -1,8 +1,9 @@
 //! Figures: how fast terms and packets are read and written, how fast bytes cross a ring, how fast tables of groups are
-//! changed and asked, and how much memory they take. The first word says which: `codec`, `packets`, `rings`, `tables` or
-//! `memory`; with none, each but `memory` once and small. The figures go to standard error, since they differ from run to run.
+//! changed and asked, and how much memory they take. The first word says which: `codec`, `packets`, `rings`, `tables`, `memory` or
+//! `ended`; with none, each but the last two once and small. The figures go to standard error, since they differ from run to run.
 #![tactic(auto)]
 
+mod ends;
 mod rings;
 mod tables;
 mod values;
@@ -17,12 +18,13 @@ fn run(rt: &HostRuntime, words: &[String]) -> bool {
         "codec" => values::run(rt, words, TERMS),
         "packets" => values::run(rt, words, PACKETS),
         "tables" => tables::run(rt, words),
+        "ended" => ends::run(rt, words),
         "memory" => tables::run_memory(rt, words),
         _ => false,
     }
 }
 
-// The same, each once and small, but for memory, which only Linux reports.
+// The same, each once and small, but for memory and the ended, of which only Linux reports.
 fn run_each(rt: &HostRuntime) -> bool {
     values::run(rt, &[], TERMS) && values::run(rt, &[], PACKETS) && tables::run(rt, &[])
 }
@@ -36,7 +38,7 @@ fn main(rt: HostRuntime) -> anyhow::Result<()> {
     };
     if !is_done {
         anyhow::bail!(
-            "no such figures, no number, or no memory: codec, packets, rings, tables and memory have figures"
+            "no such figures, no number, or no memory: codec, packets, rings, tables, memory and ended have figures"
         );
     }
     Ok(())

@@ -228,7 +228,7 @@ fn kibibytes(line: &str) -> Option<u64> {
 }
 
 // The most memory that the program has had, in bytes, as Linux reports it.
-fn peak(rt: &HostRuntime) -> Option<u64> {
+pub fn peak(rt: &HostRuntime) -> Option<u64> {
     let status = fs::read_to_string(rt, "/proc/self/status").ok()?;
     let found = status.as_str().lines().find_map(kibibytes);
     drop(status);

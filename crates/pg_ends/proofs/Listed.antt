@@ -2,7 +2,6 @@
 use Rattle.std.proofs.Common.{◌≡◌, ℕ, zero, suc, ◌+◌, ◌*◌, ◌<◌, ◌≤◌, Bool, true, false, ◌||◌, cond}
 use Rattle.std.proofs.Common.{List, [], ◌∷◌, ◌++◌, refl, sym, ap, subst, ◌∙◌, arith, ◌≢◌, ◌⊎◌, inl, inr}
 use Rattle.std.specs.BTreeMap.{is_at}
-use Rattle.std.specs.BTreeSet.{contains}
 use Rattle.std.specs.Cmp.Lexicographic.{bytes_decides}
 use Rattle.std.specs.List.{AllByRecursion, filter, list_any}
 use Rattle.std.specs.List.Sorted.{IsStrictlySortedBy}
@@ -20,6 +19,7 @@ use Rattle.pg_term.specs.contracts.pid.PidEq.TheImpl.Laws as pid_equality
 use Rattle.pg_term.proofs.Same as decided
 use Rattle.pg_group.specs.declared.ended.Ended.{Ended}
 use Rattle.pg_group.specs.Ended.{ended_of, is_whole, single_of}
+use Rattle.pg_group.specs.Ends.{has_pid}
 use Rattle.pg_group.specs.Scope.{at_node}
 use Rattle.pg_ends.specs.Numbers.{pid_of, number_in, is_among, first_pids, ended_among}
 
@@ -215,15 +215,15 @@ found_here own p here (x ∷ keys) = go (is_at (pid_cmp p) x) (at_node own x) re
 
 pub singles_so : (own : List ℕ) → AreNumbered own → (ended : Ended) → is_whole ended own ≡ false → IsStrictlySortedBy pid_cmp (single_of ended own) → (n : ℕ) → filter (is_among n) (single_of ended own) ≡ ended_among own n (ended_of ended)
 singles_so own numbered ended single sorted n =
-    listed_so own numbered (single_of ended own) (ended_of ended) sorted (all_here own ended.pids.keys)
-    (λ k. ap (λ b. b || contains pid_cmp ended.pids (pid_of own k)) single ∙ found_here own (pid_of own k) ((bytes_decides own own).1 refl) ended.pids.keys) n
+    listed_so own numbered (single_of ended own) (ended_of ended) sorted (all_here own ended.pids)
+    (λ k. ap (λ b. b || has_pid ended.pids (pid_of own k)) single ∙ found_here own (pid_of own k) ((bytes_decides own own).1 refl) ended.pids) n
 
 -- the whole node has ended
 pub all_so : (own : List ℕ) (ended : Ended) → is_whole ended own ≡ true → (n : ℕ) → first_pids own n ≡ ended_among own n (ended_of ended)
 unfolding first_pids
 all_so own ended whole zero = refl
 all_so own ended whole (suc n) =
-    (λ i. all_so own ended whole n i ++ cond (sym (ap (λ b. b || contains pid_cmp ended.pids (pid_of own (suc n))) whole) i) (pid_of own (suc n) ∷ []) [])
+    (λ i. all_so own ended whole n i ++ cond (sym (ap (λ b. b || has_pid ended.pids (pid_of own (suc n))) whole) i) (pid_of own (suc n) ∷ []) [])
     ∙ sym (filter-append (ended_of ended) (first_pids own n) (pid_of own (suc n) ∷ []))
 
 -- ---- one process more

@@ -160,6 +160,16 @@ impl Formation {
         }
     }
 
+    /// Whether a peer is merged: it has announced its groups, or was forgotten. `peer` is a place among the peers.
+    ///
+    /// Cost: no memory.
+    pub fn is_merged(&self, peer: usize) -> bool
+        requires { peer < length self.now }
+        ensures { slice_get self.now peer ≡ Some result }
+    {
+        self.marks[peer]
+    }
+
     /// Whether every peer is merged: it has announced its groups, or was forgotten.
     ///
     /// Cost: no memory.

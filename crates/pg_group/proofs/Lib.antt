@@ -1,8 +1,8 @@
 pub mod Changes
+pub mod Chunks
 pub mod Copies
 pub mod Drops
-pub mod EndedCopies
-pub mod EndedListed
+pub mod EndedNumbers
 pub mod EndedSets
 pub mod EndedWithin
 pub mod Exchanges
@@ -12,6 +12,7 @@ pub mod Lists
 pub mod Longer
 pub mod Maps
 pub mod Merges
+pub mod Ordered
 pub mod Put
 pub mod Spread
 pub mod Thinned

@@ -1,7 +1,9 @@
 pub mod Counted
 pub mod Ended
+pub mod Ends
 pub mod Functions
 pub mod Members
+pub mod Numbers
 pub mod Rows
 pub mod Scope
 pub mod Table

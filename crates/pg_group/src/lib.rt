@@ -5,9 +5,12 @@
 #![tactic(auto)]
 
 mod append;
+mod chunk;
 mod ended;
 mod laws;
 mod members;
+mod number;
+mod numbers;
 mod row_table;
 mod rows;
 mod scope;

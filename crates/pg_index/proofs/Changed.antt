@@ -10,7 +10,7 @@ use Rattle.pg_term.specs.Same.{same_pid}
 use Rattle.pg_term.specs.contracts.pid.PidEq.TheImpl.Laws as pid_laws
 use Rattle.pg_term.proofs.Same.{pid_is}
 use Rattle.pg_group.specs.Functions.{upd}
-use Rattle.pg_group.specs.Value.{Counts, greater, told, with_one_more}
+use Rattle.pg_group.specs.Value.{Counts, nobody, greater, told, with_one_more}
 use Rattle.pg_group.proofs.Changes.{upd_from, upd_same, upd_at, upd_other, upd_twice}
 use Rattle.pg_group.proofs.Merges.{raised, between_so_far}
 use Rattle.pg_index_members.specs.declared.row.Row.{Row}
@@ -151,3 +151,15 @@ told_now counts counts' pid e = ap (λ (f : Counts). f pid) e ∙ upd_at same_pi
 
 abbrev pub raised_to : Numbered → ℕ → Counts → Numbered
 raised_to before group s = upd nat_eq before group (greater (before group) s)
+
+-- one more in a group that nobody was in
+pub added_one : (before counts counts' : Numbered) (group : ℕ) (s : Counts) (pid : Pid)
+    → before group ≡ nobody → counts ≡ upd nat_eq before group (greater (before group) s)
+    → counts' ≡ counts_changed counts group pid (counts group pid + 1)
+    → counts' ≡ upd nat_eq before group (greater (before group) (with_one_more s pid))
+added_one before counts counts' group s pid none e h =
+    let row : counts group pid ≡ max (before group pid) (s pid) = ap (λ (c : Numbered). c group pid) e ∙ ap (λ (c : Counts). c pid) (upd_at nat_eq before group (greater (before group) s) (number_itself group)) in
+    let zero_before : before group pid ≡ 0 = ap (λ (c : Counts). c pid) none in
+    let next : with_one_more s pid pid ≡ s pid + 1 = told_now s (with_one_more s pid) pid refl in
+    let same : counts group pid + 1 ≡ max (counts group pid) (with_one_more s pid pid) = omega arith in
+    raised_more before counts counts' group s s (with_one_more s pid) pid e refl refl (h ∙ ap (counts_changed counts group pid) same)

@@ -14,7 +14,7 @@ use Rattle.pg_group.specs.Functions.{upd}
 use Rattle.pg_group.specs.Scope.{at_node}
 use Rattle.pg_group.proofs.Changes.{upd_from, upd_same, upd_at, upd_other}
 use Rattle.pg_index.specs.declared.listing.Listing.{Listing}
-use Rattle.pg_index.specs.Groups.{Numbered, counts_changed, without_pid, without_node, without_nodes}
+use Rattle.pg_index.specs.Groups.{Numbered, counts_changed, without_pid, without_nodes}
 use Rattle.pg_index.specs.Listings.{process_of, listing_of, listing_cmp, listed_in, AreGroupsOf, ListsByMember}
 use Rattle.pg_index.proofs.Numbers.{number_is, number_itself}
 use Rattle.pg_index.proofs.Listed.{Nodes, has, at_group, apart, same_node, node_is, listing_is, node_alike, nodes_tie, pid_from}

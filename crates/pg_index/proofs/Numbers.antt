@@ -1,8 +1,9 @@
 -- Groups that are written at their numbers.
 use Rattle.std.proofs.Math.Path.{fun_ext}
 use Rattle.std.proofs.Common.{◌≡◌, ℕ, ◌+◌, Bool, true, false, cond, Option, Some}
-use Rattle.std.proofs.Common.{None, List, refl, sym, ap, subst, ◌∙◌, nat_eq}
-use Rattle.std.specs.Prelude.{unwrap_or, IsSome, Result, Ok, Err, OnOk}
+use Rattle.std.proofs.Common.{None, List, [], ◌∷◌, length, refl, sym, ap, subst, ◌∙◌, nat_eq, arith}
+use Rattle.std.specs.Prelude.{unwrap_or, IsSome, Result, Ok, Err, OnOk, count_by}
+use Rattle.std.proofs.lemmas.Bool.Decides.{nat_tests}
 use Rattle.std.proofs.Common.{rules}
 use Rattle.std.proofs.lemmas.Bool.{eqb-true}
 use Rattle.slab.specs.Slab.{Slab, get, with_value, Updates}
@@ -12,7 +13,9 @@ use Rattle.pg_term.specs.Same.{same_pid}
 use Rattle.pg_term.proofs.Same.{pid_is}
 use Rattle.pg_group.specs.Functions.{upd}
 use Rattle.pg_group.specs.Value.{Value, Counts, nobody}
-use Rattle.pg_group.specs.Scope.{at_node}
+use Rattle.pg_group.specs.Scope.{anywhere, at_node}
+use Rattle.pg_group.specs.Members.{IsMemberList}
+use Rattle.pg_group.proofs.Lists.{counted_first}
 use Rattle.pg_group.proofs.Changes.{upd_from, upd_same}
 use Rattle.pg_index_members.specs.declared.row.Row.{Row}
 use Rattle.pg_index_members.specs.Rows.{counts_of}
@@ -64,3 +67,11 @@ added_at groups group old new pid more (Err e) had h = tt
 added_at groups group old new pid more (Ok v) had h =
     written groups group old new (upd same_pid (counts_by_number groups group) pid (counts_by_number groups group pid + more)) had
     (h ∙ ap (λ o. upd same_pid (counts_at o) pid (counts_at o pid + more)) had)
+
+-- a group without a member in its list is nobody's
+pub nobody_in : (counts : Counts) (pids : List Pid) (n : ℕ) → n ≡ length pids → IsMemberList (Some counts) anywhere pids → (nat_eq n 0 ≡ true → counts ≡ nobody) × (counts ≡ nobody → nat_eq n 0 ≡ true)
+nobody_in counts [] n len h = (λ e. fun_ext (λ pid. sym (h.each pid)), λ e. ap (λ m. nat_eq m 0) len)
+nobody_in counts (x ∷ pids) n len h = (
+  λ e. absurd (let none : n ≡ 0 = grind (arith, nat_tests) in omega arith),
+  λ e. absurd (let some = counted_first x pids in let none : count_by (same_pid x) (x ∷ pids) ≡ 0 = h.each x ∙ ap (λ (c : Counts). c x) e in omega arith),
+)

@@ -1,10 +1,11 @@
-ghost use Rattle.std.specs.Prelude.{◌≡◌, ◌+◌, ◌<◌, ◌⊎◌, true, Some, OnOk, OnErr, IfOk, nat_eq};
+ghost use Rattle.std.specs.Prelude.{◌≡◌, ◌+◌, ◌<◌, ◌⊎◌, ◌↔◌, true, IsTrue, Some, OnOk, OnErr, IfOk, nat_eq};
 ghost use Rattle.pg_term.specs.Same.{same_pid};
 ghost use Rattle.pg_group.specs.Functions.{upd};
-ghost use Rattle.pg_group.specs.Value.{with_one_less};
+ghost use Rattle.pg_group.specs.Value.{with_one_less, nobody};
 ghost use Rattle.pg_index.specs.Groups.{counts_by_number, is_used, counts_changed};
 ghost use Rattle.pg_group.specs.Table.{LacksRoom};
 
+use pg_group::Scope;
 use pg_index_members::Members;
 use pg_term::Pid;
 use slab::Slab;
@@ -20,6 +21,16 @@ pub fn count(groups: &Groups, group: u32, pid: &Pid) -> u64
     match groups.get(group as usize) {
         Some(members) => members.count(pid),
         None => 0,
+    }
+}
+
+/// Whether nobody is in a group.
+pub fn is_empty(groups: &Groups, group: u32) -> bool
+    ensures { IsTrue result ↔ (counts_by_number groups.now group ≡ nobody) }
+{
+    match groups.get(group as usize) {
+        Some(members) => members.size(Scope::All) == 0,
+        None => true,
     }
 }
 

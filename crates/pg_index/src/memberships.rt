@@ -131,8 +131,24 @@ impl Memberships {
     ///
     /// Errors: `AllocError`, which may leave some raised.
     ///
-    /// Cost: memory for new members alone.
+    /// Cost: memory for new members; and for each of the list as long as the call lasts, where the group has members.
     pub fn raise_all(&mut self, group: u32, pids: &[Pid], ended: &Ended) -> Result<(), AllocError>
+        requires { is_used self.old.groups group ≡ true }
+        ensures ok { OnOk result (counts_by_number self.new.groups
+            ≡ counts_raised (counts_by_number self.old.groups) group pids.now (ended_of ended.now)) }
+        ensures err { OnErr result (IsPartlyRaised (counts_by_number self.old.groups) (counts_by_number self.new.groups) group
+            pids.now (ended_of ended.now)) }
+        ensures used { is_used self.new.groups ≡ is_used self.old.groups }
+    {
+        if groups::is_empty(&self.groups, group) {
+            self.add_each(group, pids, ended)
+        } else {
+            self.raise_each(group, pids, ended)
+        }
+    }
+
+    /// The same in any group.
+    fn raise_each(&mut self, group: u32, pids: &[Pid], ended: &Ended) -> Result<(), AllocError>
         requires { is_used self.old.groups group ≡ true }
         ensures ok { OnOk result (counts_by_number self.new.groups
             ≡ counts_raised (counts_by_number self.old.groups) group pids.now (ended_of ended.now)) }
@@ -145,6 +161,24 @@ impl Memberships {
             if !ended.has(pid) {
                 let count = seen.add(pid, 1)?;
                 self.raise(group, pid, count)?;
+            }
+        }
+        Ok(())
+    }
+
+    /// The same in a group that has no members.
+    fn add_each(&mut self, group: u32, pids: &[Pid], ended: &Ended) -> Result<(), AllocError>
+        requires used { is_used self.old.groups group ≡ true }
+        requires nobody { counts_by_number self.old.groups group ≡ nobody }
+        ensures ok { OnOk result (counts_by_number self.new.groups
+            ≡ counts_raised (counts_by_number self.old.groups) group pids.now (ended_of ended.now)) }
+        ensures err { OnErr result (IsPartlyRaised (counts_by_number self.old.groups) (counts_by_number self.new.groups) group
+            pids.now (ended_of ended.now)) }
+        ensures used { is_used self.new.groups ≡ is_used self.old.groups }
+    {
+        for pid in pids {
+            if !ended.has(pid) {
+                self.add(group, pid, 1)?;
             }
         }
         Ok(())

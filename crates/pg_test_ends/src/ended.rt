@@ -141,3 +141,34 @@ fn are_listed(
     holds(rt, is_range, "the list of", place);
     holds(rt, ended.has_node(node) == is_whole, "its node:", place);
 }
+
+/// So many pids of a node end, from the last to the first, that their numbers are split. Where memory is refused for one, it has not ended,
+/// and ends when it is asked for again.
+#[test]
+fn many_ended_of_a_node(rt: HostRuntime) {
+    let pids = pids_of(&rt, rt.alloc(), &[("a", 0, 520)]);
+    let mut ended = Ended::new(rt.alloc());
+    for place in 0..pids.len() {
+        ends_once(&rt, &mut ended, &pids, 519usize.saturating_sub(place));
+    }
+    are_listed(&rt, rt.alloc(), &ended, &pids, 0, (0, 520), false);
+    let copy = ended.copy(rt.alloc()).or(ended.copy(rt.alloc()));
+    let copy = copy.expect(&rt, "a copy");
+    holds(
+        &rt,
+        copy.same(&ended) && ended.same(&copy),
+        "a copy of",
+        520,
+    );
+    drop(copy);
+    drop(ended);
+    drop(pids);
+}
+
+fn ends_once(rt: &impl Abort, ended: &mut Ended, pids: &[Pid], place: usize) {
+    if put(rt, ended, pids, End::Pid(place)).is_err() {
+        holds(rt, !ended.has(pid_at(rt, pids, place)), "not ended:", place);
+        put(rt, ended, pids, End::Pid(place)).expect(rt, "again");
+    }
+    holds(rt, ended.has(pid_at(rt, pids, place)), "ended:", place);
+}

@@ -6,6 +6,8 @@ mod answers;
 #[cfg(test)]
 mod change;
 #[cfg(test)]
+mod ended;
+#[cfg(test)]
 mod examples;
 #[cfg(test)]
 mod groups;
