@@ -23,7 +23,7 @@ pub(crate) fn groups(
     let Some(groups) = all_groups(alloc, terms)? else {
         return Ok(None);
     };
-    if !are_told_once(alloc, groups.as_slice())? {
+    if !are_told_once(alloc, groups.as_slice()) {
         return Ok(None);
     }
     Ok(Some(Items::from_vec(groups)))

@@ -29,7 +29,8 @@ use std::alloc::{AllocError, Global};
 /// Errors: those of its term, as `pg_term_io::decode` has them; `NotAMessage`, where the term has not the shape of a
 /// packet, a name in it is refused by `check_name`, an exchange names a group twice, or the stamp is negative;
 /// `StampTooLarge`. `OutOfMemory` may come in the place of a packet; in the place of a fault only of `NotAMessage` and
-/// `StampTooLarge`, where a name is no atom, or the groups of an exchange do not ascend in the order of terms.
+/// `StampTooLarge`, where words, reference, pid and node are those of a message, the stamp may be one but for its size,
+/// and a name is no atom, or the groups of an exchange do not ascend in the order of terms.
 ///
 /// Cost: linear in the number of bytes, but for an exchange whose groups do not ascend in the order of terms: their
 /// names are looked up in a tree. Of a body that is spelled as it is written only the parts that are in the message

@@ -21,17 +21,25 @@ pub fn are_named_once(groups: &[(Term, Items<Pid>)]) -> bool
     do_ascend(groups) || do_differ(groups)
 }
 
-/// Whether no group is named twice, for groups that come from outside.
+/// Whether no group is named twice, for groups that come from outside. It answers whatever memory there is.
 ///
-/// Errors: `AllocError`.
-///
-/// Cost: one walk where they ascend in the order of terms; else each name is looked up in a tree of those before it.
-pub fn are_told_once(alloc: Global, groups: &[(Term, Items<Pid>)]) -> Result<bool, AllocError>
-    ensures { IfOk result (λ once. once ≡ is_named_once groups.now) }
+/// Cost: one walk and no memory where they ascend in the order of terms; else each name is looked up in a tree of those
+/// before it, and where memory for the tree runs out compared with all that follow it.
+pub fn are_told_once(alloc: Global, groups: &[(Term, Items<Pid>)]) -> bool
+    ensures { result ≡ is_named_once groups.now }
 {
     if do_ascend(groups) {
-        return Ok(true);
+        return true;
     }
+    match do_differ_in_tree(alloc, groups) {
+        Ok(once) => once,
+        Err(AllocError) => do_differ(groups),
+    }
+}
+
+fn do_differ_in_tree(alloc: Global, groups: &[(Term, Items<Pid>)]) -> Result<bool, AllocError>
+    ensures { IfOk result (λ once. once ≡ is_named_once groups.now) }
+{
     let mut names = BTreeSet::new(alloc);
     for (name, _) in groups {
         if !names.insert(name)? {

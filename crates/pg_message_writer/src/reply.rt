@@ -1,6 +1,6 @@
 //! The packet that answers a call, of parts that are only lent.
 
-ghost use Rattle.std.specs.Prelude.{◌≡◌, ◌≤◌, ◌+◌, ◌++◌, length, Ok, IsOk, OnOk, OnErr};
+ghost use Rattle.std.specs.Prelude.{◌≡◌, ◌≤◌, ◌+◌, ◌++◌, length, Ok, IsOk, OnOk, OnErr, MatchResult};
 ghost use Rattle.pg_message_types.specs.PgTermIo.Writing.{written};
 ghost use Rattle.pg_message_types.specs.declared.message.Message.TheVariants as messages;
 ghost use Rattle.pg_message_types.specs.Reading.{packet_spelled};
@@ -47,6 +47,12 @@ pub fn write_reply_into(
     ensures succeeds { length (framed (written
         (term_of_packet (record { stamp = stamp; message = messages.Reply reference.now said })))) ≤ out.old.spare
         → IsOk result }
+
+    // It takes no more room than the frame.
+    ensures spare { MatchResult result
+        (λ done. out.old.spare ≤ out.new.spare + length (framed (written
+        (term_of_packet (record { stamp = stamp; message = messages.Reply reference.now said })))))
+        (λ failed. out.old.spare ≤ out.new.spare) }
 {
     let mark = Mark::Whole(reference);
     let len = reply_packet_len(stamp, &mark, said);

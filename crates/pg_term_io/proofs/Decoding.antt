@@ -1,7 +1,7 @@
 -- What an answer of reading says of the bytes.
 use Rattle.std.proofs.Common.{◌≡◌, ◌≢◌, ℕ, zero, suc, ◌<◌, ◌⊎◌, inl, inr, List}
 use Rattle.std.proofs.Common.{[], ◌∷◌, Result, Ok, Err, refl, sym, subst, arith}
-use Rattle.std.specs.Prelude.{IfOk, IfErr}
+use Rattle.std.specs.Prelude.{IfOk, IfErr, IsOk}
 use Rattle.std.specs.Int.{Width, w8, w32}
 use Rattle.std.specs.List.{AllByRecursion}
 use Rattle.pg_term.specs.declared.fault.TermFault.{TermFault}
@@ -10,15 +10,17 @@ use Rattle.pg_term.specs.declared.fault.TermFault.TheVariants.{IntegerTooLarge, 
 use Rattle.pg_term.specs.declared.fault.TermFault.TheVariants.{BadReference, TrailingBytes, OutOfMemory, TooLong}
 use Rattle.pg_term.specs.declared.term.Term.{Term}
 use Rattle.pg_term.specs.Fault.{Fails, Gives}
-use Rattle.pg_term_io.specs.Reading.{term_of}
-use Rattle.pg_term_io.specs.Scanning.{fault_or_memory}
-use Rattle.pg_term_io.specs.Spelling.{Spells}
+use Rattle.pg_term_io.specs.Reading.{Read, item_at, pid_at, new_reference_at, term_of}
+use Rattle.pg_term_io.specs.Scanning.{past, ScansAs, fault_or_memory, over_word, over_pid, over_reference}
+use Rattle.pg_term_io.specs.Spelling.{Spells, Item, IsPid, IsRef}
 use Rattle.pg_term_io.specs.Faults.{BreaksAtom, BreaksNode, BreaksPid, BreaksOldRef, BreaksRef}
 use Rattle.pg_term_io.specs.Faults.{BreaksItem, BreaksItems, BreaksElements, BreaksTail, Breaks}
 use Rattle.pg_term_io.specs.Faults as f
-use Rattle.pg_term_io.proofs.Outcomes.{EachByte}
-use Rattle.pg_term_io.proofs.Items.{Answers, term_right}
+use Rattle.pg_term_io.proofs.Outcomes.{EachByte, Right, number_right}
+use Rattle.pg_term_io.proofs.Identifiers.{pid_right, new_reference_right}
+use Rattle.pg_term_io.proofs.Items.{Answers, levels, term_right}
 use Rattle.pg_term_io.proofs.Again.{term_again}
+use Rattle.pg_term_io.proofs.Scanned.{pid_end, reference_end, word_end}
 use Rattle.pg_term_io.proofs.Broken.{term_fails}
 
 fault_is : {A : Type 0} (e : TermFault) (read : Result A TermFault) → Fails e read → e ≢ OutOfMemory → read ≡ Err e
@@ -135,10 +137,41 @@ not_too_long bytes r fits given is =
 
 -- ---- where memory ran out
 
-pub told_of : (read : Result Term TermFault) → Gives {X = Term} (λ t. t) (Err (fault_or_memory read)) read
-told_of (Ok t) = tt
+pub told_of : {A : Type 0} (read : Result A TermFault) → Fails (fault_or_memory read) read
+told_of (Ok x) = tt
 told_of (Err OutOfMemory) = tt
 told_of (Err e) = refl
+
+-- a walk tells there what reading does
+pub walk_tells : {X A : Type 0} (view : X → List ℕ) (walked : Result X TermFault) (read : Read A) → ScansAs view walked (past read) → fault_or_memory walked ≡ fault_or_memory read
+walk_tells view (Ok rest) (Ok x) h = refl
+walk_tells view (Ok rest) (Err e) h = absurd cc
+walk_tells view (Err d) (Ok x) h = absurd cc
+walk_tells view (Err d) (Err e) h = cc
+
+-- the walks over a pid and a reference
+pub pid_tells : {X : Type 0} (view : X → List ℕ) (walked : Result X TermFault) (bytes : List ℕ) → ScansAs view walked (over_pid over_word bytes) → fault_or_memory walked ≡ fault_or_memory (pid_at w32 bytes)
+pid_tells view walked bytes h = walk_tells view walked (pid_at w32 bytes) (subst (ScansAs view walked) (sym (pid_end w32 over_word word_end bytes)) h)
+
+pub reference_tells : {X : Type 0} (view : X → List ℕ) (walked : Result X TermFault) (bytes : List ℕ) → ScansAs view walked (over_reference over_word bytes) → fault_or_memory walked ≡ fault_or_memory (new_reference_at w32 bytes)
+reference_tells view walked bytes h = walk_tells view walked (new_reference_at w32 bytes) (subst (ScansAs view walked) (sym (reference_end w32 over_word word_end bytes)) h)
+
+pub same_fault : {A : Type 0} (read : Result A TermFault) (d e : TermFault) → read ≡ Err d → read ≡ Err e → d ≡ e
+same_fault read d e h k = cc
+
+front_read : {A : Type 0} (P : A → List ℕ → Type 0) (Q : TermFault → List ℕ → Type 0) (bytes : List ℕ) (read : Read A) → ((e : TermFault) → Q e bytes → IsOfBytes e) → Right P Q bytes read → fault_or_memory read ≡ OutOfMemory → IsOk read
+front_read P Q bytes (Ok x) faults h memory = refl
+front_read P Q bytes (Err e) faults h memory = absurd (subst IsOfBytes memory (faults e h))
+
+-- where running out of memory is told of what stands at the front, it is read
+pub item_is_read : (room : ℕ) (bytes : List ℕ) → EachByte bytes → fault_or_memory (item_at room bytes) ≡ OutOfMemory → IsOk (item_at room bytes)
+item_is_read room bytes fits = front_read (Item room) (BreaksItem room) bytes (item_at room bytes) (λ e h. item_of_bytes room e bytes h) ((levels room).0 bytes fits)
+
+pub pid_is_read : (bytes : List ℕ) → EachByte bytes → fault_or_memory (pid_at w32 bytes) ≡ OutOfMemory → IsOk (pid_at w32 bytes)
+pid_is_read bytes fits = front_read (IsPid w32) (BreaksPid w32) bytes (pid_at w32 bytes) (λ e h. pid_of_bytes w32 e bytes h) (pid_right w32 number_right bytes fits)
+
+pub reference_is_read : (bytes : List ℕ) → EachByte bytes → fault_or_memory (new_reference_at w32 bytes) ≡ OutOfMemory → IsOk (new_reference_at w32 bytes)
+reference_is_read bytes fits = front_read (IsRef w32) (BreaksRef w32) bytes (new_reference_at w32 bytes) (λ e h. ref_of_bytes w32 e bytes h) (new_reference_right w32 number_right bytes fits)
 
 read_of : (bytes : List ℕ) (read : Result Term TermFault) → Answers bytes read → fault_or_memory read ≡ OutOfMemory → (t : Term) × (read ≡ Ok t)
 read_of bytes (Ok t) h memory = (t, refl)

@@ -14,7 +14,7 @@ use Rattle.pg_term_io.specs.declared.tag.LeafTag.{LeafTag}
 use Rattle.pg_term_io.specs.declared.tag.LeafTag.TheVariants as leaf
 use Rattle.pg_term_io.specs.declared.tag.Tag.{Tag}
 use Rattle.pg_term_io.specs.declared.tag.Tag.TheVariants as tag
-use Rattle.pg_term_io.specs.Kinds.{place_of, kind_in}
+use Rattle.pg_term_io.specs.Kinds.{place_of, kind_in, count_in, arity_in, tuple_in}
 use Rattle.pg_term_io.specs.Numbers.{int_of}
 use Rattle.pg_term_io.specs.Tags.{tag_of, tuple_size, kind_of_leaf, kind_of_tag}
 use Rattle.pg_term_io.specs.Reading.{Read, ◌>>=◌, byte_at, number_at, big_at, atom_behind, creation_width}
@@ -108,6 +108,19 @@ sized_elements room None size bytes is = absurd cc
 pub tuple_elements : (room byte n : ℕ) (size : Size) (bytes rest : List ℕ) → tuple_size (tag_of byte) ≡ Some size → arity_at size bytes ≡ Ok (n, rest) → item_at (suc room) (byte ∷ bytes) ≡ as_term Tuple (items_at (item_at room) n rest)
 unfolding readers
 tuple_elements room byte n size bytes rest is h = sized_elements room (tag_of byte) size bytes is ∙ ap (λ (r : Read ℕ). as_term Tuple (r >>= elements room)) h
+
+pub tuple_here : (byte : ℕ) (size : Size) (bytes : List ℕ) → tuple_size (tag_of byte) ≡ Some size → tuple_in (byte ∷ bytes) ≡ count_in (arity_at size bytes)
+unfolding tuple_in
+tuple_here byte size bytes is = ap (λ found. arity_in found bytes) is
+
+pub no_tuple_here : (byte : ℕ) (bytes : List ℕ) → tuple_size (tag_of byte) ≡ None → tuple_in (byte ∷ bytes) ≡ None
+unfolding tuple_in
+no_tuple_here byte bytes is = ap (λ found. arity_in found bytes) is
+
+pub no_byte : (bytes : List ℕ) → length bytes ≡ 0 → tuple_in bytes ≡ None
+unfolding tuple_in
+no_byte [] none = refl
+no_byte (byte ∷ bytes) none = absurd (omega (arith, none))
 
 pub tuple_uncounted : (room byte : ℕ) (size : Size) (f : TermFault) (bytes : List ℕ) (t : Term) (rest : List ℕ) → tuple_size (tag_of byte) ≡ Some size → arity_at size bytes ≡ Err f → item_at room (byte ∷ bytes) ≡ Ok (t, rest) → ⊥
 unfolding readers

@@ -78,7 +78,7 @@ small_end : CreationEnd w8 over_byte
 small_end [] = refl
 small_end (b ∷ bytes) = let long : ltb (length (b ∷ bytes)) 1 ≡ false = le-ltb (length (b ∷ bytes)) 1 (omega arith) in rw long refl
 
-word_end : CreationEnd w32 over_word
+pub word_end : CreationEnd w32 over_word
 word_end bytes = refl
 
 creation_end : (creation : Creation) → CreationEnd (creation_width creation) (over_creation creation)

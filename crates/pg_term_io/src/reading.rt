@@ -23,6 +23,7 @@ pub use crate::reading::identifiers::{decode_pid, decode_reference};
 use crate::reading::items::item;
 pub use crate::reading::lists::next_element;
 pub use crate::reading::outline::{kind_at, skip_item, tuple_at};
+use crate::reading::scanning::fault_of;
 use pg_term::{Term, TermFault};
 use std::alloc::Global;
 
@@ -107,13 +108,22 @@ fn built_term(alloc: Global, bytes: &[u8]) -> Result<Term, TermFault>
 /// The item at the start of the bytes, as a part of what `decode` reads, and the bytes after it. So many levels of
 /// terms may nest in it, itself the first of them.
 ///
-/// Errors: those of an item, as `decode` has them.
+/// Errors: those of an item, as `decode` has them. `OutOfMemory` comes only of bytes that begin with an item.
 ///
-/// Cost: that of `decode` for the bytes of the item.
+/// Cost: that of `decode` for the bytes of the item. Where memory runs out they are walked over once more, as
+/// `skip_item` does.
 pub fn decode_item(alloc: Global, levels: u8, bytes: &[u8]) -> Result<(Term, &[u8]), TermFault>
-    ensures { Gives (λ x. (x.0, x.1.now)) result (item_at levels bytes.now) }
+    ensures exact { Gives (λ x. (x.0, x.1.now)) result (item_at levels bytes.now) }
+    // The fault of the bytes is given, also where memory runs out.
+    ensures first { (f : TermFault) → item_at levels bytes.now ≡ Err f → result ≡ Err f }
+    // So memory runs out only of bytes that begin with an item.
+    ensures computed { result ≡ Err OutOfMemory → IsOk (item_at levels bytes.now) }
 {
-    item(alloc, levels, 0, bytes)
+    match item(alloc, levels, 0, bytes) {
+        Ok(read) => Ok(read),
+        Err(TermFault::OutOfMemory) => Err(fault_of(skip_item(levels, bytes))),
+        Err(fault) => Err(fault),
+    }
 }
 
 /// Whether `decode` reads the bytes as a term. What is no term costs no memory so.

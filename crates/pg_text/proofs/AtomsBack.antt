@@ -38,7 +38,7 @@ digit_read value d begun lt small lead =
     ∙ ap (λ v. Within (Digits (record { value = value * 16 + v; begun = true }))) (hex_value d lt)
 
 -- the end of an escape
-escape_end : (c : ℕ) (rest : List ℕ) → scalar c ≡ true → quoted_at (125 ∷ rest) (Digits (record { value = c; begun = true })) ≡ with_first c (quoted_at rest Plain)
+pub escape_end : (c : ℕ) (rest : List ℕ) → scalar c ≡ true → quoted_at (125 ∷ rest) (Digits (record { value = c; begun = true })) ≡ with_first c (quoted_at rest Plain)
 escape_end c rest s = ap (λ b. quoted_next (cond b (Character c) Bad) rest (λ next. quoted_at rest next)) s
 
 -- the digits of an escape
@@ -68,7 +68,7 @@ is_small : (c : ℕ) → (nat_lt c 32 || (c == 127)) ≡ true → c < 256
 is_small c e = grind (arith, nat_tests)
 
 -- one character
-character_read : (c : ℕ) (rest : List ℕ) → scalar c ≡ true → quoted_at (quoted_text c ++ rest) Plain ≡ with_first c (quoted_at rest Plain)
+pub character_read : (c : ℕ) (rest : List ℕ) → scalar c ≡ true → quoted_at (quoted_text c ++ rest) Plain ≡ with_first c (quoted_at rest Plain)
 character_read c rest s = step ((c == 39) || (c == 92)) refl (nat_lt c 32 || (c == 127)) refl
   where
     step : (a : Bool) → ((c == 39) || (c == 92)) ≡ a → (b : Bool) → (nat_lt c 32 || (c == 127)) ≡ b
@@ -107,7 +107,7 @@ no_quote : (cs rest : List ℕ) → begins_lower cs ≡ true → begins 39 (cs +
 no_quote [] rest e = absurd (cc)
 no_quote (c ∷ cs) rest e = grind (arith, nat_tests)
 
-short_atom : (cs rest : List ℕ) → length cs ≤ 255 → short cs rest ≡ Some (cs, rest)
+pub short_atom : (cs rest : List ℕ) → length cs ≤ 255 → short cs rest ≡ Some (cs, rest)
 short_atom cs rest few = let f : nat_lt 255 (length cs) ≡ false = grind (arith, nat_tests) in ap (λ b. cond b None (Some (cs, rest))) f
 
 pub atom_back : (cs rest : List ℕ) → length cs ≤ 255 → scalars cs ≡ true → NoWord rest → atom_at (atom_text cs ++ rest) ≡ Some (cs, rest)

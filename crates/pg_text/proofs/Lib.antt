@@ -11,4 +11,7 @@ pub mod QuotedJust
 pub mod Quoting
 pub mod TermsBack
 pub mod TermsJust
+pub mod TextsBack
+pub mod Tuples
+pub mod ValuesBack
 pub mod Words

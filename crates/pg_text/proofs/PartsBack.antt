@@ -38,7 +38,7 @@ no_digit_creation n rest = step (n == 1)
     step true = refl
     step false = refl
 
-numbers_back : (id serial creation : ℕ) (rest : List ℕ) → id < 2 ^ 32 → serial < 2 ^ 32 → creation < 2 ^ 32
+pub numbers_back : (id serial creation : ℕ) (rest : List ℕ) → id < 2 ^ 32 → serial < 2 ^ 32 → creation < 2 ^ 32
     → numbers_at (part_text 46 id ++ (part_text 46 serial ++ (creation_text creation ++ 62 ∷ rest))) ≡ Some ((id, serial, creation), rest)
 numbers_back id serial creation rest a b c =
     ap (λ r. then_read r (λ i r1. then_read (part_at 46 r1) (λ s r2. then_read (creation_at r2) (λ m r3. ended 62 (i, s, m) r3))))
@@ -69,11 +69,11 @@ pid_back p rest few s a b c =
 
 -- ---- references
 
-no_digit_words : (words rest : List ℕ) → NoDigit (flat_map (part_text 46) words ++ 62 ∷ rest)
+pub no_digit_words : (words rest : List ℕ) → NoDigit (flat_map (part_text 46) words ++ 62 ∷ rest)
 no_digit_words [] rest = refl
 no_digit_words (w ∷ ws) rest = refl
 
-words_back : (words rest : List ℕ) (n : ℕ) → length words ≤ n → AllByRecursion (λ w. w < 2 ^ 32) words → words_at n (flat_map (part_text 46) words ++ 62 ∷ rest) ≡ Some (words, rest)
+pub words_back : (words rest : List ℕ) (n : ℕ) → length words ≤ n → AllByRecursion (λ w. w < 2 ^ 32) words → words_at n (flat_map (part_text 46) words ++ 62 ∷ rest) ≡ Some (words, rest)
 unfolding words_at
 words_back [] rest zero fits all = refl
 words_back [] rest (suc n) fits all = refl

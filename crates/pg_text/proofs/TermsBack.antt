@@ -28,51 +28,51 @@ use Rattle.pg_text.proofs.NumbersBack.{integer_is_number, integer_begins, intege
 use Rattle.pg_text.proofs.PartsBack.{regroup, regroup_three, pid_back, reference_back, IsBack, AreBack, elements_back}
 
 -- a term without terms in it
-leaf_back : (t : Term) (text : List ℕ) → depth t ≡ 1 → ((rest : List ℕ) → begins 123 (text ++ rest) ≡ false) → ((rest : List ℕ) → begins 91 (text ++ rest) ≡ false)
+pub leaf_back : (t : Term) (text : List ℕ) → depth t ≡ 1 → ((rest : List ℕ) → begins 123 (text ++ rest) ≡ false) → ((rest : List ℕ) → begins 91 (text ++ rest) ≡ false)
     → ((rest : List ℕ) → NoWord rest → leaf_at (text ++ rest) ≡ Some (t, rest))
     → (room : ℕ) (rest : List ℕ) → depth t ≤ room → NoWord rest → term_at room (text ++ rest) ≡ Some (t, rest)
 leaf_back t text deep curly square leaf room rest fits none = sym (term_leaf room (text ++ rest) (λ e. omega arith) (curly rest) (square rest)) ∙ leaf rest none
 
-int_is : (n : ℤ) → term_text (Int n) ≡ signed_decimal n
+pub int_is : (n : ℤ) → term_text (Int n) ≡ signed_decimal n
 int_is n = search (rules, the_lemmas)
 
 int_deep : (n : ℤ) → depth (Int n) ≡ 1
 int_deep n = search (rules, the_lemmas)
 
-atom_is : (cs : List ℕ) → term_text (Name cs) ≡ atom_text cs
+pub atom_is : (cs : List ℕ) → term_text (Name cs) ≡ atom_text cs
 atom_is cs = search (rules, the_lemmas)
 
-atom_deep : (cs : List ℕ) → depth (Name cs) ≡ 1
+pub atom_deep : (cs : List ℕ) → depth (Name cs) ≡ 1
 atom_deep cs = search (rules, the_lemmas)
 
-pid_is : (p : Pid) → term_text (Process p) ≡ pid_text p
+pub pid_is : (p : Pid) → term_text (Process p) ≡ pid_text p
 pid_is p = search (rules, the_lemmas)
 
-pid_deep : (p : Pid) → depth (Process p) ≡ 1
+pub pid_deep : (p : Pid) → depth (Process p) ≡ 1
 pid_deep p = search (rules, the_lemmas)
 
 reference_is : (r : RefParts) → term_text (Ref r) ≡ reference_text r
 reference_is r = search (rules, the_lemmas)
 
-reference_deep : (r : RefParts) → depth (Ref r) ≡ 1
+pub reference_deep : (r : RefParts) → depth (Ref r) ≡ 1
 reference_deep r = search (rules, the_lemmas)
 
-binary_is : (bytes : List ℕ) → term_text (Binary bytes) ≡ binary_text bytes
+pub binary_is : (bytes : List ℕ) → term_text (Binary bytes) ≡ binary_text bytes
 binary_is bytes = search (rules, the_lemmas)
 
 binary_deep : (bytes : List ℕ) → depth (Binary bytes) ≡ 1
 binary_deep bytes = search (rules, the_lemmas)
 
-tuple_is : (ts : List Term) → term_text (Tuple ts) ≡ between_text 123 (terms_text ts) 125
+pub tuple_is : (ts : List Term) → term_text (Tuple ts) ≡ between_text 123 (terms_text ts) 125
 tuple_is ts = search (rules, the_lemmas)
 
-tuple_deep : (ts : List Term) → depth (Tuple ts) ≡ 1 + greatest_depth ts
+pub tuple_deep : (ts : List Term) → depth (Tuple ts) ≡ 1 + greatest_depth ts
 tuple_deep ts = search (rules, the_lemmas)
 
 list_is : (ts : List Term) → term_text (Listed ts) ≡ between_text 91 (terms_text ts) 93
 list_is ts = search (rules, the_lemmas)
 
-list_deep : (ts : List Term) → depth (Listed ts) ≡ 1 + greatest_depth ts
+pub list_deep : (ts : List Term) → depth (Listed ts) ≡ 1 + greatest_depth ts
 list_deep ts = search (rules, the_lemmas)
 
 int_leaf : (n : ℤ) (rest : List ℕ) → FitsSigned w64 n → NoWord rest → leaf_at (signed_decimal n ++ rest) ≡ Some (Int n, rest)

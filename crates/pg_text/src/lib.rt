@@ -11,6 +11,6 @@ mod reading;
 mod writing;
 
 pub use fault::TextFault;
-pub use laws::{just_those_are_read, printed_is_read};
+pub use laws::{just_those_are_read, printed_is_read, texts_are_read, updates_are_tuples};
 pub use reading::{read_atom, read_number, read_pid, read_term};
 pub use writing::{write_atom, write_pid, write_term, write_update};

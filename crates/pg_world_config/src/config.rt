@@ -1,18 +1,19 @@
 //! The configuration of a world, and whether it is one.
 
-ghost use Rattle.std.specs.Prelude.{◌≡◌, IfOk};
+ghost use Rattle.std.specs.Prelude.{◌≡◌, ◌≢◌, Err};
 ghost use Rattle.std.specs.List.{list_any, list_all};
 ghost use Rattle.pg_term.specs.Same.{same_atom};
 ghost use Rattle.pg_step.specs.PgEnds.Numbers.{is_among as is_made_by};
 ghost use Rattle.pg_step.specs.Config.{was_made};
 ghost use Rattle.pg_world_config.specs.Configs.{are_apart, are_made, is_start, is_config, are_names};
 ghost use Rattle.pg_world_config.specs.Configs.{have_names, is_capacity, refusal_of, IsAsTold};
+ghost use Rattle.pg_world_config.specs.declared.fault.WorldFault.TheVariants.{OutOfMemory};
 
 use crate::fault::WorldFault;
 use pg_ring::is_capacity;
 use pg_step::{MAX_PROCESSES, Start, are_told_once, check_name};
 use pg_term::{Atom, Items, Pid, Term};
-use std::alloc::{AllocError, Global};
+use std::alloc::Global;
 
 /// How many nodes a configuration has at most.
 pub const MAX_NODES: usize = 16;
@@ -33,15 +34,16 @@ pub struct Config {
 impl Config {
     /// Whether it is a configuration.
     ///
-    /// Errors, the first that holds: `BadConfig`, `NameTooLarge`, `BadCapacity`; `OutOfMemory` in the place of each.
+    /// Errors, the first that holds: `BadConfig`, `NameTooLarge`, `BadCapacity`; whatever memory there is.
     ///
-    /// Cost: a look at the nodes, at most 16, for each member, and a walk over the name of each group; memory for the
-    /// names of a node's groups, where they do not ascend in the order of terms.
+    /// Cost: a look at the nodes, at most 16, for each member, and a walk over the name of each group; that of
+    /// `are_told_once` for the groups of a node.
     pub fn check(&self, alloc: Global) -> Result<(), WorldFault>
-        ensures { IsAsTold (refusal_of self.now.ring self.now.starts.items) result }
+        ensures told { IsAsTold (refusal_of self.now.ring self.now.starts.items) result }
+        ensures never { result ≢ Err OutOfMemory }
     {
         let starts = self.starts.as_slice();
-        if !is_config(alloc, starts)? {
+        if !is_config(alloc, starts) {
             return Err(WorldFault::BadConfig);
         }
         if !have_names(starts) {
@@ -55,11 +57,11 @@ impl Config {
 }
 
 /// Whether these are the nodes of a configuration, but for the size of names.
-fn is_config(alloc: Global, starts: &[Start]) -> Result<bool, AllocError>
-    ensures { IfOk result (λ good. good ≡ is_config starts.now) }
+fn is_config(alloc: Global, starts: &[Start]) -> bool
+    ensures { result ≡ is_config starts.now }
 {
     if starts.is_empty() || starts.len() > MAX_NODES || !are_apart(starts) {
-        return Ok(false);
+        return false;
     }
     are_starts(alloc, starts)
 }
@@ -91,29 +93,29 @@ fn has_node(name: &Atom, starts: &[Start]) -> bool
 }
 
 /// Whether each node is as one may start, but for the size of names.
-fn are_starts(alloc: Global, starts: &[Start]) -> Result<bool, AllocError>
-    ensures { IfOk result (λ good. good ≡ list_all (is_start starts.now) starts.now) }
+fn are_starts(alloc: Global, starts: &[Start]) -> bool
+    ensures { result ≡ list_all (is_start starts.now) starts.now }
 {
     for start in starts {
-        if !is_start(alloc, starts, start)? {
-            return Ok(false);
+        if !is_start(alloc, starts, start) {
+            return false;
         }
     }
-    Ok(true)
+    true
 }
 
 /// Whether a node among these is as one may start, but for the size of names.
-fn is_start(alloc: Global, starts: &[Start], start: &Start) -> Result<bool, AllocError>
-    ensures { IfOk result (λ good. good ≡ is_start starts.now start.now) }
+fn is_start(alloc: Global, starts: &[Start], start: &Start) -> bool
+    ensures { result ≡ is_start starts.now start.now }
 {
     if start.ports > MAX_PORTS || start.made > MAX_PROCESSES {
-        return Ok(false);
+        return false;
     }
     let groups = start.groups.as_slice();
-    if !are_told_once(alloc, groups)? {
-        return Ok(false);
+    if !are_told_once(alloc, groups) {
+        return false;
     }
-    Ok(are_made(starts, groups))
+    are_made(starts, groups)
 }
 
 /// Whether each member of these groups is a process that one of the nodes has made.

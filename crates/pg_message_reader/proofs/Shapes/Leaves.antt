@@ -1,6 +1,6 @@
 -- The texts of atoms, and integers, by their tags.
-use Rattle.std.proofs.Common.{◌≡◌, ◌≢◌, ℕ, ℤ, pos, ◌≤◌, ◌<◌, ◌^◌, List, [], ◌∷◌, ◌++◌, length, refl, sym, ap, subst, ◌∙◌, arith, append_assoc}
-use Rattle.std.proofs.Common.{Bool, true, false, Option, Bor, Some, None, Err, Ok, nat_cmp, nat_eq, rules, Ordering, Less, Equal, Greater}
+use Rattle.std.proofs.Common.{◌≡◌, ◌≢◌, ℕ, pos, ◌≤◌, ◌<◌, ◌^◌, List, [], ◌∷◌, ◌++◌, length, refl, sym, ap, subst, ◌∙◌, arith, append_assoc}
+use Rattle.std.proofs.Common.{Bool, true, false, Option, Bor, Some, None, Err, nat_cmp, nat_eq, rules, Ordering, Less, Equal, Greater}
 use Rattle.std.specs.Prelude.{FitsSigned, MatchOption, not}
 use Rattle.pg_message_reader.specs.Shapes.Leaves.{AtomStands, Names}
 use Rattle.pg_message_reader.specs.declared.shape.groups.names.Name.{Name}

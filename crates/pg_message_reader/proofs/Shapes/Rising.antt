@@ -1,11 +1,11 @@
 -- The names of groups, one after the other: whether each is an atom, and less than the next.
 use Rattle.std.proofs.Common.{◌≡◌, ◌≢◌, ℕ, Bool, true, false, cond, List, [], ◌∷◌, ◌++◌, map, take, Option}
-use Rattle.std.proofs.Common.{Some, None, Ok, refl, sym, ap, subst, ◌∙◌, arith}
+use Rattle.std.proofs.Common.{Some, None, Ok, refl, sym, ap, subst, ◌∙◌}
 use Rattle.std.proofs.Common.{Result, Err}
 use Rattle.std.specs.Prelude.{is_some, IsErr, ◌&&◌}
 use Rattle.std.specs.declared.alloc.AllocError.{AllocError}
 use Rattle.std.specs.List.{list_all}
-use Rattle.std.specs.Option.{option_map, option_and_then}
+use Rattle.std.specs.Option.{option_and_then}
 use Rattle.std.specs.declared.cmp.Ordering.{Ordering}
 use Rattle.std.specs.declared.cmp.Ordering.TheVariants.{Less}
 use Rattle.std.proofs.lemmas.Bool.{eqb-true}
@@ -22,7 +22,7 @@ use Rattle.pg_message_types.specs.Reading.{Groups, read_each, group_in, group_of
 use Rattle.pg_message_types.proofs.Ascents.{ascending_once}
 use Rattle.pg_message_types.proofs.ReadBack.{items_is}
 use Rattle.pg_message_reader.specs.Names.{all_in, firsts, names_of_groups, is_atom, do_ascend, are_plain, Tells}
-use Rattle.pg_message_reader.specs.Shapes.Groups.{BuildsFirst, Sees}
+use Rattle.pg_message_reader.specs.Shapes.Groups.{Sees}
 use Rattle.pg_message_reader.specs.Shapes.Leaves.{Names}
 use Rattle.pg_message_reader.specs.Shapes.Lists.{EndsAlike}
 use Rattle.pg_message_reader.specs.Shapes.Shape.{listed_of}

@@ -1,27 +1,17 @@
 -- What has not the shape of a packet, and so is none.
 use Rattle.std.proofs.Common.{◌≡◌, ◌≢◌, ◌-◌, take, drop, ℕ, zero, suc, ◌≤◌, Bool, true, false, cond, eqb, List, []}
-use Rattle.std.proofs.Common.{◌∷◌, length, codes, Option, Some, None, Ok, Err, refl, sym, ap, subst, ◌∙◌, arith}
+use Rattle.std.proofs.Common.{◌∷◌, length, Option, Some, None, Ok, Err, refl, sym, ap, subst, ◌∙◌, arith}
 use Rattle.std.proofs.Math.Seq.{take-length}
-use Rattle.std.specs.Prelude.{◌&&◌, ◌||◌}
-use Rattle.std.specs.Option.{option_map, option_and_then}
 use Rattle.pg_term.specs.declared.fault.TermFault.TheVariants.{BadVersion, TrailingBytes}
-use Rattle.pg_term.specs.declared.pid.Pid.{Pid}
 use Rattle.pg_term.specs.declared.term.Term.{Term, Tuple, out-Term}
 use Rattle.pg_term.specs.declared.term.Term.TheOpen.{Term-F}
 use Rattle.pg_term.specs.Order.{kind_step, kind_of}
 use Rattle.pg_message_types.specs.PgTermIo.Reading.{Read, ◌>>=◌, items_at, item_at, as_term, term_of}
 use Rattle.pg_message_types.specs.PgTermIo.Scanning.{past}
-use Rattle.pg_message_types.specs.Name.{is_name}
-use Rattle.pg_message_types.specs.Parts.{tuple_in, elements_of, list_in, items_of, text_in, is_word}
-use Rattle.pg_message_types.specs.Parts.{atom_in, atom_of, reference_in, reference_of, pid_in, pid_of}
-use Rattle.pg_message_types.specs.Reading.{request_on, membership_of, request_in, request_of, said_of}
-use Rattle.pg_message_types.specs.Reading.{groups_of, freed, read_exchange, cast_in, cast_of, referred}
-use Rattle.pg_message_types.specs.Reading.{message_in, message_of, stamp_in, stamp_of, stamped_message, packet_in}
-use Rattle.pg_message_types.specs.PgGroup.declared.update.Update.TheVariants.{Create, Delete, Join, Leave}
-use Rattle.pg_message_types.specs.declared.message.Message.{Message}
-use Rattle.pg_message_types.specs.declared.message.Message.TheVariants.{Call, Reply, DelLock, Exchange, Down}
-use Rattle.pg_message_types.specs.declared.message.Request.TheVariants.{SetLock, Change}
-use Rattle.pg_message_types.specs.declared.message.Said.TheVariants.{Granted, Denied, Applied}
+use Rattle.pg_message_types.specs.Parts.{tuple_in, elements_of, list_in, items_of}
+use Rattle.pg_message_types.specs.Reading.{request_in}
+use Rattle.pg_message_types.specs.Reading.{cast_in}
+use Rattle.pg_message_types.specs.Reading.{message_in, packet_in}
 use Rattle.pg_message_types.proofs.ReadBack.{elements_is}
 use Rattle.pg_message_types.specs.declared.fault.MessageFault.TheVariants as faults
 

@@ -1,14 +1,13 @@
 -- Whether a term is a message, seen part by part.
 use Rattle.std.proofs.Common.{◌≡◌, ℕ, pos, negsuc, Bool, true, false, cond, List, [], ◌∷◌, codes, Option, Some, None}
 use Rattle.std.proofs.Common.{Result, Ok, Err, refl, sym, ap, subst, ◌∙◌}
-use Rattle.std.specs.Prelude.{is_some, nat_le, OnErr}
+use Rattle.std.specs.Prelude.{is_some, nat_le, OnErr, IsOk}
 use Rattle.std.specs.Option.{option_map, option_and_then}
 use Rattle.pg_term.specs.declared.fault.TermFault.{TermFault}
 use Rattle.pg_term.specs.declared.pid.Pid.{Pid}
 use Rattle.pg_term.specs.declared.term.Term.{Term, out-Term}
 use Rattle.pg_term.specs.declared.term.Term.TheOpen.{Term-F}
 use Rattle.pg_term.specs.RefParts.{RefParts}
-use Rattle.pg_message_types.specs.PgGroup.declared.update.Update.TheVariants.{Create, Delete, Join, Leave}
 use Rattle.pg_message_types.specs.PgTermIo.Reading.{item_at}
 use Rattle.pg_message_types.specs.declared.fault.MessageFault.{MessageFault}
 use Rattle.pg_message_types.specs.declared.fault.MessageFault.TheVariants as faults
@@ -17,11 +16,12 @@ use Rattle.pg_message_types.specs.declared.message.Message.TheVariants.{Call, Re
 use Rattle.pg_message_types.specs.declared.message.Request.{Request}
 use Rattle.pg_message_types.specs.declared.packet.TheConstants.{MAX_STAMP}
 use Rattle.pg_message_types.specs.Name.{is_name}
-use Rattle.pg_message_types.specs.Parts.{is_word, atom_of, reference_of, pid_of}
+use Rattle.pg_message_types.specs.Parts.{elements_of, is_word, atom_of, reference_of, pid_of}
 use Rattle.pg_message_types.specs.Reading.{request_on, membership_of, request_in, request_of, said_of, groups_of}
 use Rattle.pg_message_types.specs.Reading.{freed, read_exchange, cast_in, cast_of, referred, unreferred}
 use Rattle.pg_message_types.specs.Reading.{message_in, message_of, stamp_in, stamp_of, stamped_message, packet_in}
-use Rattle.pg_message_reader.specs.Names.{Tells, Checks, Judges, names_of_cast, names_of_groups}
+use Rattle.pg_message_reader.specs.Names.{Tells, Checks, Judges, all_in, names_of_freed, names_of_exchange, names_of_cast}
+use Rattle.pg_message_reader.specs.Names.{names_of_message, may_stamp, names_of_packet}
 use Rattle.pg_message_reader.proofs.Shapes.ListShapes.{is_nothing}
 
 -- of each error
@@ -36,6 +36,10 @@ told names x y r e h = subst (λ (b : Bool). Tells names b r) (sym e) h
 -- the same names
 pub told_of : {E : Type 0} (names others : List Term) (x : Bool) (r : Result Bool E) → others ≡ names → Tells names x r → Tells others x r
 told_of names others x r e h = subst (λ (ns : List Term). Tells ns x r) (sym e) h
+
+-- where the names are those of something that is there, the same truth
+pub told_if : {E : Type 0} (there : Bool) (names : List Term) (x y : Bool) (r : Result Bool E) → there ≡ true → y ≡ x → Tells names x r → Tells (cond there names []) y r
+told_if there names x y r is e h = subst (λ (z : Bool × Bool). Tells (cond z.0 names []) z.1 r) (λ i. (sym is i, sym e i)) h
 
 -- the same place
 pub moved : (room : ℕ) (x y : List ℕ) (t : Term) (rest : List ℕ) → x ≡ y → item_at room x ≡ Ok (t, rest) → item_at room y ≡ Ok (t, rest)
@@ -149,14 +153,14 @@ module _ (b c : Term) where
     pub by_del_lock : is_word a (codes "del_lock") ≡ true → is_some (cast_in (a ∷ b ∷ c ∷ [])) ≡ is_some (freed b c)
     by_del_lock e = (λ i. is_some (cond (e i) (freed b c) (cond (is_word a (codes "exchange")) (read_exchange b c) None)))
 
-    pub names_of_lock : is_word a (codes "del_lock") ≡ true → names_of_cast (a ∷ b ∷ c ∷ []) ≡ b ∷ []
-    names_of_lock e = (λ i. cond (e i) (b ∷ []) (names_of_groups c))
+    pub names_of_lock : is_word a (codes "del_lock") ≡ true → names_of_cast (a ∷ b ∷ c ∷ []) ≡ names_of_freed b c
+    names_of_lock e = (λ i. cond (e i) (names_of_freed b c) (cond (is_word a (codes "exchange")) (names_of_exchange b c) []))
 
     pub by_word : is_word a (codes "del_lock") ≡ false → is_word a (codes "exchange") ≡ true → is_some (cast_in (a ∷ b ∷ c ∷ [])) ≡ is_some (read_exchange b c)
     by_word e f = (λ i. is_some (cond (e i) (freed b c) (cond (f i) (read_exchange b c) None)))
 
-    pub names_of_all : is_word a (codes "del_lock") ≡ false → names_of_cast (a ∷ b ∷ c ∷ []) ≡ names_of_groups c
-    names_of_all e = (λ i. cond (e i) (b ∷ []) (names_of_groups c))
+    pub names_of_all : is_word a (codes "del_lock") ≡ false → is_word a (codes "exchange") ≡ true → names_of_cast (a ∷ b ∷ c ∷ []) ≡ names_of_exchange b c
+    names_of_all e f = (λ i. cond (e i) (names_of_freed b c) (cond (f i) (names_of_exchange b c) []))
 
     pub by_no_cast : is_word a (codes "del_lock") ≡ false → is_word a (codes "exchange") ≡ false → is_some (cast_in (a ∷ b ∷ c ∷ [])) ≡ false
     by_no_cast e f = (λ i. is_some (cond (e i) (freed b c) (cond (f i) (read_exchange b c) None)))
@@ -182,6 +186,39 @@ no_term t = at (out-Term t)
     at (Term-F.Tuple ts) f e = absurd cc
     at (Term-F.List ts) f e = absurd cc
     at (Term-F.Binary content) f e = absurd cc
+
+-- what is no stamp, nor too large a one, is no packet's whatever the message is
+pub by_no_stamp : (a b : Term) → may_stamp (stamp_of a) ≡ false → packet_in (Some (a ∷ b ∷ [])) ≡ Err faults.NotAMessage
+by_no_stamp a b = at (out-Term a)
+  where
+    NoPacket : Result ℕ MessageFault → Type 0
+    NoPacket s = may_stamp s ≡ false → stamped_message (message_of b) s ≡ Err faults.NotAMessage
+
+    none : (o : Option Message) → stamped_message o (Err faults.NotAMessage) ≡ Err faults.NotAMessage
+    none None = refl
+    none (Some m) = refl
+
+    pos_at : (x : Bool) (n : ℕ) → NoPacket (cond x (Ok n) (Err faults.StampTooLarge))
+    pos_at true n e = absurd cc
+    pos_at false n e = absurd cc
+
+    at : (l : Term-F Term) → NoPacket (stamp_in l)
+    at (Term-F.Int (pos n)) e = pos_at (nat_le n MAX_STAMP) n e
+    at (Term-F.Int (negsuc n)) e = none (message_of b)
+    at (Term-F.Atom a) e = none (message_of b)
+    at (Term-F.Ref r) e = none (message_of b)
+    at (Term-F.Pid p) e = none (message_of b)
+    at (Term-F.Tuple ts) e = none (message_of b)
+    at (Term-F.List ts) e = none (message_of b)
+    at (Term-F.Binary content) e = none (message_of b)
+
+pub some_stamp : (s : Result ℕ MessageFault) → IsOk s → true ≡ may_stamp s
+some_stamp (Ok n) h = refl
+some_stamp (Err f) h = absurd cc
+
+-- where the stamp may be one the names are those of the message
+pub stamp_names : (a b : Term) → may_stamp (stamp_of a) ≡ true → names_of_message (all_in (elements_of b)) ≡ names_of_packet (a ∷ b ∷ [])
+stamp_names a b e = λ i. cond (sym e i) (names_of_message (all_in (elements_of b))) []
 
 module _ {U : Type 0} (names : List Term) where
   judged : (o : Option Message) (s : Result ℕ MessageFault) (r : Result U MessageFault) → is_some o ≡ true → NoTerm s → Judges s r → Checks names (stamped_message o s) r

@@ -83,7 +83,7 @@ fn past_told<'a>(
     ensures once { IfOk result (λ rest. is_named_once groups.now ≡ true) }
 {
     let rest = behind(bytes, &[106])?;
-    if !are_told_once(alloc, groups)? {
+    if !are_told_once(alloc, groups) {
         return Err(Detour::OtherForm);
     }
     Ok(rest)

@@ -9,8 +9,8 @@ ghost use Rattle.pg_message_types.specs.Parts.{elements_of};
 ghost use Rattle.pg_message_types.specs.Reading.{request_on, membership_of};
 ghost use Rattle.pg_message_types.specs.Reading.{request_in, request_of, message_in, message_of, cast_in, cast_of};
 ghost use Rattle.pg_message_types.specs.Reading.{freed, read_exchange, said_of, stamp_of, packet_in, packet_of};
-ghost use Rattle.pg_message_reader.specs.Names.{Tells, Checks, Judges, all_in, names_of_packet, names_of_message};
-ghost use Rattle.pg_message_reader.specs.Names.{names_of_cast, names_of_groups, names_of_request};
+ghost use Rattle.pg_message_reader.specs.Names.{Tells, Checks, Judges, all_in, is_too_large, may_stamp, names_of_packet, names_of_message};
+ghost use Rattle.pg_message_reader.specs.Names.{names_of_cast, names_of_freed, names_of_exchange, names_of_request};
 
 use crate::reading::stamp;
 use crate::shape::groups::may_be_groups;
@@ -23,8 +23,8 @@ use std::alloc::{AllocError, Global};
 
 /// Whether the term of a body is a packet: its fault, if it has one. Of a body that spells no term nothing is said.
 ///
-/// Errors: `NotAMessage` and `StampTooLarge`, as `read_packet` has them; `OutOfMemory` only where a name is no atom, or
-/// the names of an exchange do not ascend.
+/// Errors: `NotAMessage` and `StampTooLarge`, as `read_packet` has them; `OutOfMemory` only where all is right but names
+/// and members of groups, and a name is no atom, or the names of an exchange do not ascend.
 ///
 /// Cost: memory for names that are no atoms, and for all names of an exchange where they do not ascend; linear in the
 /// bytes, but for such an exchange.
@@ -54,13 +54,36 @@ fn check_stamped(alloc: Global, bytes: &[u8]) -> Result<(), MessageFault>
 
 fn check_parts(alloc: Global, bytes: &[u8]) -> Result<(), MessageFault>
     ensures { (a b : Term) (mid rest : List ℕ) → item_at 63 bytes.now ≡ Ok (a, mid) → item_at 63 mid ≡ Ok (b, rest)
-        → Checks (names_of_message (all_in (elements_of b))) (packet_in (Some (a ∷ b ∷ []))) result }
+        → Checks (names_of_packet (a ∷ b ∷ [])) (packet_in (Some (a ∷ b ∷ []))) result }
 {
+    if !may_be_stamp(bytes) {
+        return Err(MessageFault::NotAMessage);
+    }
     let message = past(63, bytes);
     if !is_message(alloc, message)? {
         return Err(MessageFault::NotAMessage);
     }
     check_stamp(bytes)
+}
+
+/// Whether a part is a stamp, be it too large or not.
+fn may_be_stamp(bytes: &[u8]) -> bool
+    ensures { (room : ℕ) (t : Term) (rest : List ℕ) → item_at room bytes.now ≡ Ok (t, rest)
+        → result ≡ may_stamp (stamp_of t) }
+{
+    match check_stamp(bytes) {
+        Ok(()) => true,
+        Err(fault) => is_too_large(fault),
+    }
+}
+
+fn is_too_large(fault: MessageFault) -> bool
+    ensures { result ≡ is_too_large fault }
+{
+    match fault {
+        MessageFault::StampTooLarge => true,
+        _ => false,
+    }
 }
 
 /// Whether a part is a stamp, or its fault.
@@ -166,7 +189,7 @@ fn is_request(alloc: Global, bytes: &[u8]) -> Result<bool, AllocError>
 // {set_lock, Name}, {create, Name} or {delete, Name}
 fn is_request_on(alloc: Global, bytes: &[u8]) -> Result<bool, AllocError>
     ensures { (a b : Term) (mid rest : List ℕ) → item_at 61 bytes.now ≡ Ok (a, mid) → item_at 61 mid ≡ Ok (b, rest)
-        → Tells (b ∷ []) (is_some (request_in (a ∷ b ∷ []))) result }
+        → Tells (names_of_request (a ∷ b ∷ [])) (is_some (request_in (a ∷ b ∷ []))) result }
 {
     if asks_of_name(bytes) {
         is_name_at(alloc, 61, past(61, bytes))
@@ -193,7 +216,7 @@ fn asks_of_name(bytes: &[u8]) -> bool
 fn is_membership(alloc: Global, bytes: &[u8]) -> Result<bool, AllocError>
     ensures { (a b c : Term) (mid then rest : List ℕ) → item_at 61 bytes.now ≡ Ok (a, mid)
         → item_at 61 mid ≡ Ok (b, then) → item_at 61 then ≡ Ok (c, rest)
-        → Tells (b ∷ []) (is_some (request_in (a ∷ b ∷ c ∷ []))) result }
+        → Tells (names_of_request (a ∷ b ∷ c ∷ [])) (is_some (request_in (a ∷ b ∷ c ∷ []))) result }
 {
     let name = past(61, bytes);
     if !is_pid(past(61, name)) {
@@ -250,7 +273,7 @@ fn is_casting(alloc: Global, bytes: &[u8]) -> Result<bool, AllocError>
 /// Whether a lock is freed: by its name and a reference.
 fn is_freed(alloc: Global, name: &[u8], reference: &[u8]) -> Result<bool, AllocError>
     ensures { (b c : Term) (then rest : List ℕ) → item_at 61 name.now ≡ Ok (b, then)
-        → item_at 61 reference.now ≡ Ok (c, rest) → Tells (b ∷ []) (is_some (freed b c)) result }
+        → item_at 61 reference.now ≡ Ok (c, rest) → Tells (names_of_freed b c) (is_some (freed b c)) result }
 {
     if is_reference(reference) {
         is_name_at(alloc, 61, name)
@@ -262,7 +285,7 @@ fn is_freed(alloc: Global, name: &[u8], reference: &[u8]) -> Result<bool, AllocE
 /// Whether groups are announced: by a node and its groups.
 fn is_exchange(alloc: Global, node: &[u8], groups: &[u8]) -> Result<bool, AllocError>
     ensures { (b c : Term) (then rest : List ℕ) → item_at 61 node.now ≡ Ok (b, then)
-        → item_at 61 groups.now ≡ Ok (c, rest) → Tells (names_of_groups c) (is_some (read_exchange b c)) result }
+        → item_at 61 groups.now ≡ Ok (c, rest) → Tells (names_of_exchange b c) (is_some (read_exchange b c)) result }
 {
     if is_atom(node) {
         may_be_groups(alloc, 61, groups)

@@ -1,13 +1,17 @@
 //! Pids and references, after their tags.
 
-ghost use Rattle.std.specs.Prelude.{◌≡◌, ◌<◌};
+ghost use Rattle.std.specs.Prelude.{◌≡◌, ◌<◌, IsOk, Err};
 ghost use Rattle.std.specs.Int.{w32};
+ghost use Rattle.pg_term.specs.declared.fault.TermFault.{TermFault};
+ghost use Rattle.pg_term.specs.declared.fault.TermFault.TheVariants.{OutOfMemory};
 ghost use Rattle.pg_term.specs.Fault.{Gives};
 ghost use Rattle.pg_term_io.specs.Reading.{pid_at, old_reference_at, words_at, new_reference_at};
 ghost use Rattle.pg_term_io.specs.Reading.{items_at, number_at, creation_width};
 
 use crate::reading::atoms::atom_at;
 use crate::reading::numbers::{creation_at, u8_at, u16_at, u32_at};
+use crate::reading::scanning;
+use crate::reading::scanning::fault_of;
 use crate::tag::Creation;
 use pg_term::{Atom, Pid, Reference, TermFault};
 use std::alloc::Global;
@@ -37,13 +41,21 @@ pub(crate) fn pid_at(
 
 /// The pid whose tag, NEW_PID_EXT, is before the bytes, as a part of what `decode` reads, and the bytes after it.
 ///
-/// Errors: those of what follows the tag, as `decode` has them.
+/// Errors: those of what follows the tag, as `decode` has them. `OutOfMemory` comes only of bytes that begin with a pid.
 ///
-/// Cost: memory for the name of its node.
+/// Cost: memory for the name of its node. Where that runs out the bytes are walked over once more.
 pub fn decode_pid(alloc: Global, bytes: &[u8]) -> Result<(Pid, &[u8]), TermFault>
-    ensures { Gives (λ x. (x.0, x.1.now)) result (pid_at w32 bytes.now) }
+    ensures exact { Gives (λ x. (x.0, x.1.now)) result (pid_at w32 bytes.now) }
+    // The fault of the bytes is given, also where memory runs out.
+    ensures first { (f : TermFault) → pid_at w32 bytes.now ≡ Err f → result ≡ Err f }
+    // So memory runs out only of bytes that begin with a pid.
+    ensures computed { result ≡ Err OutOfMemory → IsOk (pid_at w32 bytes.now) }
 {
-    pid_at(alloc, Creation::Word, bytes)
+    match pid_at(alloc, Creation::Word, bytes) {
+        Ok(read) => Ok(read),
+        Err(TermFault::OutOfMemory) => Err(fault_of(scanning::pid(Creation::Word, bytes))),
+        Err(fault) => Err(fault),
+    }
 }
 
 /// A reference of one word.
@@ -80,13 +92,22 @@ pub(crate) fn reference_at(
 /// The reference whose tag, NEWER_REFERENCE_EXT, is before the bytes, as a part of what `decode` reads, and the bytes
 /// after it.
 ///
-/// Errors: those of what follows the tag, as `decode` has them.
+/// Errors: those of what follows the tag, as `decode` has them. `OutOfMemory` comes only of bytes that begin with a
+/// reference.
 ///
-/// Cost: memory for the name of its node.
+/// Cost: memory for the name of its node. Where that runs out the bytes are walked over once more.
 pub fn decode_reference(alloc: Global, bytes: &[u8]) -> Result<(Reference, &[u8]), TermFault>
-    ensures { Gives (λ x. (x.0, x.1.now)) result (new_reference_at w32 bytes.now) }
+    ensures exact { Gives (λ x. (x.0, x.1.now)) result (new_reference_at w32 bytes.now) }
+    // The fault of the bytes is given, also where memory runs out.
+    ensures first { (f : TermFault) → new_reference_at w32 bytes.now ≡ Err f → result ≡ Err f }
+    // So memory runs out only of bytes that begin with a reference.
+    ensures computed { result ≡ Err OutOfMemory → IsOk (new_reference_at w32 bytes.now) }
 {
-    reference_at(alloc, Creation::Word, bytes)
+    match reference_at(alloc, Creation::Word, bytes) {
+        Ok(read) => Ok(read),
+        Err(TermFault::OutOfMemory) => Err(fault_of(scanning::reference(Creation::Word, bytes))),
+        Err(fault) => Err(fault),
+    }
 }
 
 #[tactic(auto, unfolding(crate::specs::Reading::items_at))]

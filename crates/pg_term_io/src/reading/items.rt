@@ -12,7 +12,7 @@ ghost use Rattle.pg_term_io.specs.Reading.{items_at, item_at, tail_at, readers, 
 ghost use Rattle.pg_term_io.specs.Reading.{item_behind, leaf_behind, creation_width};
 
 use crate::reading::atoms::atom_behind;
-use crate::reading::identifiers::{decode_pid, old_reference_at, pid_at, reference_at};
+use crate::reading::identifiers::{old_reference_at, pid_at, reference_at};
 use crate::reading::numbers::{arity_at, big_at, some_bytes, u8_at, u16_at, u32_at};
 use crate::tag::{
     Creation, Encoding, LeafTag, ListTag, NEW_PID_EXT, SMALL_ATOM_UTF8_EXT, SMALL_INTEGER_EXT,
@@ -117,7 +117,7 @@ fn items<'a>(
                 after
             }
             [tag, after @ ..] if *tag == NEW_PID_EXT && room > 0 => {
-                let (pid, after) = decode_pid(alloc, after)?;
+                let (pid, after) = pid_at(alloc, Creation::Word, after)?;
                 push(terms, Term::Pid(pid))?;
                 after
             }

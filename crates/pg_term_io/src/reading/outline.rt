@@ -4,7 +4,7 @@ ghost use Rattle.std.specs.Prelude.{◌≡◌, ◌≢◌, ◌+◌, ◌*◌, ◌<
 ghost use Rattle.std.specs.Option.{option_map};
 ghost use Rattle.pg_term.specs.Order.{kind_of};
 ghost use Rattle.pg_term.specs.declared.term.Term.{Term, Tuple};
-ghost use Rattle.pg_term_io.specs.Kinds.{place_of, kind_in};
+ghost use Rattle.pg_term_io.specs.Kinds.{place_of, kind_in, tuple_in};
 ghost use Rattle.pg_term_io.specs.Reading.{as_term, items_at, item_at};
 ghost use Rattle.pg_term_io.specs.Scanning.{past, ScansAs};
 ghost use Rattle.pg_term_io.specs.Writing.{item_bytes};
@@ -36,6 +36,8 @@ pub fn kind_at(bytes: &[u8]) -> Option<Kind>
 ///
 /// Cost: no memory.
 pub fn tuple_at(bytes: &[u8]) -> Option<(u32, &[u8])>
+    // Of any bytes, also where the tuple is broken.
+    ensures exact { option_map (λ x. (x.0, x.1.now)) result ≡ tuple_in bytes.now }
     ensures some { (room : ℕ) → IfSome result (λ x. item_at (suc room) bytes.now
         ≡ as_term Tuple (items_at (item_at room) x.0 x.1.now)) }
     ensures none { (room : ℕ) (t : Term) (rest : List ℕ) → IfNone result

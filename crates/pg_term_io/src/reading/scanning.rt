@@ -4,7 +4,7 @@ ghost use Rattle.std.specs.Prelude.{◌≡◌, Ok};
 ghost use Rattle.std.specs.Int.{w16, w32};
 ghost use Rattle.pg_term_io.specs.Reading.{byte_at, number_at, bytes_at, big_at, i64_of, utf8_atom, atom_in};
 ghost use Rattle.pg_term_io.specs.Numbers.{big_value};
-ghost use Rattle.pg_term_io.specs.Scanning.{past, ScansAs, Names, over_atom, over_node, over_creation, over_pid};
+ghost use Rattle.pg_term_io.specs.Scanning.{past, ScansAs, Names, fault_or_memory, over_atom, over_node, over_creation, over_pid};
 ghost use Rattle.pg_term_io.specs.Scanning.{over_old_reference, over_all, over_words, over_reference};
 ghost use Rattle.pg_term_io.specs.Scanning.{over_binary, over_leaf, over_string, over_list, over_elements};
 ghost use Rattle.pg_term_io.specs.Scanning.{over_behind, over_item, over_tail, over_term, walks};
@@ -98,7 +98,7 @@ fn past_creation(creation: Creation, bytes: &[u8]) -> Result<&[u8], TermFault>
 
 /// What follows a pid, after its tag.
 #[tactic(auto, unfolding(crate::specs::Scanning::over_pid))]
-fn pid(creation: Creation, bytes: &[u8]) -> Result<&[u8], TermFault>
+pub(crate) fn pid(creation: Creation, bytes: &[u8]) -> Result<&[u8], TermFault>
     ensures { ScansAs (λ rest. rest.now) result (over_pid (over_creation creation) bytes.now) }
 {
     let rest = node(bytes)?;
@@ -129,7 +129,7 @@ fn words(count: u16, bytes: &[u8]) -> Result<&[u8], TermFault>
 
 /// What follows a reference that says how many words it has, after its tag.
 #[tactic(auto, unfolding(crate::specs::Scanning::over_reference))]
-fn reference(creation: Creation, bytes: &[u8]) -> Result<&[u8], TermFault>
+pub(crate) fn reference(creation: Creation, bytes: &[u8]) -> Result<&[u8], TermFault>
     ensures { ScansAs (λ rest. rest.now) result (over_reference (over_creation creation) bytes.now) }
 {
     let (count, rest) = u16_at(bytes)?;
@@ -292,5 +292,15 @@ pub(crate) fn term(bytes: &[u8]) -> Result<&[u8], TermFault>
             Ok(rest)
         }
         [_, ..] => Err(TermFault::BadVersion),
+    }
+}
+
+/// What is told where memory ran out in reading the bytes that were walked over.
+pub(crate) fn fault_of(walked: Result<&[u8], TermFault>) -> TermFault
+    ensures { result ≡ fault_or_memory walked.entry }
+{
+    match walked {
+        Ok(_) => TermFault::OutOfMemory,
+        Err(fault) => fault,
     }
 }

@@ -7,8 +7,10 @@ use super::forms::{Changed, Itself, NO_PACKET, is_read_in_both_forms};
 use crate::rows::Edit::{self, At, Times};
 use crate::rows::{OUT_OF_MEMORY, Row, check, edited, holds};
 use pg_message::MessageFault::{self, NameTooLarge, NotAMessage};
-use pg_message::{MAX_NAME_DEPTH, MAX_NAME_LEN, check_name, write_packet};
-use pg_term::{Term, TermFault};
+use pg_message::{
+    MAX_NAME_DEPTH, MAX_NAME_LEN, are_named_once, are_told_once, check_name, write_packet,
+};
+use pg_term::{Items, Pid, Term, TermFault};
 use pg_term_io::{decode, encode_len};
 use std::alloc::Global;
 use std::test::*;
@@ -125,5 +127,39 @@ fn names_in_an_exchange(rt: HostRuntime) {
     const FOUR: Edit = At(28, 1, b"l\0\0\0\x04");
     const FIVE: Edit = At(28, 1, b"l\0\0\0\x05");
     const SIX: Edit = At(28, 1, b"l\0\0\0\x06");
+    check(&rt, rt.alloc(), ROWS);
+}
+
+/// The names of groups, integers, and whether each stands once.
+#[derive(Clone, Copy)]
+struct Once(&'static [i64], bool);
+
+impl Row for Once {
+    fn told(&self, alloc: Global) -> Result<bool, MessageFault> {
+        with!(
+            groups(alloc, self.0),
+            groups => Ok(are_told_once(alloc, &groups) == self.1 && are_named_once(&groups) == self.1)
+        )
+    }
+}
+
+fn groups(alloc: Global, names: &[i64]) -> Result<Vec<(Term, Items<Pid>)>, TermFault> {
+    let mut groups = Vec::with_capacity(alloc, names.len())?;
+    for name in names {
+        groups.push((Term::Int(*name), Items::from_vec(Vec::new(alloc))))?;
+    }
+    Ok(groups)
+}
+
+// Whether names stand once is told whatever memory there is.
+#[test]
+fn names_stand_once(rt: HostRuntime) {
+    const ROWS: &[Once] = &[
+        Once(&[], true),
+        Once(&[5, 6, 7], true),
+        Once(&[7, 5, 6], true),
+        Once(&[7, 5, 6, 5], false),
+        Once(&[5, 5], false),
+    ];
     check(&rt, rt.alloc(), ROWS);
 }

@@ -1,6 +1,6 @@
 //! What is no packet is refused with its fault before anything of it is built.
 
-use super::bodies::{CREATE, EMPTY};
+use super::bodies::{CREATE, EMPTY, JOIN_OF_LIST};
 use crate::rows::Edit::{self, At, Times};
 use crate::rows::{Row, check, edited, holds};
 use pg_message::MessageFault::{self, NotAMessage, StampTooLarge, Term};
@@ -66,7 +66,16 @@ fn what_is_no_packet_takes_no_memory(rt: HostRuntime) {
             &[At(45, 3, b"l\0\0\0\x01a\x01a\x02")],
             Term(ImproperList),
         ),
-        // The same cut, with a byte behind it, and of another version.
+        // {0, {call, Ref, {join, [1, 2], Pid}}}, whose name takes memory: with a stamp below all, with other words, and
+        // with an atom in the place of the reference and of the pid.
+        Unbuilt(JOIN_OF_LIST, &[At(3, 2, b"b\xff\xff\xff\xff")], NotAMessage),
+        Unbuilt(JOIN_OF_LIST, &[At(9, 4, b"cast")], NotAMessage),
+        Unbuilt(JOIN_OF_LIST, &[At(13, 14, b"w\x01a")], NotAMessage),
+        Unbuilt(JOIN_OF_LIST, &[At(31, 4, b"jump")], NotAMessage),
+        Unbuilt(JOIN_OF_LIST, &[At(45, 16, b"w\x01a")], NotAMessage),
+        // An exchange of the group 1, of no node.
+        Unbuilt(EMPTY, &[At(25, 3, b"a\x07"), ALONE, ONE, END], NotAMessage),
+        // The create call cut, with a byte behind it, and of another version.
         Unbuilt(CREATE, &[At(47, 1, b"")], Term(Truncated)),
         Unbuilt(CREATE, &[At(48, 0, b"\0")], Term(TrailingBytes)),
         Unbuilt(CREATE, &[At(0, 1, b"\x82")], Term(BadVersion)),
@@ -87,6 +96,8 @@ fn what_is_no_packet_takes_no_memory(rt: HostRuntime) {
     const TEXT_IN_PARTS: Edit = Times(1, b"l\0\0\0\x01w\x01gk\0\x011");
     const THREE: Edit = Times(1, b"l\0\0\0\x03w\x01gjjj");
     const TEXT: Edit = Times(1, b"k\0\x011");
+    const ALONE: Edit = At(28, 1, b"l\0\0\0\x01");
+    const ONE: Edit = Times(1, b"l\0\0\0\x02a\x01jj");
     const END: Edit = Times(1, b"j");
     check(&rt, rt.alloc(), ROWS);
 }

@@ -4,7 +4,7 @@ use crate::rows::Edit::{self, Times};
 use crate::rows::{OUT_OF_MEMORY, Row, check, edited};
 use pg_message::MessageFault;
 use pg_term::TermFault::{self, *};
-use pg_term_io::{check_term, decode};
+use pg_term_io::{check_term, decode, decode_item, decode_pid, decode_reference};
 use std::alloc::Global;
 use std::test::*;
 
@@ -86,5 +86,44 @@ fn long_atoms_and_depth(rt: HostRuntime) {
         Spelled(b"\x83", &[IN_62, Times(1, b"l\0\0\0\0j")], None),
     ];
     const DEEP: Option<TermFault> = Some(TooDeep);
+    check(&rt, rt.alloc(), ROWS);
+}
+
+/// Bytes that begin with a part, the tag of a pid or a reference left out, and the fault that they have.
+#[derive(Clone, Copy)]
+enum Part {
+    Item(&'static [u8], Option<TermFault>),
+    Pid(&'static [u8], Option<TermFault>),
+    Reference(&'static [u8], Option<TermFault>),
+}
+
+impl Row for Part {
+    fn told(&self, alloc: Global) -> Result<bool, MessageFault> {
+        let (read, fault) = match *self {
+            Part::Item(bytes, fault) => (decode_item(alloc, 64, bytes).err(), fault),
+            Part::Pid(bytes, fault) => (decode_pid(alloc, bytes).err(), fault),
+            Part::Reference(bytes, fault) => (decode_reference(alloc, bytes).err(), fault),
+        };
+        match read {
+            Some(OutOfMemory) if fault.is_none() => Err(OUT_OF_MEMORY),
+            read => Ok(read == fault),
+        }
+    }
+}
+
+// The fault stands behind a name that takes memory.
+#[test]
+fn faults_of_parts(rt: HostRuntime) {
+    const ROWS: &[Part] = &[
+        Part::Item(b"h\x02w\x01aw\x01\xff", Some(BadAtom)),
+        Part::Item(b"h\x02w\x01aF", Some(UnknownTag)),
+        Part::Item(b"h\x02w\x01a", CUT),
+        Part::Item(b"l\0\0\0\x01w\x01aa\x01", Some(ImproperList)),
+        Part::Item(b"h\x01w\x01aF", None),
+        Part::Pid(b"w\x01a\0\0\0\x01\0\0\0\0\0\0\0", CUT),
+        Part::Pid(b"w\x01a\0\0\0\x01\0\0\0\0\0\0\0\x01", None),
+        Part::Reference(b"\0\x02w\x01a\0\0\0\x01\0\0\0\0\0\0\0", CUT),
+        Part::Reference(b"\0\x01w\x01a\0\0\0\x01\0\0\0\x07", None),
+    ];
     check(&rt, rt.alloc(), ROWS);
 }

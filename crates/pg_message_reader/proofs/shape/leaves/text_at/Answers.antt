@@ -1,4 +1,4 @@
-use Rattle.std.proofs.Common.{◌≡◌, ◌∷◌, ℕ, List, length, ap, sym, subst, ◌∙◌, arith}
+use Rattle.std.proofs.Common.{◌∷◌, ℕ, length, ap, sym, subst, ◌∙◌, arith}
 use Rattle.std.specs.Str.{chars, IsUtf8}
 use Rattle.pg_term.specs.declared.term.Term.TheVariants.{Atom}
 use Rattle.pg_message_reader.specs.Shapes.Leaves.{characters}

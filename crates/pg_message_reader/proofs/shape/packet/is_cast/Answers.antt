@@ -1,4 +1,4 @@
-use Rattle.std.proofs.Common.{◌≡◌, ◌∙◌, sym, refl, ap, false, None, List, Option}
+use Rattle.std.proofs.Common.{◌≡◌, ◌∙◌, sym, refl, ap, false, List, Option}
 use Rattle.std.specs.Prelude.{is_some}
 use Rattle.std.specs.Option.{option_and_then}
 use Rattle.pg_term.specs.declared.term.Term.{Term}

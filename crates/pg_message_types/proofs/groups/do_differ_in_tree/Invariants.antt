@@ -4,7 +4,7 @@ use Rattle.std.specs.Ordering.{is_eq}
 use Rattle.pg_term.specs.declared.term.Term.{Term}
 use Rattle.pg_term.specs.Same.{same_term, term_cmp}
 use Rattle.pg_message_types.specs.Reading.{is_named_once}
-use Rattle.pg_message_types.proofs.groups.are_told_once.Given as goal
+use Rattle.pg_message_types.proofs.groups.do_differ_in_tree.Given as goal
 
 -- the groups so far are named once, and the tree has their names
 abbrev pub invariant-loop-name : goal.invariant-loop-name
