@@ -32,8 +32,11 @@ trait Player: Drop {
     /// Gives commands at the port; whether all were taken.
     fn ask(&mut self, commands: &[Command]) -> bool;
 
-    /// How many commands of the port are answered.
-    fn answered(&self) -> usize;
+    /// How many commands of the port are answered, those whose answers were forgotten too.
+    fn answered(&self) -> u64;
+
+    /// Forgets all answers of the port.
+    fn forget(&mut self);
 }
 
 // Packets that were made, as they come in.
@@ -202,13 +205,14 @@ fn commands(alloc: Global, change: Change, count: u32) -> Result<Vec<Command>, T
     Ok(commands)
 }
 
-// Joins and leaves in turn, so many rounds, timed.
+// Joins and leaves in turn, so many rounds, timed. `forgets`: whether the answers are forgotten behind each round.
 fn change_in_turn<P: Player>(
     rt: &HostRuntime,
     player: &mut P,
     references: &mut RefSource,
     commands: (&[Command], &[Command]),
     rounds: u32,
+    forgets: bool,
 ) -> bool {
     let before = player.answered();
     let watch = Watch::begin(rt);
@@ -221,8 +225,11 @@ fn change_in_turn<P: Player>(
         if !changed(rt.alloc(), player, references, commands) {
             return false;
         }
+        if forgets {
+            player.forget();
+        }
     }
-    let answered = player.answered().saturating_sub(before) as u64;
+    let answered = player.answered().saturating_sub(before);
     report(rt, "own changes", answered, 0, watch);
     true
 }
@@ -233,13 +240,14 @@ fn join_and_leave<P: Player>(
     player: &mut P,
     references: &mut RefSource,
     joins: &[Command],
-    count: u32,
-    open: u32,
+    rounds: u32,
+    forgets: bool,
 ) -> bool {
+    let open = u32::try_from(joins.len()).unwrap_or(u32::MAX);
     match commands(rt.alloc(), Change::Leave, open) {
         Ok(leaves) => {
-            let rounds = count / open.max(1);
-            let is_done = change_in_turn(rt, player, references, (joins, &leaves), rounds);
+            let both = (joins, leaves.as_slice());
+            let is_done = change_in_turn(rt, player, references, both, rounds, forgets);
             drop(leaves);
             is_done
         }
@@ -254,6 +262,7 @@ fn own_changes<P: Player>(
     references: &mut RefSource,
     count: u32,
     open: u32,
+    forgets: bool,
 ) -> bool {
     head(
         rt,
@@ -262,7 +271,8 @@ fn own_changes<P: Player>(
     );
     match commands(rt.alloc(), Change::Join, open) {
         Ok(joins) => {
-            let is_done = join_and_leave(rt, player, references, &joins, count, open);
+            let rounds = count / open.max(1);
+            let is_done = join_and_leave(rt, player, references, &joins, rounds, forgets);
             drop(joins);
             is_done
         }
@@ -270,14 +280,15 @@ fn own_changes<P: Player>(
     }
 }
 
-fn changes<P: Player>(rt: &HostRuntime, player: &mut P, count: u32) -> bool {
+// Changes of the node's own, one at a time where their answers are kept, and then 64 at once. `forgets`: whether they are forgotten.
+fn changes<P: Player>(rt: &HostRuntime, player: &mut P, count: u32, forgets: bool) -> bool {
     let Ok(own) = Atom::new(rt.alloc(), OWN) else {
         return false;
     };
     let mut references = RefSource::new(own);
     let is_done = change(rt.alloc(), player, Change::Create, Groups::Own, 64)
-        && own_changes(rt, player, &mut references, count, 1)
-        && own_changes(rt, player, &mut references, count, 64);
+        && (forgets || own_changes(rt, player, &mut references, count, 1, false))
+        && own_changes(rt, player, &mut references, count, 64, forgets);
     drop(references);
     is_done
 }
@@ -288,12 +299,14 @@ enum Figure {
     Updates,
     Queries,
     Changes,
+    Forgotten,
 }
 
 const FIGURES: &[(&str, Figure)] = &[
     ("updates", Figure::Updates),
     ("queries", Figure::Queries),
     ("changes", Figure::Changes),
+    ("forgotten", Figure::Forgotten),
 ];
 
 fn measure_one<P: Player>(rt: &HostRuntime, player: &mut P, figure: Figure, count: u32) -> bool {
@@ -303,7 +316,8 @@ fn measure_one<P: Player>(rt: &HostRuntime, player: &mut P, figure: Figure, coun
     match figure {
         Figure::Updates => updates(rt, player, count),
         Figure::Queries => queries(rt, player, count),
-        Figure::Changes => changes(rt, player, count),
+        Figure::Changes => changes(rt, player, count, false),
+        Figure::Forgotten => changes(rt, player, count, true),
     }
 }
 
@@ -325,8 +339,8 @@ fn measure<P: Player>(rt: &HostRuntime, what: &str, count: u32, only: &str) -> b
     true
 }
 
-/// The words after `nodes`: `packets` or `bytes`; how many events of each kind (200); and `updates`, `queries` or `changes`, where only
-/// these are measured. Whether it could.
+/// The words after `nodes`: `packets` or `bytes`; how many events of each kind (200); and `updates`, `queries`, `changes`, or
+/// `forgotten`, for changes whose answers are forgotten, where only these are measured. Whether it could.
 pub fn run(rt: &HostRuntime, words: &[String]) -> bool {
     let Some(count) = number(words, 2, 200) else {
         return false;

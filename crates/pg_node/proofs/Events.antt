@@ -1,6 +1,6 @@
 -- The events of a node over bytes, from those of its parts.
 use Rattle.std.proofs.Common.{◌≡◌, ◌<◌, ℕ, Bool, true, false, not, ◌||◌, ◌&&◌, cond, nat_eq, List, length}
-use Rattle.std.proofs.Common.{get_or, Option, Some, None, Result, Ok, Err, refl, sym, ap, subst, ◌∙◌}
+use Rattle.std.proofs.Common.{get_or, Option, Some, None, Result, Ok, Err, refl, sym, ap, subst, ◌∙◌, ◌⊎◌, inl, inr}
 use Rattle.std.specs.Prelude.{◌↔◌, if◌then◌else◌, slice_set}
 use Rattle.std.proofs.Math.Path.{fun_ext}
 use Rattle.std.proofs.lemmas.Bool.{eqb-true}
@@ -22,11 +22,14 @@ use Rattle.pg_node_state.specs.PgNodeSends.Dones.{FramedDone}
 use Rattle.pg_node_state.specs.declared.state.fault.NodeFault.{NodeFault}
 use Rattle.pg_node_state.specs.declared.state.fault.NodeFault.TheVariants.{Refused, OutOfMemory}
 use Rattle.pg_node_state.specs.declared.state.fault.NodeFault.TheVariants.{Message, TooLong, Damaged}
-use Rattle.pg_node.specs.Bytes.{ReadsNext, next_packet, packet_at, packet_in, damages, marked, passed, is_none, is_idle}
+use Rattle.pg_node_state.specs.NodeFault.{from_message}
+use Rattle.pg_message_reader.specs.Names.{NeedsNames}
+use Rattle.pg_node.specs.Bytes.{ReadsNext, IsSeenBroken, next_packet, packet_at, packet_in, damages, marked, passed, is_none, is_idle}
 use Rattle.pg_node_state.specs.PgNodeSends.Frames.{frames_to}
+use Rattle.pg_node_state.specs.PgNodeSends.contracts.framing.FramedOutgoing.TheImpl as frames
 use Rattle.pg_node.specs.Links.{Link, link_of, links_in, at_link, with_more}
-use Rattle.pg_node.specs.Nodes.{read_next, taken_as, taken_of, step_link, TakesNext, ComesInRoom, sent_out}
-use Rattle.pg_node_state.specs.States.{Comes}
+use Rattle.pg_node.specs.Nodes.{read_next, taken_as, taken_of, step_link, TakesNext, sent_out}
+use Rattle.pg_node_state.specs.States.{fault_or_memory, Comes}
 use Rattle.pg_node_state.specs.PgNodeSends.Sent.{stamped_of}
 use Rattle.pg_node_state.proofs.PgNodeOpens.Named.{clash}
 use Rattle.pg_node.proofs.Linked.{one_link}
@@ -65,19 +68,16 @@ same_done one other e = ap (λ (r : Result (Option FramedDone) NodeFault). go r)
     go (Err fault) = one
 
 module _ (names : List Name) (s0 s : Timed State) (before after : ℕ → List Answer) where
-  pub in_room : (r : Result TimedTurn Refusal) (result : Result FramedDone NodeFault) → Comes names r result s before after → ComesInRoom names r result s before after
-  in_room r (Ok done) h = h
-  in_room r (Err OutOfMemory) h = tt
-  in_room r (Err (Refused refusal)) h = h
-  in_room r (Err (Message fault)) h = h
-  in_room r (Err TooLong) h = h
-  in_room r (Err Damaged) h = h
+  -- what is told where there is no room is told of the event
+  pub no_room : (r : Result TimedTurn Refusal) → Comes {h = frames.ghosts} names r (Err (fault_or_memory r)) s before after
+  no_room (Ok t) = tt
+  no_room (Err refusal) = refl
 
-  pub takes_ok : (r : Result TimedTurn Refusal) (done : FramedDone) → ComesInRoom names r (Ok done) s before after → TakesNext names (taken_as r) (Ok (Some done)) s0 s before after
+  pub takes_ok : (r : Result TimedTurn Refusal) (done : FramedDone) → Comes names r (Ok done) s before after → TakesNext names (taken_as r) (Ok (Some done)) s0 s before after
   takes_ok (Ok t) done h = h
   takes_ok (Err refusal) done h = absurd (cc)
 
-  pub takes_err : (r : Result TimedTurn Refusal) (fault : NodeFault) → ComesInRoom names r (Err fault) s before after → TakesNext names (taken_as r) (Err fault) s0 s before after
+  pub takes_err : (r : Result TimedTurn Refusal) (fault : NodeFault) → Comes {h = frames.ghosts} names r (Err fault) s before after → TakesNext names (taken_as r) (Err fault) s0 s before after
   takes_err (Ok t) OutOfMemory h = tt
   takes_err (Ok t) (Refused refusal) h = h
   takes_err (Ok t) (Message fault) h = h
@@ -160,3 +160,31 @@ idle_front false (Err fault) = (λ e. absurd (cc), λ e. absurd (cc))
 -- no packet is there exactly where the link is idle
 pub idle_next : (link : Link) (b : Bool) → b ≡ is_idle link → (b ≡ true) ↔ (next_packet link ≡ Ok None)
 idle_next link b is = subst (λ (x : Bool). (x ≡ true) ↔ (next_packet link ≡ Ok None)) (sym is) (idle_front link.damaged (front_of link.unread))
+
+-- ---- a body that is seen to be no packet
+
+body_in : List ℕ → Result (Option (List ℕ)) frame.TooLong → List ℕ
+body_in none (Ok (Some body)) = body
+body_in none (Ok None) = none
+body_in none (Err fault) = none
+
+told_in : MessageFault → Result Packet MessageFault → MessageFault
+told_in none (Ok packet) = none
+told_in none (Err fault) = fault
+
+err_of : NodeFault → Result (Option Packet) NodeFault
+err_of fault = Err fault
+
+-- its fault is told, where it is told of a body unless names are needed
+pub broken_told : (link : Link) (body : List ℕ) (e fault : MessageFault) (r : NodeFault) → front_of link.unread ≡ Ok (Some body)
+    → ((f : MessageFault) → packet_spelled body ≡ Err f → NeedsNames body ⊎ (◌≡◌ {A = Result Packet MessageFault} (Err e) (Err f)))
+    → r ≡ from_message e → IsSeenBroken link fault → ◌≡◌ {A = Result (Option Packet) NodeFault} (Err r) (Err (from_message fault))
+unfolding body_in told_in err_of
+broken_told link body e fault r front told is seen = go (told fault (subst (λ b. packet_spelled b ≡ Err fault) same seen.spelled))
+  where
+    same : seen.body ≡ body
+    same = ap (body_in body) (sym seen.front ∙ front)
+
+    go : NeedsNames body ⊎ (◌≡◌ {A = Result Packet MessageFault} (Err e) (Err fault)) → ◌≡◌ {A = Result (Option Packet) NodeFault} (Err r) (Err (from_message fault))
+    go (inl needs) = absurd (seen.plain (subst NeedsNames (sym same) needs))
+    go (inr h) = ap err_of (is ∙ ap from_message (ap (told_in e) h))

@@ -10,6 +10,7 @@ use Rattle.pg_node_state.specs.PgStep.declared.refusal.Refusal.TheVariants.{NotA
 use Rattle.pg_node_state.specs.declared.state.fault.NodeFault.{NodeFault}
 use Rattle.pg_node_state.specs.declared.state.fault.NodeFault.TheVariants.{Refused, OutOfMemory}
 use Rattle.pg_node_state.specs.declared.state.fault.NodeFault.TheVariants.{Damaged, TooLong, Message}
+use Rattle.pg_message_reader.specs.Names.{NeedsNames}
 use Rattle.pg_node.specs.Links.{Link}
 
 -- the packet that a body spells
@@ -27,11 +28,20 @@ packet_at (Err fault) = Err TooLong
 abbrev pub next_packet : Link → Result (Option Packet) NodeFault
 next_packet link = if link.damaged then Err Damaged else packet_at (front_of link.unread)
 
--- an answer is what is told; or memory ran out where a packet or a fault of it is told
+-- An answer is what is told; or memory ran out where a packet or a fault of it is told. (Where the fault is seen without memory it is
+-- told: `IsSeenBroken`.)
 abbrev pub ReadsNext : Result (Option Packet) NodeFault → Result (Option Packet) NodeFault → Type 0
 ReadsNext (Ok (Some packet)) (Err OutOfMemory) = Unit {0}
 ReadsNext (Err (Message fault)) (Err OutOfMemory) = Unit {0}
 ReadsNext told result = result ≡ told
+
+-- The body of the next frame is no packet, by this fault, which is seen whatever memory there is.
+pub record IsSeenBroken (link : Link) (fault : MessageFault) : Type 0 where
+  pub healthy : link.damaged ≡ false
+  pub body : List ℕ
+  pub front : front_of link.unread ≡ Ok (Some body)
+  pub spelled : packet_spelled body ≡ Err fault
+  pub plain : NeedsNames body → ⊥
 
 -- whether a fault of what came in damages the link for good
 abbrev pub damages : NodeFault → Bool

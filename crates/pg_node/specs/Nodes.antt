@@ -19,7 +19,7 @@ use Rattle.pg_node_state.specs.declared.state.fault.NodeFault.TheVariants.{Refus
 use Rattle.pg_node_state.specs.PgNodeSends.Frames.{frames_to}
 use Rattle.pg_node.specs.Links.{Link, links_in, with_more}
 use Rattle.pg_node.specs.Bytes.{next_packet, is_drained}
-use Rattle.pg_node_state.specs.States.{names_of, kept_by, step_see_loss, Happens, Comes}
+use Rattle.pg_node_state.specs.States.{names_of, kept_by, step_see_loss, Happens}
 use Rattle.pg_node_state.specs.PgNodeSends.Sent.{stamped_of}
 
 -- the node over packets
@@ -69,11 +69,6 @@ TakesNext names (Err (Message fault)) (Err OutOfMemory) s0 s before after = Unit
 TakesNext names (Err (Refused refusal)) (Err OutOfMemory) s0 s before after = Unit {0}
 TakesNext names (Err fault) result s0 s before after = result ≡ Err fault
 TakesNext names told result s0 s before after = ⊥
-
--- the same of a packet, where room is made first, so that memory may run out whatever is told
-abbrev pub ComesInRoom : List Name → Result TimedTurn Refusal → Result FramedDone NodeFault → Timed State → (ℕ → List Answer) → (ℕ → List Answer) → Type 0
-ComesInRoom names told (Err OutOfMemory) s before after = Unit {0}
-ComesInRoom names told result s before after = Comes names told result s before after
 
 -- ---- the links
 

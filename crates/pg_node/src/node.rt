@@ -6,6 +6,7 @@ ghost use Rattle.pg_node_state.specs.States.{names_of as names_known};
 
 mod begun;
 mod events;
+mod forgets;
 mod moved;
 mod own;
 mod wire;

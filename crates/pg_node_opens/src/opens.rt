@@ -248,7 +248,14 @@ impl Opens {
     pub fn stage(&self, op: OpId) -> Stage
         ensures { result ≡ stage_seen (stages_of self.now op) }
     {
-        match place_of_op(&self.commands, self.recent, op) {
+        self.stage_near(self.recent, op)
+    }
+
+    /// The same. `near`: the place that is looked at first.
+    fn stage_near(&self, near: usize, op: OpId) -> Stage
+        ensures { result ≡ stage_seen (stages_of self.now op) }
+    {
+        match place_of_op(&self.commands, near, op) {
             None => Stage::Closed,
             Some(place) => {
                 let command = &self.commands[place];
@@ -385,16 +392,27 @@ impl Opens {
     pub fn waits(&self, op: OpId) -> bool
         ensures { (s : State) → Shows self.now s → result ≡ waits (live_of self.now) (stages_of self.now op) s }
     {
-        self.waits_in(self.stage(op))
+        self.waits_near(self.recent, op)
     }
 
-    fn waits_in(&self, stage: Stage) -> bool
+    /// The same of a command that is likely at a place, by `op_at`: that place is looked at first. `near`: the place.
+    ///
+    /// Cost: no memory; O(nodes) where the command is there, else that of `waits`.
+    pub fn waits_near(&self, near: usize, op: OpId) -> bool
+        ensures { (s : State) → Shows self.now s → result ≡ waits (live_of self.now) (stages_of self.now op) s }
+    {
+        self.waits_in(near, self.stage_near(near, op))
+    }
+
+    fn waits_in(&self, near: usize, stage: Stage) -> bool
         ensures { result ≡ waits_by stage (λ number. is_complete (live_of self.now) (uses_of self.now number)) }
     {
         match stage {
             Stage::Closed => false,
             Stage::Waiting => true,
-            Stage::Asking(number) | Stage::Changing(number) => self.is_complete(number),
+            Stage::Asking(number) | Stage::Changing(number) => {
+                self.is_complete_near(near, number)
+            }
         }
     }
 
@@ -404,7 +422,14 @@ impl Opens {
     pub fn is_complete(&self, number: u32) -> bool
         ensures { result ≡ is_complete (live_of self.now) (uses_of self.now number) }
     {
-        match place_of(&self.commands, self.recent, number) {
+        self.is_complete_near(self.recent, number)
+    }
+
+    /// The same. `near`: the place that is looked at first.
+    fn is_complete_near(&self, near: usize, number: u32) -> bool
+        ensures { result ≡ is_complete (live_of self.now) (uses_of self.now number) }
+    {
+        match place_of(&self.commands, near, number) {
             None => false,
             Some(place) => {
                 let command = &self.commands[place];

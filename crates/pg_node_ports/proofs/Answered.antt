@@ -1,6 +1,6 @@
 -- A port where a command is counted, or answered.
 use Rattle.std.proofs.Common.{◌≡◌, ◌≢◌, ◌<◌, ◌+◌, ◌-◌, ◌∙◌, ℕ, zero, suc, cond, nat_eq}
-use Rattle.std.proofs.Common.{List, [], ◌∷◌, ◌++◌, get_or, length, Some, refl, sym, ap, arith, subst}
+use Rattle.std.proofs.Common.{List, [], ◌∷◌, ◌++◌, drop, get_or, length, Some, refl, sym, ap, arith, subst}
 use Rattle.std.specs.Prelude.{slice_get, slice_set, vec_len, vec_capacity}
 use Rattle.std.proofs.Math.Path.{fun_ext}
 use Rattle.std.proofs.Math.Dec.{eqb-zero-suc, eqb-suc-zero, eqb-suc-suc}
@@ -11,7 +11,7 @@ use Rattle.pg_node_opens.specs.PgStep.declared.answer.Answer.{Answer}
 use Rattle.pg_node_opens.specs.PgStep.declared.answer.Reply.{Reply}
 use Rattle.pg_node_ports.specs.declared.port.Port.{Port}
 use Rattle.pg_node_ports.specs.Ports.{counted_at, HasRoomAt}
-use Rattle.pg_node_ports.specs.Ports.{port_commands, answers_in}
+use Rattle.pg_node_ports.specs.Ports.{port_commands, answers_in, forgotten_in, forgotten_on}
 
 one_port : (p q : Port) → Some p ≡ Some q → p ≡ q
 one_port p q e = cc
@@ -27,6 +27,11 @@ pub answers_here : (ports : List Port) (k : ℕ) (p : Port) → slice_get ports 
 answers_here [] k p here = absurd (cc)
 answers_here (q ∷ ports) zero p here = ap (λ (r : Port). r.answers.items) (one_port q p here)
 answers_here (q ∷ ports) (suc k) p here = answers_here ports k p here
+
+pub forgotten_here : (ports : List Port) (k : ℕ) (p : Port) → slice_get ports k ≡ Some p → forgotten_in ports k ≡ p.forgotten
+forgotten_here [] k p here = absurd (cc)
+forgotten_here (q ∷ ports) zero p here = ap (λ (r : Port). r.forgotten) (one_port q p here)
+forgotten_here (q ∷ ports) (suc k) p here = forgotten_here ports k p here
 
 -- ---- one port changes
 
@@ -51,6 +56,17 @@ answers_each (q ∷ ports) (suc k) p within (suc n) = answers_each ports k p (om
 pub answers_set : (ports : List Port) (k : ℕ) (p : Port) (answers : List Answer) → k < length ports → p.answers.items ≡ answers → answers_in (slice_set ports k p) ≡ upd nat_eq (answers_in ports) k answers
 unfolding upd
 answers_set ports k p answers within is = fun_ext (λ port. answers_each ports k p within port ∙ ap (λ (a : List Answer). cond (nat_eq k port) a (answers_in ports port)) is)
+
+forgotten_each : (ports : List Port) (k : ℕ) (p : Port) → k < length ports → (port : ℕ) → forgotten_in (slice_set ports k p) port ≡ cond (nat_eq k port) p.forgotten (forgotten_in ports port)
+forgotten_each [] k p within port = absurd (omega arith)
+forgotten_each (q ∷ ports) zero p within zero = refl
+forgotten_each (q ∷ ports) zero p within (suc n) = ap (λ b. cond b p.forgotten (forgotten_in ports n)) (sym (eqb-zero-suc n))
+forgotten_each (q ∷ ports) (suc k) p within zero = ap (λ b. cond b p.forgotten (forgotten_in (q ∷ ports) zero)) (sym (eqb-suc-zero k))
+forgotten_each (q ∷ ports) (suc k) p within (suc n) = forgotten_each ports k p (omega arith) n ∙ ap (λ b. cond b p.forgotten (forgotten_in ports n)) (sym (eqb-suc-suc k n))
+
+forgotten_set : (ports : List Port) (k : ℕ) (p : Port) (n : ℕ) → k < length ports → p.forgotten ≡ n → forgotten_in (slice_set ports k p) ≡ upd nat_eq (forgotten_in ports) k n
+unfolding upd
+forgotten_set ports k p n within is = fun_ext (λ port. forgotten_each ports k p within port ∙ ap (λ c. cond (nat_eq k port) c (forgotten_in ports port)) is)
 
 set_here : (ports : List Port) (k : ℕ) (p q : Port) → slice_get ports k ≡ Some p → slice_get (slice_set ports k q) k ≡ Some q
 set_here [] k p q here = absurd (cc)
@@ -117,6 +133,24 @@ module _ (ports : List Port) (port k : ℕ) (p q : Port) (same : k ≡ port) (wi
   pub none_answered : q.answers.items ≡ p.answers.items → answers_in (slice_set ports k q) ≡ answers_in ports
   none_answered still = ap (λ i. answers_in (slice_set ports i q)) same ∙ (answers_set ports port q (answers_in ports port) within (still ∙ sym (answers_here ports port p there))
       ∙ upd_same nat_eq (answers_in ports) port (eqb-true port) (answers_in ports port) refl)
+
+  pub forgotten_there : forgotten_in ports port ≡ p.forgotten
+  forgotten_there = forgotten_here ports port p there
+
+  pub none_forgotten : q.forgotten ≡ p.forgotten → forgotten_in (slice_set ports k q) ≡ forgotten_in ports
+  none_forgotten still = ap (λ i. forgotten_in (slice_set ports i q)) same ∙ (forgotten_set ports port q (forgotten_in ports port) within (still ∙ sym forgotten_there)
+      ∙ upd_same nat_eq (forgotten_in ports) port (eqb-true port) (forgotten_in ports port) refl)
+
+  -- its first answers are forgotten
+  pub answers_left : (count : ℕ) → q.answers.items ≡ drop count p.answers.items → answers_in (slice_set ports k q) ≡ upd nat_eq (answers_in ports) port (drop count (answers_in ports port))
+  answers_left count left = ap (λ i. answers_in (slice_set ports i q)) same
+      ∙ answers_set ports port q (drop count (answers_in ports port)) within (left ∙ ap (λ (a : List Answer). drop count a) (sym answers_there))
+
+  pub more_forgotten : (count : ℕ) → q.forgotten ≡ forgotten_on p.forgotten count (length p.answers.items)
+      → forgotten_in (slice_set ports k q) ≡ upd nat_eq (forgotten_in ports) port (forgotten_on (forgotten_in ports port) count (length (answers_in ports port)))
+  more_forgotten count more = ap (λ i. forgotten_in (slice_set ports i q)) same
+      ∙ forgotten_set ports port q (forgotten_on (forgotten_in ports port) count (length (answers_in ports port))) within
+      (more ∙ (λ i. forgotten_on (sym forgotten_there i) count (length (sym answers_there i))))
 
   pub room_there : vec_len q.answers < vec_capacity q.answers → HasRoomAt (slice_set ports k q) port
   room_there room r e = subst (λ (x : Port). vec_len x.answers < vec_capacity x.answers) (one_port q r (sym set ∙ e)) room

@@ -5,7 +5,7 @@ use Rattle.std.proofs.Math.Path.{fun_ext}
 use Rattle.std.specs.List.{AllZip}
 use Rattle.pg_node_opens.specs.PgStep.declared.answer.Answer.{Answer}
 use Rattle.pg_node_ports.specs.declared.port.Port.{Port}
-use Rattle.pg_node_ports.specs.Ports.{port_commands, answers_in}
+use Rattle.pg_node_ports.specs.Ports.{port_commands, answers_in, forgotten_in}
 use Rattle.pg_node_ports.specs.Same.{AreSamePorts, IsSamePort}
 use Rattle.pg_node_ports.proofs.Answered.{count_there, answers_there}
 
@@ -91,3 +91,14 @@ same_of_copies ports copies zip = record {
   counts = fun_ext (same_counts ports copies zip);
   answers = fun_ext (same_answers ports copies zip);
 }
+
+-- they have forgotten as many answers
+pub forgotten_by_copies : (ps qs : List Port) → AllZip IsSamePort ps qs → forgotten_in qs ≡ forgotten_in ps
+forgotten_by_copies ps qs zip = fun_ext (each ps qs zip)
+  where
+    each : (ps qs : List Port) → AllZip IsSamePort ps qs → (k : ℕ) → forgotten_in qs k ≡ forgotten_in ps k
+    each [] [] z k = refl
+    each [] (q ∷ qs) z k = absurd z
+    each (p ∷ ps) [] z k = absurd z
+    each (p ∷ ps) (q ∷ qs) z zero = z.0.forgotten
+    each (p ∷ ps) (q ∷ qs) z (suc k) = each ps qs z.1 k

@@ -1,5 +1,5 @@
 -- What is kept of ports, by their places.
-use Rattle.std.specs.Prelude.{◌≡◌, ℕ, zero, suc, ◌+◌, ◌<◌, nat_eq, List, [], ◌∷◌, Some, slice_get, vec_len, vec_capacity}
+use Rattle.std.specs.Prelude.{◌≡◌, ℕ, zero, suc, ◌+◌, ◌-◌, ◌^◌, ◌<◌, min, nat_eq, List, [], ◌∷◌, Some, slice_get, vec_len, vec_capacity}
 use Rattle.pg_node_opens.specs.PgGroup.Functions.{upd}
 use Rattle.pg_node_opens.specs.PgStep.declared.answer.Answer.{Answer}
 use Rattle.pg_node_ports.specs.declared.port.Port.{Port}
@@ -15,6 +15,16 @@ abbrev pub answers_in : List Port → ℕ → List Answer
 answers_in [] port = []
 answers_in (p ∷ ports) zero = p.answers.items
 answers_in (p ∷ ports) (suc n) = answers_in ports n
+
+-- how many answers were forgotten at each port, which were the first that were given there
+abbrev pub forgotten_in : List Port → ℕ → ℕ
+forgotten_in [] port = 0
+forgotten_in (p ∷ ports) zero = p.forgotten
+forgotten_in (p ∷ ports) (suc n) = forgotten_in ports n
+
+-- so many were forgotten, and then the first `count` of so many that were kept: a number of 64 bits, which stays at its greatest
+abbrev pub forgotten_on : (forgotten count kept : ℕ) → ℕ
+forgotten_on forgotten count kept = min (forgotten + min count kept) (2 ^ 64 - 1)
 
 -- one more command came in at a port
 abbrev pub counted_at : ℕ → (ℕ → ℕ) → ℕ → ℕ

@@ -16,6 +16,7 @@ impl Clone for Port {
         Ok(Port {
             count: self.count,
             answers,
+            forgotten: self.forgotten,
         })
     }
 }

@@ -19,6 +19,9 @@ pub use pg_node_opens::{
     nodes_keep_time, number_of, numbered_from_one, same_group, same_groups, steps_go_by_outlook,
     take_end, which_groups,
 };
-pub use port::{Port, count, give, idle_ports, keep_reserved, next_op, reserve_answer, uncount};
+pub use port::{
+    Port, count, forget, forgotten, give, idle_ports, keep_reserved, next_op, reserve_answer,
+    uncount,
+};
 pub use queries::query_reply;
 pub use same::same_ports;

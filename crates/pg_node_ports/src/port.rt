@@ -8,15 +8,17 @@ use std::alloc::{AllocError, Global};
 pub struct Port {
     /// How many commands came in. They are numbered from 1.
     pub count: u32,
-    /// The answers that were given, in the order in which they were given.
+    /// The answers that were given and not forgotten, in the order in which they were given.
     pub answers: Vec<Answer>,
+    /// How many answers were forgotten, which were given before those.
+    pub forgotten: u64,
 }
 
-ghost use Rattle.std.specs.Prelude.{◌≡◌, ◌≢◌, ◌<◌, ◌+◌, ◌^◌, ◌++◌, ℕ, [], ◌∷◌, nat_eq};
+ghost use Rattle.std.specs.Prelude.{◌≡◌, ◌≢◌, ◌<◌, ◌+◌, ◌^◌, ◌++◌, ℕ, [], ◌∷◌, drop, nat_eq};
 ghost use Rattle.std.specs.Prelude.{length, vec_len, vec_capacity, IfOk, IsOk, OnOk};
 ghost use Rattle.pg_node_opens.specs.PgGroup.Functions.{upd};
 ghost use Rattle.pg_node_ports.specs.Ports.{counted_at, HasRoomAt};
-ghost use Rattle.pg_node_ports.specs.Ports.{port_commands, answers_in};
+ghost use Rattle.pg_node_ports.specs.Ports.{port_commands, answers_in, forgotten_in, forgotten_on};
 
 /// So many ports, at which no command came in.
 ///
@@ -25,6 +27,7 @@ pub fn idle_ports(alloc: Global, ports: u16) -> Result<Vec<Port>, AllocError>
     ensures len { IfOk result (λ made. length made.items ≡ ports) }
     ensures counts { IfOk result (λ made. port_commands made.items ≡ (λ port. 0)) }
     ensures answers { IfOk result (λ made. answers_in made.items ≡ (λ port. [])) }
+    ensures forgotten { IfOk result (λ made. forgotten_in made.items ≡ (λ port. 0)) }
     ensures none { ports ≡ 0 → IsOk result }
 {
     let mut made = Vec::with_capacity(alloc, usize::from(ports))?;
@@ -32,6 +35,7 @@ pub fn idle_ports(alloc: Global, ports: u16) -> Result<Vec<Port>, AllocError>
         made.push(Port {
             count: 0,
             answers: Vec::new(alloc),
+            forgotten: 0,
         })?;
     }
     Ok(made)
@@ -47,6 +51,7 @@ pub fn reserve_answer(ports: &mut Vec<Port>, port: u16) -> Result<(), AllocError
     ensures answers { answers_in ports.new.items ≡ answers_in ports.old.items }
     ensures ok { OnOk result (HasRoomAt ports.new.items port) }
     ensures succeeds { HasRoomAt ports.old.items port → IsOk result }
+    ensures forgotten { forgotten_in ports.new.items ≡ forgotten_in ports.old.items }
     ensures rooms { (other : ℕ) → HasRoomAt ports.old.items other → HasRoomAt ports.new.items other }
 {
     let entry = &mut ports[usize::from(port)];
@@ -63,6 +68,7 @@ pub fn give(ports: &mut Vec<Port>, port: u16, reply: Reply)
     ensures counts { port_commands ports.new.items ≡ counted_at port (port_commands ports.old.items) }
     ensures answers { answers_in ports.new.items ≡ upd nat_eq (answers_in ports.old.items) port
         (answers_in ports.old.items port ++ record { number = port_commands ports.old.items port + 1; reply = reply } ∷ []) }
+    ensures forgotten { forgotten_in ports.new.items ≡ forgotten_in ports.old.items }
     ensures rooms { (other : ℕ) → other ≢ port → HasRoomAt ports.old.items other → HasRoomAt ports.new.items other }
 {
     let entry = &mut ports[usize::from(port)];
@@ -77,6 +83,7 @@ pub fn count(ports: &mut Vec<Port>, port: u16)
     ensures len { length ports.new.items ≡ length ports.old.items }
     ensures counts { port_commands ports.new.items ≡ counted_at port (port_commands ports.old.items) }
     ensures answers { answers_in ports.new.items ≡ answers_in ports.old.items }
+    ensures forgotten { forgotten_in ports.new.items ≡ forgotten_in ports.old.items }
     ensures rooms { (other : ℕ) → HasRoomAt ports.old.items other → HasRoomAt ports.new.items other }
 {
     let entry = &mut ports[usize::from(port)];
@@ -90,6 +97,7 @@ pub fn uncount(ports: &mut Vec<Port>, port: u16)
     ensures len { length ports.new.items ≡ length ports.old.items }
     ensures counts { (counts : ℕ → ℕ) → port_commands ports.old.items ≡ counted_at port counts → port_commands ports.new.items ≡ counts }
     ensures answers { answers_in ports.new.items ≡ answers_in ports.old.items }
+    ensures forgotten { forgotten_in ports.new.items ≡ forgotten_in ports.old.items }
     ensures rooms { (other : ℕ) → HasRoomAt ports.old.items other → HasRoomAt ports.new.items other }
 {
     let entry = &mut ports[usize::from(port)];
@@ -117,10 +125,34 @@ pub fn keep_reserved(ports: &mut Vec<Port>, op: OpId, reply: Reply)
         (answers_in ports.old.items op.port ++ record { number = op.number; reply = reply } ∷ []) }
     ensures counts { port_commands ports.new.items ≡ port_commands ports.old.items }
     ensures len { length ports.new.items ≡ length ports.old.items }
+    ensures forgotten { forgotten_in ports.new.items ≡ forgotten_in ports.old.items }
     ensures rooms { (other : ℕ) → other ≢ op.port → HasRoomAt ports.old.items other → HasRoomAt ports.new.items other }
 {
     let port = &mut ports[usize::from(op.port)];
     port.answer(op.number, reply);
+}
+
+/// Forgets the first answers of a port: all, where there are fewer. It takes no memory, and no port loses room.
+pub fn forget(ports: &mut Vec<Port>, port: u16, count: usize)
+    requires place { port < length ports.old.items }
+    ensures len { length ports.new.items ≡ length ports.old.items }
+    ensures counts { port_commands ports.new.items ≡ port_commands ports.old.items }
+    ensures answers { answers_in ports.new.items ≡ upd nat_eq (answers_in ports.old.items) port (drop count (answers_in ports.old.items port)) }
+    ensures forgotten { forgotten_in ports.new.items ≡ upd nat_eq (forgotten_in ports.old.items) port
+        (forgotten_on (forgotten_in ports.old.items port) count (length (answers_in ports.old.items port))) }
+    ensures rooms { (other : ℕ) → HasRoomAt ports.old.items other → HasRoomAt ports.new.items other }
+{
+    let entry = &mut ports[usize::from(port)];
+    entry.forget(count);
+}
+
+/// How many answers of a port were forgotten. It takes no memory.
+pub fn forgotten(ports: &Vec<Port>, port: u16) -> u64
+    requires place { port < length ports.now.items }
+    ensures { result ≡ forgotten_in ports.now.items port }
+{
+    let entry = &ports[usize::from(port)];
+    entry.forgotten
 }
 
 impl Port {
@@ -128,6 +160,7 @@ impl Port {
     fn reserve(&mut self) -> Result<(), AllocError>
         ensures count { self.new.count ≡ self.old.count }
         ensures answers { self.new.answers.items ≡ self.old.answers.items }
+        ensures forgotten { self.new.forgotten ≡ self.old.forgotten }
         ensures ok { OnOk result (vec_len self.new.answers < vec_capacity self.new.answers) }
         ensures succeeds { vec_len self.old.answers < vec_capacity self.old.answers → IsOk result }
         ensures room { vec_len self.old.answers < vec_capacity self.old.answers → vec_len self.new.answers < vec_capacity self.new.answers }
@@ -140,7 +173,20 @@ impl Port {
         requires { vec_len self.old.answers < vec_capacity self.old.answers }
         ensures count { self.new.count ≡ self.old.count }
         ensures answers { self.new.answers.items ≡ self.old.answers.items ++ record { number = number; reply = reply } ∷ [] }
+        ensures forgotten { self.new.forgotten ≡ self.old.forgotten }
     {
         self.answers.push_reserved(Answer { number, reply });
+    }
+
+    /// Forgets the first answers: all, where there are fewer.
+    fn forget(&mut self, count: usize)
+        ensures counts { self.new.count ≡ self.old.count }
+        ensures answers { self.new.answers.items ≡ drop count self.old.answers.items }
+        ensures forgotten { self.new.forgotten ≡ forgotten_on self.old.forgotten count (length self.old.answers.items) }
+        ensures room { vec_len self.old.answers < vec_capacity self.old.answers → vec_len self.new.answers < vec_capacity self.new.answers }
+    {
+        let went = count.min(self.answers.len());
+        drop(self.answers.drain(..went));
+        self.forgotten = self.forgotten.saturating_add(went as u64);
     }
 }

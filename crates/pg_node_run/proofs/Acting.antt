@@ -14,7 +14,7 @@ use Rattle.pg_node.specs.PgNodeState.Issued.{ports_of}
 use Rattle.pg_node.specs.Bytes.{damages, marked}
 use Rattle.pg_node.specs.PgNodeSends.Frames.{frames_to}
 use Rattle.pg_node.specs.Links.{Link, at_link}
-use Rattle.pg_node.specs.Nodes.{held_by, links_of, step_link, ComesInRoom}
+use Rattle.pg_node.specs.Nodes.{held_by, links_of, step_link}
 use Rattle.pg_node.specs.PgNodeState.States.{names_of, state_of, answers_of, Happens, Comes}
 use Rattle.pg_node_run.specs.declared.linked.LinkedNode.{LinkedNode}
 use Rattle.pg_node_run.specs.Acts.{Act, Standing, ActLeads, event_of, is_from, losses_of}
@@ -38,21 +38,12 @@ pub record HappenedBy (names : List Name) (told : Result TimedTurn Refusal) (don
   pub happens : Happens names turn done s before after
 
 pub happened_by : (names : List Name) (told : Result TimedTurn Refusal) (done : FramedDone) (s : Timed State) (before after : ℕ → List Answer)
-    → ComesInRoom names told (Ok done) s before after → HappenedBy names told done s before after
+    → Comes names told (Ok done) s before after → HappenedBy names told done s before after
 happened_by names (Ok turn) done s before after came = record { turn = turn; made = refl; happens = came }
 happened_by names (Err refusal) done s before after came = absurd (cc)
 
--- where no room was made first it is no less
-pub in_room : (names : List Name) (told : Result TimedTurn Refusal) (fault : NodeFault) (s : Timed State) (before after : ℕ → List Answer)
-    → Comes {h = frames.ghosts} names told (Err fault) s before after → ComesInRoom names told (Err fault) s before after
-in_room names told OutOfMemory s before after came = tt
-in_room names told (Refused other) s before after came = came
-in_room names told (Message other) s before after came = came
-in_room names told TooLong s before after came = came
-in_room names told Damaged s before after came = came
-
 pub refused_as : (names : List Name) (told : Result TimedTurn Refusal) (fault : NodeFault) (s : Timed State) (before after : ℕ → List Answer)
-    → ComesInRoom names told (Err fault) s before after → IsRefusedAs told fault
+    → Comes {h = frames.ghosts} names told (Err fault) s before after → IsRefusedAs told fault
 refused_as names told OutOfMemory s before after came = tt
 refused_as names (Err refusal) (Refused other) s before after came = cc
 refused_as names (Err refusal) (Message other) s before after came = cc

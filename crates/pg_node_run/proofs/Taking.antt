@@ -22,7 +22,7 @@ use Rattle.pg_node.specs.PgNodeState.declared.state.NodeState.{NodeState}
 use Rattle.pg_node.specs.PgNodeState.Issued.{ports_of}
 use Rattle.pg_node.specs.PgNodeSends.Frames.{AreSmallFrames}
 use Rattle.pg_node.specs.Links.{Link, at_link}
-use Rattle.pg_node.specs.Nodes.{held_by, has_lost, links_of, sent_out, step_link, taken_as, taken_of, ComesInRoom, TakesNext}
+use Rattle.pg_node.specs.Nodes.{held_by, has_lost, links_of, sent_out, step_link, taken_as, taken_of, TakesNext}
 use Rattle.pg_node.specs.PgNodeSends.Sendable.{AreSendable}
 use Rattle.pg_node.specs.PgNodeState.States.{names_of, nodes_of, state_of, answers_of, step_see_loss, Gave, Comes}
 use Rattle.pg_node.specs.PgNodeSends.Sent.{stamped_of}
@@ -87,7 +87,7 @@ next_is link packet e =
 pub record TookPacket (names : List Name) (set : Nodes) (p : Name) (link : Link) (done : FramedDone) (s0 s : Timed State) (before after : ℕ → List Answer) : Type 0 where
   pub packet : Packet
   pub next : next_packet link ≡ Ok (Some packet)
-  pub came : ComesInRoom names (step_take set p (stamped_of packet) s0) (Ok done) s before after
+  pub came : Comes names (step_take set p (stamped_of packet) s0) (Ok done) s before after
 
 module _ (names : List Name) (set : Nodes) (p : Name) (link : Link) (s0 s : Timed State) (before after : ℕ → List Answer) where
   pub took_packet : (done : FramedDone) → TakesNext names (step_link set p link s0) (Ok (Some done)) s0 s before after → TookPacket names set p link done s0 s before after
@@ -95,7 +95,7 @@ module _ (names : List Name) (set : Nodes) (p : Name) (link : Link) (s0 s : Time
     where
       by_turn : (packet : Packet) (r : Result TimedTurn Refusal) → next_packet link ≡ Ok (Some packet) → step_take set p (stamped_of packet) s0 ≡ r
           → TakesNext names (taken_as r) (Ok (Some done)) s0 s before after → TookPacket names set p link done s0 s before after
-      by_turn packet (Ok t) next is h = record { packet = packet; next = next; came = subst (λ r. ComesInRoom names r (Ok done) s before after) (sym is) h }
+      by_turn packet (Ok t) next is h = record { packet = packet; next = next; came = subst (λ r. Comes names r (Ok done) s before after) (sym is) h }
       by_turn packet (Err refusal) next is h = absurd (cc)
 
       by_read : (r : Result (Option Packet) NodeFault) → next_packet link ≡ r → TakesNext names (taken_of set p s0 r) (Ok (Some done)) s0 s before after
@@ -241,7 +241,7 @@ module _ {T L I : Type 0} {g : Ghosts T} (accepts : L → List ℕ → L → Typ
 
   -- a packet was taken, and that was logged
   pub take_acts : (a b : LinkedNode T L I g) (m m2 : Node T g) (peer : ℕ) (packet : Packet) (done : FramedDone) → peer + 1 < length (names_of (held_by (node_of a))) → next_packet (links_of (node_of a) peer) ≡ Ok (Some packet)
-      → ComesInRoom (names_of (held_by (node_of a)))
+      → Comes (names_of (held_by (node_of a)))
       (step_take (nodes_of (held_by (node_of a))) (name_at (names_of (held_by (node_of a))) (peer + 1)) (stamped_of packet) (state_of (held_by (node_of a))))
       (Ok done) (state_of (held_by m)) (answers_of (held_by (node_of a))) (answers_of (held_by m))
       → AreSendable (names_of (held_by (node_of a))) (listed_of done.sends) → AreSmallFrames (listed_of done.sends)
@@ -291,7 +291,7 @@ module _ {T L I : Type 0} {g : Ghosts T} (accepts : L → List ℕ → L → Typ
 
   -- an action was made, and that was logged
   pub action_acts : (a b : LinkedNode T L I g) (m m2 : Node T g) (action : Action) (done : FramedDone)
-      → ComesInRoom (names_of (held_by (node_of a)))
+      → Comes (names_of (held_by (node_of a)))
       (step_act (nodes_of (held_by (node_of a))) (ports_of (held_by (node_of a))) action (state_of (held_by (node_of a))))
       (Ok done) (state_of (held_by m)) (answers_of (held_by (node_of a))) (answers_of (held_by m))
       → AreSendable (names_of (held_by (node_of a))) (listed_of done.sends) → AreSmallFrames (listed_of done.sends)

@@ -40,6 +40,7 @@ stays_too {before} {after} result h = record {
   answers = on_err result (answers_of after ≡ answers_of before) h.answers;
   names = h.names;
   ports = h.ports;
+  forgotten = h.forgotten;
 }
 
 -- a clause on successes, by another

@@ -2,6 +2,7 @@
 use Rattle.std.proofs.Common.{◌≡◌, ◌<◌, ◌≤◌, ◌+◌, ◌∙◌, ℕ, Bool, true, false, not, cond, drop}
 use Rattle.std.proofs.Common.{List, Option, Some, None, Result, Ok, Err, refl, sym, ap, subst}
 use Rattle.std.specs.Option.{is_some}
+use Rattle.std.specs.Prelude.{IsOk}
 use Rattle.std.proofs.lemmas.Bool.{le-leb, lt-ltb}
 use Rattle.pg_node_ports.specs.PgEnds.declared.fault.EndFault.{EndFault}
 use Rattle.pg_node_ports.specs.PgEnds.declared.fault.EndFault.TheVariants as end
@@ -111,27 +112,40 @@ reads_table (Closest name word) e = λ m op s. refl
 formed_whole : {T : Type 0} {g : Ghosts T} (node : NodeState T g) → formed (nodes_of node) (kept_by node) ≡ formed (live_of node) (kept_by node)
 formed_whole node = all_left (lost_of node.opens) (merged_in (names_of node) node.formation) (drop 1 (names_of node)) node.forgotten
 
-pub end_unformed : {T : Type 0} {g : Ghosts T} (node : NodeState T g) (pid : Pid) → same_atom pid.node (name_at (names_of node) 0) ≡ true → formed (live_of node) (kept_by node) ≡ false
-    → Some NotFormed ≡ fault_of (nodes_of node) (kept_by node) (Finish pid)
-end_unformed node pid here unformed = λ i. cond (not (sym here i)) (Some ForeignPid) (cond (not (sym (formed_whole node ∙ unformed) i)) (Some NotFormed)
-    (cond (not (is_among (made_of node.processes) pid)) (Some NotMade) (cond (ended_of node.ended pid) (Some AlreadyEnded) None)))
+-- the faults of an end, where it is known whose the process is, whether the node is formed, and what its processes are
+abbrev refused_end : (own formed made ended : Bool) → Option CommandFault
+refused_end own formed made ended = cond (not own) (Some ForeignPid) (cond (not formed) (Some NotFormed) (cond (not made) (Some NotMade) (cond ended (Some AlreadyEnded) None)))
 
--- what the end of a process of a formed node is refused by, as the processes tell
-abbrev pub end_told : Result (Unit {0}) EndFault → Option CommandFault
-end_told (Err end.NotMade) = Some NotMade
-end_told (Err end.AlreadyEnded) = Some AlreadyEnded
-end_told told = None
+module _ {T : Type 0} {g : Ghosts T} (node : NodeState T g) (pid : Pid) (told : Result (Unit {0}) EndFault) (is : told ≡ finish_of node.processes pid (ended_of node.ended)) where
+  abbrev own : Bool
+  own = same_atom pid.node (name_at (names_of node) 0)
 
-ends_told : (made ended : Bool) → end_told (cond made (cond ended (Err end.AlreadyEnded) (Ok tt)) (Err end.NotMade)) ≡ cond (not made) (Some NotMade) (cond ended (Some AlreadyEnded) None)
-ends_told false ended = refl
-ends_told true true = refl
-ends_told true false = refl
+  abbrev made : Bool
+  made = is_among (made_of node.processes) pid
 
-pub end_refused : {T : Type 0} {g : Ghosts T} (node : NodeState T g) (pid : Pid) (told : Result (Unit {0}) EndFault) → same_atom pid.node (name_at (names_of node) 0) ≡ true → formed (live_of node) (kept_by node) ≡ true
-    → told ≡ finish_of node.processes pid (ended_of node.ended) → end_told told ≡ fault_of (nodes_of node) (kept_by node) (Finish pid)
-end_refused node pid told here is_formed is =
-    let made = is_among (made_of node.processes) pid in
-    let ended = ended_of node.ended pid in
-    ap end_told (is ∙ (λ i. cond ((ap (λ (own : Node). same_atom pid.node own) node.own ∙ here) i) (cond made (cond ended (Err end.AlreadyEnded) (Ok tt)) (Err end.NotMade)) (Err end.ForeignPid)))
-    ∙ (ends_told made ended ∙ (λ i. cond (not (sym here i)) (Some ForeignPid) (cond (not (sym (formed_whole node ∙ is_formed) i)) (Some NotFormed)
-    (cond (not made) (Some NotMade) (cond ended (Some AlreadyEnded) None)))))
+  abbrev ended : Bool
+  ended = ended_of node.ended pid
+
+  tells : told ≡ cond own (cond made (cond ended (Err end.AlreadyEnded) (Ok tt)) (Err end.NotMade)) (Err end.ForeignPid)
+  tells = is ∙ (λ i. cond (same_atom pid.node (node.own i)) (cond made (cond ended (Err end.AlreadyEnded) (Ok tt)) (Err end.NotMade)) (Err end.ForeignPid))
+
+  refuses : (is_formed : Bool) → is_formed ≡ formed (live_of node) (kept_by node) → refused_end own is_formed made ended ≡ fault_of (nodes_of node) (kept_by node) (Finish pid)
+  refuses is_formed same = ap (λ b. refused_end own b made ended) (same ∙ sym (formed_whole node))
+
+  pub end_unformed : (is_formed : Bool) → is_formed ≡ formed (live_of node) (kept_by node) → is_formed ≡ false → (told ≡ Err end.ForeignPid → ⊥) → Some NotFormed ≡ fault_of (nodes_of node) (kept_by node) (Finish pid)
+  end_unformed is_formed same unformed apart = go own tells ∙ (ap (λ b. refused_end own b made ended) (sym unformed) ∙ refuses is_formed same)
+    where
+      go : (b : Bool) → told ≡ cond b (cond made (cond ended (Err end.AlreadyEnded) (Ok tt)) (Err end.NotMade)) (Err end.ForeignPid) → Some NotFormed ≡ refused_end b false made ended
+      go true e = refl
+      go false e = absurd (apart e)
+
+  pub end_refused : (is_formed : Bool) (fault : Option CommandFault) → is_formed ≡ formed (live_of node) (kept_by node) → is_formed ≡ true → (told ≡ Err end.ForeignPid → ⊥)
+      → (told ≡ Err end.NotMade → fault ≡ Some NotMade) → (told ≡ Err end.AlreadyEnded → fault ≡ Some AlreadyEnded) → (IsOk told → fault ≡ None)
+      → fault ≡ fault_of (nodes_of node) (kept_by node) (Finish pid)
+  end_refused is_formed fault same is_so apart unmade again none = go own made ended tells ∙ (ap (λ b. refused_end own b made ended) (sym is_so) ∙ refuses is_formed same)
+    where
+      go : (own made ended : Bool) → told ≡ cond own (cond made (cond ended (Err end.AlreadyEnded) (Ok tt)) (Err end.NotMade)) (Err end.ForeignPid) → fault ≡ refused_end own true made ended
+      go false is_made has_ended e = absurd (apart e)
+      go true false has_ended e = unmade e
+      go true true true e = again e
+      go true true false e = none (subst IsOk (sym e) refl)

@@ -13,6 +13,7 @@ pub mod First
 pub mod Formed
 pub mod Given
 pub mod Kept
+pub mod LeftOut
 pub mod Merged
 pub mod Opened
 pub mod Replied

@@ -12,6 +12,7 @@ pub use Rattle.pg_node_ports.specs.PgGroup
 pub use Rattle.pg_node_ports.specs.PgLock
 pub use Rattle.pg_node_ports.specs.PgMessageTypes
 pub use Rattle.pg_node_ports.specs.PgMulticall
+pub use Rattle.pg_node_ports.specs as PgNodePorts
 pub use Rattle.pg_node_ports.specs.PgNodeOpens
 pub use Rattle.pg_node_ports.specs.PgQuery
 pub use Rattle.pg_node_ports.specs.PgRefs

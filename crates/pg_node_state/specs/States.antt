@@ -1,6 +1,6 @@
 -- What a node's state is seen as, and what an event makes of it.
 use Rattle.std.specs.Prelude.{◌≡◌, ℕ, ◌+◌, ◌++◌, Bool, true, false, not, cond, max}
-use Rattle.std.specs.Prelude.{nat_eq, List, [], ◌∷◌, Option, Some, None, Result, Ok, Err, OnErr}
+use Rattle.std.specs.Prelude.{nat_eq, drop, List, [], ◌∷◌, Option, Some, None, Result, Ok, Err, OnErr}
 use Rattle.pg_node_ports.specs.PgGroup.declared.table.GroupTable.{Ghosts}
 use Rattle.pg_node_ports.specs.PgGroup.Ended.{ended_of}
 use Rattle.pg_node_ports.specs.PgGroup.Functions.{upd}
@@ -26,14 +26,14 @@ use Rattle.pg_node_ports.specs.PgStep.Losses.{see_loss}
 use Rattle.pg_node_ports.specs.PgStep.Turns.{NodeTurn}
 use Rattle.pg_node_ports.specs.PgStep.Step.{TimedTurn, at_clock, timed}
 use Rattle.pg_node_ports.specs.PgStep.declared.refusal.Refusal.{Refusal}
-use Rattle.pg_node_ports.specs.PgStep.declared.refusal.Refusal.TheVariants.{NodeLost}
+use Rattle.pg_node_ports.specs.PgStep.declared.refusal.Refusal.TheVariants.{NodeLost, NotAMessage}
 use Rattle.pg_node_state.specs.declared.state.NodeState.{NodeState}
 use Rattle.pg_node_sends.specs.declared.done.Done.{Done}
 use Rattle.pg_node_sends.specs.declared.outgoing.Outgoing.{Ghosts as Listing}
 use Rattle.pg_node_state.specs.declared.state.fault.NodeFault.{NodeFault}
 use Rattle.pg_node_state.specs.declared.state.fault.NodeFault.TheVariants.{Refused, OutOfMemory}
 use Rattle.pg_node_state.specs.Ports.{merged_in}
-use Rattle.pg_node_ports.specs.Ports.{port_commands, answers_in}
+use Rattle.pg_node_ports.specs.Ports.{port_commands, answers_in, forgotten_in}
 use Rattle.pg_node_sends.specs.Sent.{sends_in}
 use Rattle.pg_node_state.specs.Issued.{ports_of}
 
@@ -71,6 +71,14 @@ state_of node = record { clock = node.clock; state = kept_by node }
 
 abbrev pub answers_of : {T : Type 0} {g : Ghosts T} → NodeState T g → ℕ → List Answer
 answers_of node = answers_in node.ports.items
+
+-- how many answers each port has forgotten
+abbrev pub forgotten_of : {T : Type 0} {g : Ghosts T} → NodeState T g → ℕ → ℕ
+forgotten_of node = forgotten_in node.ports.items
+
+-- the answers at each port, where the first of one port are left out: all, where there are fewer
+abbrev pub left_at : (port count : ℕ) → (ℕ → List Answer) → ℕ → List Answer
+left_at port count answers = upd nat_eq answers port (drop count (answers port))
 
 -- ---- what an event makes of it
 
@@ -113,14 +121,27 @@ abbrev pub ComesAt : {S : Type 0} {h : Listing S} → ℕ → List Node → Resu
 ComesAt clock names (Ok t) result s before after = Comes names (Ok (at_clock clock t)) result s before after
 ComesAt clock names (Err refusal) result s before after = Comes names (Err refusal) result s before after
 
+-- whether what a packet leads to is refused, as no message
+abbrev pub IsRefused : Result NodeTurn Refusal → Bool → Type 0
+IsRefused (Ok turn) refused = refused ≡ false
+IsRefused (Err NotAMessage) refused = refused ≡ true
+IsRefused (Err refusal) refused = ⊥
+
+-- what is told of an event for which memory runs out: its refusal, where it is refused
+abbrev pub fault_or_memory : Result TimedTurn Refusal → NodeFault
+fault_or_memory (Ok t) = OutOfMemory
+fault_or_memory (Err refusal) = Refused refusal
+
 -- ---- what stays
 
--- an event that fails changes nothing, and none changes the names of the nodes or how many ports there are
+-- an event that fails changes nothing, and none changes the names of the nodes, how many ports there are, or how many answers were
+-- forgotten
 pub record Stays {T A E : Type 0} {g : Ghosts T} (before after : NodeState T g) (result : Result A E) : Type 0 where
   pub state : OnErr result (state_of after ≡ state_of before)
   pub answers : OnErr result (answers_of after ≡ answers_of before)
   pub names : names_of after ≡ names_of before
   pub ports : ports_of after ≡ ports_of before
+  pub forgotten : forgotten_of after ≡ forgotten_of before
 
 -- ---- memory
 

@@ -7,7 +7,7 @@
 mod laws;
 mod state;
 
-pub use laws::one_form_of_frames;
+pub use laws::{answers_are_given_to_the_rest, one_form_of_frames};
 pub use pg_frame::{
     Deframer, FrameFault, frame_into, front_is_first_of_cut, front_is_first_packet,
     loss_cuts_packets, moving_keeps_packets, pieces_continue, sending_adds_packets, write_frame,

@@ -147,3 +147,61 @@ fn others_are_whole(rt: HostRuntime) {
     check(&rt, rt.alloc(), "formation, turn", Kind::New(A), FORMATION);
     check(&rt, rt.alloc(), "updates, turn", Kind::Formed(A), UPDATES);
 }
+
+// Refusals come whatever memory there is, and before the limit of the clock where they are told first.
+static REFUSALS: &[Turn<'static>] = &[
+    &[Told(Command("delete a 7")), Told(Command("delete a 8"))],
+    &[Told(Take(1, "{3,{reply,#<a/1.1.0.0>,false}}"))],
+    &[Told(Take(0, "{1073741823,{reply,#<a/1.77.0.0>,ok}}"))],
+    &[Seen(Clock(1_073_741_824))],
+    &[Refused(Retry(1), Refusal::ClockFull)],
+    &[Refused(Retry(2), Refusal::NotWaiting)],
+    &[Refused(Command("delete a 9"), Refusal::ClockFull)],
+    &[Refused(Command("end a <b.1.0>"), Refusal::ClockFull)],
+    &[Refused(Take(0, "{9,{reply,#<a/1.77.0.0>,ok}}"), Refusal::ClockFull)],
+    &[Refused(Take(0, "{0,{cast,{exchange,b,[]}}}"), Refusal::ClockFull)],
+    &[Refused(Loss(0, 7), Refusal::ClockFull)],
+];
+
+// A peer that was lost says nothing more, and an exchange that came before comes again.
+static LOST_PEER: &[Turn<'static>] = &[
+    &[Refused(Take(1, "{0,{cast,{exchange,b,[]}}}"), Refusal::NotAMessage)],
+    &[Refused(Take(0, "{0,{cast,{exchange,b,[]}}}"), Refusal::NotAMessage)],
+    &[Told(Loss(1, 9))],
+    &[Refused(Loss(1, 9), Refusal::NodeLost)],
+    &[Refused(
+        Take(1, "{9,{call,#<c/1.1.0.0>,{create,7}}}"),
+        Refusal::NodeLost,
+    )],
+];
+
+// The first answers are forgotten, and those that come later stand after what is left.
+static FORGOTTEN: &[Turn<'static>] = &[
+    &[Forgets(1, 0, 0)],
+    &[Told(Command("create a 7")), Told(Command("make a"))],
+    &[Told(Command("make a")), Told(Command("groups a"))],
+    &[Forgets(0, 4, 0), Forgets(1, 3, 1), Answered("a 4 [7]")],
+    &[Asked("make a", "a 5 <a.3.0>"), Seen(Answers(4))],
+    &[Forgets(3, 1, 4), Answered("a 5 <a.3.0>")],
+    &[Forgets(7, 0, 5), Forgets(7, 0, 5)],
+    &[Asked("make a", "a 6 <a.4.0>"), Forgets(1, 0, 6)],
+];
+
+#[test]
+fn refusals_and_forgotten_answers(rt: HostRuntime) {
+    check(&rt, rt.alloc(), "refusals, turn", Kind::Formed(A), REFUSALS);
+    check(
+        &rt,
+        rt.alloc(),
+        "a lost peer, turn",
+        Kind::Formed(A),
+        LOST_PEER,
+    );
+    check(
+        &rt,
+        rt.alloc(),
+        "forgotten answers, turn",
+        Kind::Lone,
+        FORGOTTEN,
+    );
+}

@@ -20,8 +20,10 @@ pub enum Row<'a> {
     Often(u32, Event<'a>),
     /// So many groups of different names are to be created.
     Creates(u32),
-    /// The event is refused, and changes nothing.
+    /// The event is refused, whatever memory there is, and changes nothing.
     Refused(Event<'a>, Refusal),
+    /// So many answers of the port are forgotten, and how many are kept and were forgotten then.
+    Forgets(usize, usize, u64),
     /// The event happens at the first node alone, or at the other, and whether both are the same then, and but for their clocks.
     Alone(bool, Event<'a>, bool, bool),
     /// What the last event did.
@@ -67,6 +69,15 @@ struct Twins {
 fn create_line(rt: &impl Abort, alloc: Global, number: u32) -> String {
     let line = format!(in alloc; "create a {number}");
     either(rt, line, format!(in alloc; "create a {number}"))
+}
+
+// Whether so many answers are kept, and so many were forgotten, once so many are forgotten.
+fn has_forgotten(node: &mut State, count: usize, kept: usize, forgotten: u64) -> bool {
+    if node.port_count() != 1 {
+        return false;
+    }
+    node.forget_answers(0, count);
+    node.port_count() == 1 && node.answers(0).len() == kept && node.forgotten(0) == forgotten
 }
 
 impl Twins {
@@ -129,12 +140,25 @@ impl Twins {
         are_told
     }
 
-    // Whether the event is refused so at both, which are the same then.
+    // Whether the event is refused so at both, which are the same then. It is told once: no refusal needs memory.
     fn refuse(&mut self, alloc: Global, event: Event<'_>, refusal: Refusal) -> bool {
         let wanted = Some(NodeFault::Refused(refusal));
-        self.tell_one(alloc, event).err() == wanted
-            && self.tell_other(alloc, event).err() == wanted
+        happens(alloc, &mut self.one, event).err() == wanted
+            && happens(alloc, &mut self.other, event).err() == wanted
             && self.are_same()
+    }
+
+    // Whether so many answers are kept once so many were forgotten at both, which are the same but while one has forgotten them alone; and
+    // how many were forgotten so far, at a copy too.
+    fn forget(&mut self, rt: &impl Abort, count: usize, kept: usize, forgotten: u64) -> bool {
+        let is_copied = has_forgotten(&mut self.one, count, kept, forgotten)
+            && (kept == 0 || count == 0 || !self.are_same())
+            && has_forgotten(&mut self.other, count, kept, forgotten)
+            && self.are_same();
+        let mut copy = either(rt, self.one.copy(), self.one.copy());
+        let is_same = has_forgotten(&mut copy, 0, kept, forgotten);
+        drop(copy);
+        is_copied && is_same
     }
 
     // Whether the event happens at one of them alone.
@@ -170,6 +194,7 @@ impl Twins {
                     && has_answered(alloc, &self.one, answer)
             }
             Row::Refused(event, refusal) => self.refuse(alloc, *event, *refusal),
+            Row::Forgets(count, kept, forgotten) => self.forget(rt, *count, *kept, *forgotten),
             Row::Alone(is_first, event, same, alike) => {
                 self.tells_alone(alloc, *is_first, *event)
                     && self.are_same() == *same

@@ -55,13 +55,29 @@ const NO_PLACE: NodeFault = NodeFault::Refused(Refusal::NoSuchPlace);
 pub fn happens(alloc: Global, node: &mut State, event: Event<'_>) -> Result<Did, NodeFault> {
     match event {
         Event::Command(line) => {
-            with!(command_of(alloc, line), Some command => told(given(node, &command)), else NO_MEMORY)
+            with!(command_in(alloc, line), Some command => told(given(node, &command)), else NO_MEMORY)
         }
         Event::Take(peer, text) => {
-            with!(packet_of(alloc, text), Some packet => told(taken(node, peer, &packet)), else NO_MEMORY)
+            with!(packet_in(alloc, text), Some packet => told(taken(node, peer, &packet)), else NO_MEMORY)
         }
         Event::Retry(number) => told(retried(node, number)),
         Event::Loss(peer, last) => told(lost(node, peer, last)),
+    }
+}
+
+// The command in a line, which is read a second time where memory was refused: what the node is told is its own.
+fn command_in(alloc: Global, line: &str) -> Option<Command> {
+    match command_of(alloc, line) {
+        Some(command) => Some(command),
+        None => command_of(alloc, line),
+    }
+}
+
+// The packet in a text, as `command_in`.
+fn packet_in(alloc: Global, text: &str) -> Option<Packet> {
+    match packet_of(alloc, text) {
+        Some(packet) => Some(packet),
+        None => packet_of(alloc, text),
     }
 }
 

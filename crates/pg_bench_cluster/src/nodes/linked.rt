@@ -149,7 +149,13 @@ impl Player for OverBytes {
         true
     }
 
-    fn answered(&self) -> usize {
+    fn answered(&self) -> u64 {
         answered(self.node.state())
+    }
+
+    fn forget(&mut self) {
+        if self.node.state().port_count() == 1 {
+            self.node.forget_answers(0, usize::MAX);
+        }
     }
 }

@@ -56,10 +56,12 @@ fn state_of(
     NodeState::started(alloc, config, table)
 }
 
-/// How many commands of the port of a node are answered.
-pub fn answered(state: &NodeState<IndexTable>) -> usize {
+/// How many commands of the port of a node are answered, those whose answers were forgotten too.
+pub fn answered(state: &NodeState<IndexTable>) -> u64 {
     if state.port_count() == 1 {
-        state.answers(0).len()
+        state
+            .forgotten(0)
+            .saturating_add(state.answers(0).len() as u64)
     } else {
         0
     }

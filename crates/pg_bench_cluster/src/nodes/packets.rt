@@ -70,7 +70,13 @@ impl Player for OverPackets {
         true
     }
 
-    fn answered(&self) -> usize {
+    fn answered(&self) -> u64 {
         answered(&self.node)
+    }
+
+    fn forget(&mut self) {
+        if self.node.port_count() == 1 {
+            self.node.forget_answers(0, usize::MAX);
+        }
     }
 }

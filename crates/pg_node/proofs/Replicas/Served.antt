@@ -13,7 +13,7 @@ use Rattle.pg_node.specs.declared.replica.fault.ServeFault.{ServeFault}
 use Rattle.pg_node_state.specs.PgMessageTypes.declared.fault.MessageFault.TheVariants.{Term}
 use Rattle.pg_node.specs.declared.replica.fault.ServeFault.TheVariants.{Message, FrameTooLong, ClockFull}
 use Rattle.pg_node.specs.declared.replica.fault.ServeFault.TheVariants.{ReadFault, WriteFault}
-use Rattle.pg_node.specs.Replicas.Causes.{Cause, AllAnswered, GaveChunks, InTurn, Unread, IsFlushed, LeavesFlushed, joined}
+use Rattle.pg_node.specs.Replicas.Causes.{Cause, AllAnswered, EachGave, Gave, GaveChunks, InTurn, Unread, IsFlushed, LeavesFlushed, joined}
 use Rattle.pg_node_state.specs.PgMessageTypes.declared.fault.MessageFault.{MessageFault}
 use Rattle.pg_node_state.specs.PgMessageTypes.declared.packet.Packet.{Packet}
 use Rattle.pg_node_state.specs.PgMessageTypes.Reading.{packet_spelled}
@@ -147,6 +147,19 @@ cause_of unread unwritten WriteFault h = unwritten h
 pub gave_more : {R : Type 0} (gives : R → List ℕ → R → Type 0) (old now new : R) (n : ℕ) (pieces : List (List ℕ)) (piece : List ℕ)
     → GaveChunks gives old pieces now × (length pieces ≡ n) → gives now piece new → 0 < length piece → GaveChunks gives old (piece ∷ pieces) new × (length (piece ∷ pieces) ≡ n + 1)
 gave_more gives old now new n pieces piece h gave some = ((now, h.0, gave, some), omega (arith, h.1))
+
+-- each read gave some bytes, the last one too
+pub each_gave : {R : Type 0} (gives : R → List ℕ → R → Type 0) (old now new : R) (n : ℕ) (pieces : List (List ℕ))
+    → GaveChunks gives old pieces now × (length pieces ≡ n) → Gave gives now new → EachGave gives old new
+each_gave gives old now new n pieces h last = (last.0 ∷ pieces, (now, h.0, last.1, last.2))
+
+-- a fault of a read is told of a read too
+pub read_too : (fault : ServeFault) → ◌≡◌ {A = Result (Unit {0}) ServeFault} (Err fault) (Err out_of_memory) → ◌≡◌ {A = Result Bool ServeFault} (Err fault) (Err out_of_memory)
+read_too fault is = ap (λ (r : Result (Unit {0}) ServeFault). go r) is
+  where
+    go : Result (Unit {0}) ServeFault → Result Bool ServeFault
+    go (Ok _) = Ok true
+    go (Err fault) = Err fault
 
 module _ {R : Type 0} (gives : R → List ℕ → R → Type 0) (fails : R → R → Type 0) (old now : R) (n : ℕ) (pair : Pair) (r0 r1 : Option (List ℕ)) (unread : List ℕ) (s : State) (out0 out1 : Option (List ℕ))
     (v : Serving pair (λ (pieces : List (List ℕ)). GaveChunks gives old pieces now × (length pieces ≡ n)) r0 r1 unread s out0 out1) where

@@ -21,6 +21,14 @@ abbrev pub GaveChunks : {R : Type 0} → (R → List ℕ → R → Type 0) → R
 GaveChunks gives old [] new = new ≡ old
 GaveChunks {R} gives old (piece ∷ earlier) new = (before : R) × GaveChunks gives old earlier before × gives before piece new × (0 < length piece)
 
+-- each read so far gave some bytes: none failed, and none was at the end of the input
+abbrev pub EachGave : {R : Type 0} → (R → List ℕ → R → Type 0) → R → R → Type 0
+EachGave gives old new = (pieces : List (List ℕ)) × GaveChunks gives old pieces new
+
+-- a read gave some bytes
+abbrev pub Gave : {R : Type 0} → (R → List ℕ → R → Type 0) → R → R → Type 0
+Gave gives old new = (piece : List ℕ) × gives old piece new × (0 < length piece)
+
 -- pieces, the last of them first, as one list of bytes
 abbrev pub joined : List (List ℕ) → List ℕ
 joined [] = []

@@ -15,9 +15,11 @@ impl<T: GroupTable + Drop> Node<T> {
     ghost use Rattle.pg_node_state.specs.PgStep.Step.{Issue, Retry, step_act, step_take};
     ghost use Rattle.pg_node_state.specs.PgStep.declared.refusal.Refusal.TheVariants.{NodeLost};
     ghost use Rattle.pg_node_state.specs.declared.state.fault.NodeFault.TheVariants.{Refused};
-    ghost use Rattle.pg_node.specs.Bytes.{ReadsNext, next_packet, marked, passed, closed};
+    ghost use Rattle.pg_node.specs.Bytes.{ReadsNext, IsSeenBroken, next_packet, marked, passed, closed};
+    ghost use Rattle.pg_node_state.specs.PgMessageTypes.declared.fault.MessageFault.{MessageFault};
+    ghost use Rattle.pg_node_state.specs.NodeFault.{from_message};
     ghost use Rattle.pg_node.specs.Nodes.{held_by, links_of, has_lost, read_next, step_link};
-    ghost use Rattle.pg_node.specs.Nodes.{buffer_of, taken_of, TakesNext, ComesInRoom, sent_out, step_lose};
+    ghost use Rattle.pg_node.specs.Nodes.{buffer_of, taken_of, TakesNext, sent_out, step_lose};
     ghost use Rattle.pg_node_state.specs.PgNodeSends.Dones.{FramedDone};
     ghost use Rattle.pg_node_state.specs.PgNodeSends.Framed.{listed_of};
     ghost use Rattle.pg_node_state.specs.PgNodeSends.Frames.{AreSmallFrames};
@@ -35,7 +37,8 @@ impl<T: GroupTable + Drop> Node<T> {
     /// Errors: `Refused` by `NodeLost` where the loss of the peer was seen; `Damaged`, where the link had a fault
     /// before; `TooLong`; `Message`; `Refused` by `ClockFull` and by `NotAMessage`, as `NodeState::take` has them;
     /// `OutOfMemory` may come in the place of those from `Message` on. `TooLong`, `Message` and `NotAMessage` damage
-    /// the link for good, and change nothing else; no other error changes anything, and the frame stays.
+    /// the link for good, and change nothing else; no other error changes anything, and the frame stays. A `Message` that is
+    /// seen without memory, as `read_packet` has it, is told whatever memory there is.
     ///
     /// Cost: that of the body's length, of the event, and of the frames that go out.
     pub fn take(&mut self, peer: usize) -> Result<Option<Done<Framed>>, NodeFault>
@@ -50,6 +53,8 @@ impl<T: GroupTable + Drop> Node<T> {
         ensures none { result ≡ Ok None → links_of self.new ≡ links_of self.old }
         ensures marked { IfErr result (λ fault. links_of self.new ≡ at_link peer (λ l. marked l fault) (links_of self.old)) }
         ensures lost { has_lost (held_by self.old) peer ≡ true → result ≡ Err (Refused NodeLost) }
+        ensures broken { (fault : MessageFault) → has_lost (held_by self.old) peer ≡ false → IsSeenBroken (links_of self.old peer) fault
+            → result ≡ Err (from_message fault) }
         ensures stays { Stays (held_by self.old) (held_by self.new) result }
     {
         match self.own_reply(peer) {
@@ -74,6 +79,8 @@ impl<T: GroupTable + Drop> Node<T> {
         ensures none { result ≡ Ok None → links_of self.new ≡ links_of self.old }
         ensures marked { IfErr result (λ fault. links_of self.new ≡ at_link peer (λ l. marked l fault) (links_of self.old)) }
         ensures lost { has_lost (held_by self.old) peer ≡ true → result ≡ Err (Refused NodeLost) }
+        ensures broken { (fault : MessageFault) → has_lost (held_by self.old) peer ≡ false → IsSeenBroken (links_of self.old peer) fault
+            → result ≡ Err (from_message fault) }
         ensures stays { Stays (held_by self.old) (held_by self.new) result }
     {
         match self.next(peer) {
@@ -116,12 +123,14 @@ impl<T: GroupTable + Drop> Node<T> {
     ///
     /// Errors: `Refused` by `NodeLost` where the loss of the peer was seen; `Damaged`, `TooLong` and `Message`, as
     /// `take` has them, of which the last two damage the link for good; `OutOfMemory` may come in the place of a
-    /// `Message`. Nothing else changes.
+    /// `Message` that takes memory to be seen. Nothing else changes.
     ///
     /// Cost: that of the body's length.
     pub fn next(&mut self, peer: usize) -> Result<Option<Packet>, NodeFault>
         requires place { peer + 1 < length (names_of (held_by self.old)) }
         ensures told { ReadsNext (read_next (has_lost (held_by self.old) peer) (links_of self.old peer)) result }
+        ensures broken { (fault : MessageFault) → has_lost (held_by self.old) peer ≡ false → IsSeenBroken (links_of self.old peer) fault
+            → result ≡ Err (from_message fault) }
         ensures few { IfOk result (λ some. IfSome some (λ packet. IsShort (2 ^ 32) packet.message)) }
         ensures same { OnOk result (links_of self.new ≡ links_of self.old) }
         ensures marked { IfErr result (λ fault. links_of self.new ≡ at_link peer (λ l. marked l fault) (links_of self.old)) }
@@ -138,15 +147,15 @@ impl<T: GroupTable + Drop> Node<T> {
     /// Takes the packet that `next` has read of a peer, which is the next of its link: what the step sends is framed
     /// in the outboxes. `peer`: its place among the peers. `packet`: that packet.
     ///
-    /// Errors: those of `NodeState::take`, of which `NotAMessage` damages the link for good; `OutOfMemory` may come
-    /// in the place of each. Nothing else changes, and the frame stays.
+    /// Errors: those of `NodeState::take`, in its order, of which `NotAMessage` damages the link for good: a refusal is
+    /// told whatever memory there is. Nothing else changes, and the frame stays.
     ///
     /// Cost: that of the event, and of the frames that go out.
     pub fn take_read(&mut self, peer: usize, packet: &Packet) -> Result<Done<Framed>, NodeFault>
         requires place { peer + 1 < length (names_of (held_by self.old)) }
         requires few { IsShort (2 ^ 32) packet.now.message }
         requires next { next_packet (links_of self.old peer) ≡ Ok (Some packet.now) }
-        ensures event { ComesInRoom (names_of (held_by self.old))
+        ensures event { Comes (names_of (held_by self.old))
             (step_take (nodes_of (held_by self.old)) (name_at (names_of (held_by self.old)) (peer + 1)) (stamped_of packet.now) (state_of (held_by self.old)))
             result (state_of (held_by self.new)) (answers_of (held_by self.old)) (answers_of (held_by self.new)) }
         ensures sent { IfOk result (λ done. (place : ℕ) → links_of self.new place ≡ at_link peer passed (sent_out (listed_of done.sends) (links_of self.old)) place) }
@@ -155,7 +164,14 @@ impl<T: GroupTable + Drop> Node<T> {
         ensures marked { IfErr result (λ fault. links_of self.new ≡ at_link peer (λ l. marked l fault) (links_of self.old)) }
         ensures stays { Stays (held_by self.old) (held_by self.new) result }
     {
-        make_room(&mut self.wires, &mut self.has_room)?;
+        match make_room(&mut self.wires, &mut self.has_room) {
+            Ok(()) => {}
+            Err(AllocError) => {
+                let fault = self.state.take_fault_or_memory(peer, packet);
+                self.mark(peer, fault);
+                return Err(fault);
+            }
+        }
         match self.state.take_as(&mut self.buffer, peer, packet) {
             Ok(done) => {
                 send_all(&mut self.wires, &mut self.has_room, &done.sends);
@@ -176,7 +192,7 @@ impl<T: GroupTable + Drop> Node<T> {
         requires place { peer + 1 < length (names_of (held_by self.old)) }
         requires few { IsShort (2 ^ 32) packet.message }
         requires next { next_packet (links_of self.old peer) ≡ Ok (Some packet) }
-        ensures event { ComesInRoom (names_of (held_by self.old))
+        ensures event { Comes (names_of (held_by self.old))
             (step_take (nodes_of (held_by self.old)) (name_at (names_of (held_by self.old)) (peer + 1)) (stamped_of packet) (state_of (held_by self.old)))
             result (state_of (held_by self.new)) (answers_of (held_by self.old)) (answers_of (held_by self.new)) }
         ensures sent { IfOk result (λ done. (place : ℕ) → links_of self.new place ≡ at_link peer passed (sent_out (listed_of done.sends) (links_of self.old)) place) }
@@ -188,8 +204,10 @@ impl<T: GroupTable + Drop> Node<T> {
         match make_room(&mut self.wires, &mut self.has_room) {
             Ok(()) => {}
             Err(AllocError) => {
+                let fault = self.state.take_fault_or_memory(peer, &packet);
                 drop(packet);
-                return Err(NodeFault::OutOfMemory);
+                self.mark(peer, fault);
+                return Err(fault);
             }
         }
         match self.state.take_owned_as(&mut self.buffer, peer, packet) {
@@ -207,15 +225,25 @@ impl<T: GroupTable + Drop> Node<T> {
         }
     }
 
+    /// Damages the link to a peer, where this fault of what came in does. It takes no memory.
+    pub(crate) fn mark(&mut self, peer: usize, fault: NodeFault)
+        requires place { peer + 1 < length (names_of (held_by self.old)) }
+        ensures marked { links_of self.new ≡ at_link peer (λ l. marked l fault) (links_of self.old) }
+        ensures state { held_by self.new ≡ held_by self.old }
+    {
+        let wire = &mut self.wires[peer];
+        wire.mark(fault);
+    }
+
     /// Takes a command that comes in at a port, as `NodeState::command` does: what the step sends is framed in the
     /// outboxes. `port`: its place among the ports.
     ///
-    /// Errors: those of `NodeState::command`; `OutOfMemory` may come in the place of each. They change nothing.
+    /// Errors: those of `NodeState::command`, in its order: a refusal is told whatever memory there is. They change nothing.
     ///
     /// Cost: that of the event, and of the frames that go out.
     pub fn command(&mut self, port: u16, command: &Command) -> Result<Done<Framed>, NodeFault>
         requires place { port < ports_of (held_by self.old) }
-        ensures event { ComesInRoom (names_of (held_by self.old))
+        ensures event { Comes (names_of (held_by self.old))
             (step_act (nodes_of (held_by self.old)) (ports_of (held_by self.old)) (Issue port command.now) (state_of (held_by self.old)))
             result (state_of (held_by self.new)) (answers_of (held_by self.old)) (answers_of (held_by self.new)) }
         ensures sent { IfOk result (λ done. (place : ℕ) → links_of self.new place ≡ sent_out (listed_of done.sends) (links_of self.old) place) }
@@ -224,7 +252,10 @@ impl<T: GroupTable + Drop> Node<T> {
         ensures kept { OnErr result (links_of self.new ≡ links_of self.old) }
         ensures stays { Stays (held_by self.old) (held_by self.new) result }
     {
-        make_room(&mut self.wires, &mut self.has_room)?;
+        match make_room(&mut self.wires, &mut self.has_room) {
+            Ok(()) => {}
+            Err(AllocError) => return Err(self.state.command_fault_or_memory(port, command)),
+        }
         match self.state.command_as(&mut self.buffer, port, command) {
             Ok(done) => {
                 send_all(&mut self.wires, &mut self.has_room, &done.sends);
@@ -236,12 +267,12 @@ impl<T: GroupTable + Drop> Node<T> {
 
     /// Tries a command again that waits, as `NodeState::retry` does: what the step sends is framed in the outboxes.
     ///
-    /// Errors: those of `NodeState::retry`; `OutOfMemory` may come in the place of each. They change nothing.
+    /// Errors: those of `NodeState::retry`, in its order: a refusal is told whatever memory there is. They change nothing.
     ///
     /// Cost: that of the event, and of the frames that go out.
     pub fn retry(&mut self, op: OpId) -> Result<Done<Framed>, NodeFault>
         requires place { op.port < ports_of (held_by self.old) }
-        ensures event { ComesInRoom (names_of (held_by self.old))
+        ensures event { Comes (names_of (held_by self.old))
             (step_act (nodes_of (held_by self.old)) (ports_of (held_by self.old)) (Retry op) (state_of (held_by self.old)))
             result (state_of (held_by self.new)) (answers_of (held_by self.old)) (answers_of (held_by self.new)) }
         ensures sent { IfOk result (λ done. (place : ℕ) → links_of self.new place ≡ sent_out (listed_of done.sends) (links_of self.old) place) }
@@ -250,7 +281,10 @@ impl<T: GroupTable + Drop> Node<T> {
         ensures kept { OnErr result (links_of self.new ≡ links_of self.old) }
         ensures stays { Stays (held_by self.old) (held_by self.new) result }
     {
-        make_room(&mut self.wires, &mut self.has_room)?;
+        match make_room(&mut self.wires, &mut self.has_room) {
+            Ok(()) => {}
+            Err(AllocError) => return Err(self.state.retry_fault_or_memory(op)),
+        }
         match self.state.retry_as(&mut self.buffer, op) {
             Ok(done) => {
                 send_all(&mut self.wires, &mut self.has_room, &done.sends);

@@ -6,6 +6,7 @@ use crate::node::Node;
 use crate::node::wires::{make_room, send_all};
 use pg_message_reader::OwnReply;
 use pg_node_state::{Done, Framed, GroupTable, NodeFault};
+use std::alloc::AllocError;
 
 impl<T: GroupTable + Drop> Node<T> {
     ghost use Rattle.pg_node_state.specs.PgNodeOpens.Places.{name_at};
@@ -13,12 +14,12 @@ impl<T: GroupTable + Drop> Node<T> {
     ghost use Rattle.pg_node_state.specs.PgStep.Step.{step_take};
     ghost use Rattle.pg_node.specs.Bytes.{next_packet, marked, passed};
     ghost use Rattle.pg_node.specs.Links.{at_link};
-    ghost use Rattle.pg_node.specs.Nodes.{held_by, links_of, has_lost, read_next, sent_out, ComesInRoom};
+    ghost use Rattle.pg_node.specs.Nodes.{held_by, links_of, has_lost, read_next, sent_out};
     ghost use Rattle.pg_node_state.specs.PgNodeSends.Framed.{listed_of};
     ghost use Rattle.pg_node_state.specs.PgNodeSends.Frames.{AreSmallFrames};
     ghost use Rattle.pg_node_state.specs.PgNodeSends.Sendable.{AreSendable};
     ghost use Rattle.pg_node_state.specs.States.{Stays};
-    ghost use Rattle.pg_node_state.specs.States.{names_of, nodes_of, state_of, answers_of};
+    ghost use Rattle.pg_node_state.specs.States.{names_of, nodes_of, state_of, answers_of, Comes};
     ghost use Rattle.pg_node_state.specs.PgNodeSends.Sent.{stamped_of};
 
     /// The next packet of a peer, where that is a reply which is read as numbers, and the loss of the peer was not seen.
@@ -41,7 +42,7 @@ impl<T: GroupTable + Drop> Node<T> {
     ) -> Result<Done<Framed>, NodeFault>
         requires place { peer + 1 < length (names_of (held_by self.old)) }
         requires next { next_packet (links_of self.old peer) ≡ Ok (Some (own_reply (name_at (names_of (held_by self.old)) 0) reply)) }
-        ensures event { ComesInRoom (names_of (held_by self.old))
+        ensures event { Comes (names_of (held_by self.old))
             (step_take (nodes_of (held_by self.old)) (name_at (names_of (held_by self.old)) (peer + 1)) (stamped_of (own_reply (name_at (names_of (held_by self.old)) 0) reply)) (state_of (held_by self.old)))
             result (state_of (held_by self.new)) (answers_of (held_by self.old)) (answers_of (held_by self.new)) }
         ensures sent { IfOk result (λ done. (place : ℕ) → links_of self.new place ≡ at_link peer passed (sent_out (listed_of done.sends) (links_of self.old)) place) }
@@ -50,7 +51,16 @@ impl<T: GroupTable + Drop> Node<T> {
         ensures marked { IfErr result (λ fault. links_of self.new ≡ at_link peer (λ l. marked l fault) (links_of self.old)) }
         ensures stays { Stays (held_by self.old) (held_by self.new) result }
     {
-        make_room(&mut self.wires, &mut self.has_room)?;
+        match make_room(&mut self.wires, &mut self.has_room) {
+            Ok(()) => {}
+            Err(AllocError) => {
+                let fault = self
+                    .state
+                    .reply_fault_or_memory(peer, reply.stamp, reply.number, reply.said);
+                self.mark(peer, fault);
+                return Err(fault);
+            }
+        }
         match self.state.take_own_reply_as(
             &mut self.buffer,
             peer,

@@ -26,9 +26,11 @@ pub(crate) struct Wire {
 impl Wire {
     ghost use Rattle.pg_node_state.specs.PgMessageTypes.Members.{IsShort};
     ghost use Rattle.pg_node_state.specs.declared.state.fault.NodeFault.TheVariants.{Damaged, OutOfMemory};
+    ghost use Rattle.pg_node_state.specs.NodeFault.{from_message};
     ghost use Rattle.pg_node.specs.Links.{idle_link, link_of, with_more, with_fed, without_front, HasFrameRoom};
     ghost use Rattle.pg_message_reader.specs.Own.{own_reply};
-    ghost use Rattle.pg_node.specs.Bytes.{next_packet, ReadsNext, marked, passed, closed, is_drained, is_idle};
+    ghost use Rattle.pg_node.specs.Bytes.{next_packet, ReadsNext, IsSeenBroken, marked, passed, closed, is_drained, is_idle};
+    ghost use Rattle.pg_node_state.specs.PgMessageTypes.declared.fault.MessageFault.{MessageFault};
 
     /// A link where nothing came in and nothing goes out. It takes no memory yet.
     pub(crate) fn new(alloc: Global) -> Wire
@@ -112,9 +114,11 @@ impl Wire {
 
     /// The packet of the next whole frame, which stays. A fault of the frame or of its body damages the link.
     ///
-    /// Errors: `Damaged`; `TooLong`; `Message`. `OutOfMemory` may come in the place of a `Message`.
+    /// Errors: `Damaged`; `TooLong`; `Message`. `OutOfMemory` may come in the place of a `Message` that takes memory to be
+    /// seen, as `read_packet` has it.
     pub(crate) fn next(&mut self, alloc: Global) -> Result<Option<Packet>, NodeFault>
         ensures told { ReadsNext (next_packet (link_of self.old)) result }
+        ensures broken { (fault : MessageFault) → IsSeenBroken (link_of self.old) fault → result ≡ Err (from_message fault) }
         ensures few { IfOk result (λ some. IfSome some (λ packet. IsShort (2 ^ 32) packet.message)) }
         ensures same { OnOk result (link_of self.new ≡ link_of self.old) }
         ensures marked { IfErr result (λ fault. link_of self.new ≡ marked (link_of self.old) fault) }
@@ -132,6 +136,7 @@ impl Wire {
     /// The same, but that nothing is marked.
     fn front_packet(&self, alloc: Global) -> Result<Option<Packet>, NodeFault>
         ensures told { ReadsNext (next_packet (link_of self.now)) result }
+        ensures broken { (fault : MessageFault) → IsSeenBroken (link_of self.now) fault → result ≡ Err (from_message fault) }
         ensures few { IfOk result (λ some. IfSome some (λ packet. IsShort (2 ^ 32) packet.message)) }
     {
         if self.damaged {

@@ -2,7 +2,7 @@ ghost use Rattle.std.specs.Prelude.{◌≡◌, ◌<◌, ◌∷◌, ◌++◌, ⊤
 ghost use Rattle.std.specs.Prelude.{Ok, Err, IfSome, IfOk, IfErr, OnOk, OnErr, ◌⊎◌, ◌==◌, if◌then◌else◌};
 ghost use Rattle.std.specs.Io.KnownBytes.{Appends, Keeps, Consumes, IsAtEnd};
 ghost use Rattle.pg_node_state.specs.PgFrame.Frames.{front_of};
-ghost use Rattle.pg_node.specs.Replicas.Causes.{AllAnswered, Cause, FailedAt, InTurn, LeavesFlushed, Unread};
+ghost use Rattle.pg_node.specs.Replicas.Causes.{AllAnswered, Cause, EachGave, FailedAt, Gave, InTurn, LeavesFlushed, Unread};
 ghost use Rattle.pg_node.specs.Replicas.Fault.{out_of_memory};
 ghost use Rattle.pg_node.specs.Replicas.Replica.{start, pair_of, Serves};
 ghost use Rattle.pg_node_state.specs.States.{names_of, state_of};
@@ -108,6 +108,7 @@ impl<T: GroupTable + Drop> Server<T> {
             (R.remaining reader.new) self.old.deframer.unread self.new.deframer.unread) }
         ensures fault { IfErr result (λ fault. (fault ≡ ReadFault) ⊎ (fault ≡ out_of_memory)) }
         ensures cause { IfErr result (Cause (R.fails reader.old reader.new) ⊥) }
+        ensures memory { result ≡ Err out_of_memory → Gave R.gives reader.old reader.new }
         ensures pair { pair_of self.new.node ≡ pair_of self.old.node }
         ensures state { state_of self.new.node ≡ state_of self.old.node }
     {
@@ -115,8 +116,11 @@ impl<T: GroupTable + Drop> Server<T> {
             Ok(count) => count,
             Err(_) => return Err(ServeFault::ReadFault),
         };
+        if count == 0 {
+            return Ok(false);
+        }
         self.deframer.feed(&piece[..count])?;
-        Ok(count > 0)
+        Ok(true)
     }
 
     /// Serves the whole input.
@@ -129,6 +133,7 @@ impl<T: GroupTable + Drop> Server<T> {
             (AllAnswered (pair_of self.old.node) (W.contents writer.old) (W.contents writer.new)))
             (FailedAt W.fails writer.new)) }
         ensures flushed { LeavesFlushed W.flushed writer.old writer.new result }
+        ensures memory { result ≡ Err out_of_memory → EachGave R.gives reader.old reader.new }
         ensures order { IfErr result (Cause ⊤ (InTurn R.gives W.flushed W.contents reader.old reader.new writer.old writer.new
             (λ between input. AllAnswered (pair_of self.old.node) (W.contents writer.old) (W.contents between) input))) }
     {
@@ -171,7 +176,8 @@ impl<T: GroupTable + Drop> Server<T> {
 ///
 /// - `FrameTooLong`, the faults of terms, `NotAMessage`, `StampTooLarge`, `ClockFull`, and `NotAMessage` for an
 ///   exchange of another node than the peer or a second one; `OutOfMemory`. The replies to the packets before it were
-///   written whole.
+///   written whole. `OutOfMemory` comes only before the first read, or once a read gave some bytes: what the end of the
+///   input leads to takes no memory.
 /// - `ReadFault`, where a read failed or 2^40 reads were made. The replies to all packets that were read whole were
 ///   written and flushed.
 /// - `WriteFault`, where a write or a flush failed or a write took nothing. What was written is a prefix of the
@@ -198,6 +204,7 @@ pub fn serve<R: Source, W: Sink>(
         (AllAnswered (record { own = own.now; peer = peer.now }) (W.contents writer.old) (W.contents writer.new)))
         (FailedAt W.fails writer.new)) }
     ensures flushed { LeavesFlushed W.flushed writer.old writer.new result }
+    ensures memory { result ≡ Err out_of_memory → EachGave R.gives reader.old reader.new }
     ensures order { IfErr result (Cause ⊤ (InTurn R.gives W.flushed W.contents reader.old reader.new writer.old writer.new
         (λ between input. AllAnswered (record { own = own.now; peer = peer.now }) (W.contents writer.old) (W.contents between) input))) }
 {

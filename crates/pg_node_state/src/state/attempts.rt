@@ -30,7 +30,7 @@ impl<T: GroupTable + Drop> NodeState<T> {
     ghost use Rattle.pg_node_state.specs.Issued.{ports_of};
     ghost use Rattle.pg_node_sends.specs.Sendable.{AreSendable};
     ghost use Rattle.pg_node_state.specs.States.{Stays};
-    ghost use Rattle.pg_node_state.specs.States.{names_of, live_of, kept_by, state_of, answers_of, Happens};
+    ghost use Rattle.pg_node_state.specs.States.{names_of, live_of, kept_by, state_of, answers_of, forgotten_of, Happens};
 
     /// Begins an attempt of a command that waits: the greatest live node is asked for the lock, alone, and what
     /// follows is done at once where it is the own one.
@@ -109,6 +109,7 @@ impl<T: GroupTable + Drop> NodeState<T> {
             result (state_of self.new) (answers_of self.old) (answers_of self.new) }
         ensures names { names_of self.new ≡ names_of self.old }
         ensures ports { ports_of self.new ≡ ports_of self.old }
+        ensures forgotten { forgotten_of self.new ≡ forgotten_of self.old }
         ensures fits { AreSendable (names_of self.old) (S.listed result.sends) }
     {
         let number = self.opens.references() + 1;

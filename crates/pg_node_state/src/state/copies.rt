@@ -1,6 +1,6 @@
 //! A copy of a node.
 
-ghost use Rattle.std.specs.Prelude.{IfOk};
+ghost use Rattle.std.specs.Prelude.{◌≡◌, IfOk};
 
 use crate::state::NodeState;
 use pg_node_ports::GroupTable;
@@ -8,14 +8,16 @@ use std::alloc::AllocError;
 
 impl<T: GroupTable + Drop> NodeState<T> {
     ghost use Rattle.pg_node_state.specs.Same.{AreSameNodes};
+    ghost use Rattle.pg_node_state.specs.States.{forgotten_of};
 
-    /// The same node: what `same` compares is the same in both.
+    /// The same node: what `same` compares is the same in both, and as many answers were forgotten.
     ///
     /// Errors: `AllocError`.
     ///
     /// Cost: that of the copies of all that it keeps.
     pub fn copy(&self) -> Result<NodeState<T>, AllocError>
-        ensures { IfOk result (AreSameNodes self.now) }
+        ensures same { IfOk result (AreSameNodes self.now) }
+        ensures forgotten { IfOk result (λ copy. forgotten_of copy ≡ forgotten_of self.now) }
     {
         let formation = self.formation.copy()?;
         let processes = self.processes.copy()?;

@@ -1,6 +1,6 @@
 //! How a node starts, and what is read of it.
 
-ghost use Rattle.std.specs.Prelude.{◌≡◌, ◌∷◌, ◌≤◌, ◌<◌, ◌+◌, ◌^◌, [], IfOk, length};
+ghost use Rattle.std.specs.Prelude.{◌≡◌, ◌∷◌, ◌≤◌, ◌<◌, ◌+◌, ◌^◌, [], true, IfOk, OnErr, length};
 ghost use Rattle.std.specs.List.{IsDistinct};
 ghost use Rattle.std.specs.Option.{option_copied};
 ghost use Rattle.pg_term.specs.Same.{same_atom};
@@ -35,9 +35,11 @@ ghost use Rattle.pg_node_ports.specs.PgNodeOpens.Places.{name_at};
 ghost use Rattle.pg_node_ports.specs.PgStep.State.{new_state, formed};
 ghost use Rattle.pg_node_state.specs.Issued.{ports_of};
 ghost use Rattle.pg_node_sends.specs.Opening.{Announces};
-ghost use Rattle.pg_node_state.specs.States.{names_of, nodes_of, live_of, kept_by, state_of, answers_of};
+ghost use Rattle.pg_node_state.specs.States.{names_of, nodes_of, live_of, kept_by, state_of, answers_of, forgotten_of};
 ghost use Rattle.pg_node_sends.specs.Sent.{sends_in};
-ghost use Rattle.pg_node_state.specs.Waiting.{AreWaiting};
+ghost use Rattle.pg_node_state.specs.Waiting.{AreWaiting, ops_of, waiting_among};
+ghost use Rattle.pg_node_ports.specs.PgStep.declared.command.OpId.{OpId};
+ghost use Rattle.pg_node_ports.specs.PgStep.Attempts.{waits};
 
 impl<T: GroupTable + Drop> NodeState<T> {
     /// A node at time 0, which has this table and has taken nothing, and the packets with which it begins, each to a
@@ -59,6 +61,7 @@ impl<T: GroupTable + Drop> NodeState<T> {
         ensures state { IfOk result (λ begun. state_of begun.0 ≡ record { clock = 0; state = new_state (T.contents table) config.made }) }
         ensures ports { IfOk result (λ begun. ports_of begun.0 ≡ config.ports) }
         ensures answers { IfOk result (λ begun. answers_of begun.0 ≡ (λ port. [])) }
+        ensures forgotten { IfOk result (λ begun. forgotten_of begun.0 ≡ (λ port. 0)) }
         ensures sends { IfOk result (λ begun. Announces (T.contents table) (nodes_of begun.0) (sends_in (names_of begun.0) begun.1.items)) }
     {
         let node = started(alloc, config, table)?;
@@ -85,6 +88,7 @@ impl<T: GroupTable + Drop> NodeState<T> {
         ensures state { IfOk result (λ node. state_of node ≡ record { clock = 0; state = new_state (T.contents table) config.made }) }
         ensures ports { IfOk result (λ node. ports_of node ≡ config.ports) }
         ensures answers { IfOk result (λ node. answers_of node ≡ (λ port. [])) }
+        ensures forgotten { IfOk result (λ node. forgotten_of node ≡ (λ port. 0)) }
     {
         started(alloc, config, table)
     }
@@ -182,7 +186,7 @@ impl<T: GroupTable + Drop> NodeState<T> {
         self.locks.holder(name)
     }
 
-    /// The answers that were given at a port, in the order in which they were given.
+    /// The answers that were given at a port and not forgotten, in the order in which they were given.
     ///
     /// Cost: no memory.
     pub fn answers(&self, port: u16) -> &[Answer]
@@ -193,19 +197,21 @@ impl<T: GroupTable + Drop> NodeState<T> {
         entry.answers.as_slice()
     }
 
-    /// The open commands that wait for their retry, each once, in whatever order.
+    /// The open commands that wait for their retry, each once, in the order in which they were opened.
     ///
-    /// Errors: `AllocError`.
+    /// Errors: `AllocError`, only where a command waits.
     ///
-    /// Cost: one search of all open commands for each of them.
+    /// Cost: a walk over the open commands, O(nodes) for each.
     pub fn waiting(&self) -> Result<Vec<OpId>, AllocError>
-        ensures { IfOk result (λ ops. AreWaiting (live_of self.now) (kept_by self.now) ops.items) }
+        ensures each { IfOk result (λ ops. AreWaiting (live_of self.now) (kept_by self.now) ops.items) }
+        ensures order { IfOk result (λ ops. ops.items ≡ waiting_among (live_of self.now) (kept_by self.now) (ops_of self.now)) }
+        ensures memory { OnErr result ((op : OpId) × (waits (live_of self.now) ((kept_by self.now).stages op) (kept_by self.now) ≡ true)) }
     {
         self.opens.has_each_once();
         let mut ops = Vec::new(self.alloc);
         for place in 0..self.open_count() {
             let op = self.opens.op_at(place);
-            if self.opens.waits(op) {
+            if self.opens.waits_near(place, op) {
                 ops.push(op)?;
             }
         }
@@ -250,6 +256,7 @@ pub fn started<T: GroupTable + Drop>(
     ensures state { IfOk result (λ node. state_of node ≡ record { clock = 0; state = new_state (T.contents table) config.made }) }
     ensures ports { IfOk result (λ node. ports_of node ≡ config.ports) }
     ensures answers { IfOk result (λ node. answers_of node ≡ (λ port. [])) }
+    ensures forgotten { IfOk result (λ node. forgotten_of node ≡ (λ port. 0)) }
 {
     let own = config.own.copy()?;
     let formation = Formation::new(alloc, config.peers.len())?;

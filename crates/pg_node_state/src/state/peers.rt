@@ -21,7 +21,7 @@ impl<T: GroupTable + Drop> NodeState<T> {
     ghost use Rattle.pg_node_state.specs.Clocks.{IsNow};
     ghost use Rattle.pg_node_state.specs.Issued.{ports_of};
     ghost use Rattle.pg_node_state.specs.States.{Stays};
-    ghost use Rattle.pg_node_state.specs.States.{names_of, live_of, kept_by, state_of, answers_of, IsReported};
+    ghost use Rattle.pg_node_state.specs.States.{names_of, live_of, kept_by, state_of, answers_of, forgotten_of, IsReported};
     ghost use Rattle.pg_node_sends.specs.Sendable.{AreSendable};
 
     /// Answers a request for a lock.
@@ -105,6 +105,7 @@ impl<T: GroupTable + Drop> NodeState<T> {
             (at_clock clock (lock_freed name.now reference.now (kept_by self.old))) result }
         ensures names { names_of self.new ≡ names_of self.old }
         ensures ports { ports_of self.new ≡ ports_of self.old }
+        ensures forgotten { forgotten_of self.new ≡ forgotten_of self.old }
         ensures fits { AreSendable (names_of self.old) (S.listed result.sends) }
         ensures answers { answers_of self.new ≡ answers_of self.old }
     {

@@ -8,7 +8,7 @@ ghost use Rattle.pg_node_ports.specs.PgGroup.Table.{without};
 ghost use Rattle.pg_node_ports.specs.PgEnds.Limits.{max_processes};
 ghost use Rattle.pg_node_ports.specs.PgStep.declared.answer.Reply.TheVariants as replies;
 ghost use Rattle.pg_node_ports.specs.Ports.{counted_at};
-ghost use Rattle.pg_node_ports.specs.Ports.{port_commands, answers_in};
+ghost use Rattle.pg_node_ports.specs.Ports.{port_commands, answers_in, forgotten_in};
 
 use crate::state::NodeState;
 use bytes::BytesMut;
@@ -98,6 +98,7 @@ fn end_at<T: GroupTable + Drop>(
     ensures err_counts { OnErr result (port_commands ports.new.items ≡ port_commands ports.old.items) }
     ensures err_answers { OnErr result (answers_in ports.new.items ≡ answers_in ports.old.items) }
     ensures len { length ports.new.items ≡ length ports.old.items }
+    ensures forgotten { forgotten_in ports.new.items ≡ forgotten_in ports.old.items }
 {
     reserve_answer(ports, port)?;
     take_end(pid, table, ended)?;

@@ -1,6 +1,8 @@
 //! Why a command is refused.
 
-ghost use Rattle.std.specs.Prelude.{◌≡◌, ◌∷◌, [], not};
+ghost use Rattle.std.specs.Prelude.{◌≡◌, ◌∷◌, [], not, Some, None, Err, IsOk};
+ghost use Rattle.pg_node_ports.specs.PgEnds.declared.fault.EndFault.TheVariants as ends;
+ghost use Rattle.pg_node_ports.specs.PgStep.declared.command_fault.CommandFault.TheVariants as faults;
 ghost use Rattle.pg_node_ports.specs.PgMessageTypes.Name.{is_name};
 ghost use Rattle.pg_node_ports.specs.PgStep.declared.command.Command.TheVariants as commands;
 ghost use Rattle.pg_node_ports.specs.PgStep.declared.command_fault.CommandFault.TheVariants.{NameTooLarge};
@@ -58,19 +60,14 @@ impl<T: GroupTable + Drop> NodeState<T> {
     fn end_fault(&self, pid: &Pid) -> Option<CommandFault>
         ensures { result ≡ fault_of (nodes_of self.now) (kept_by self.now) (commands.Finish pid.now) }
     {
-        if &pid.node != self.opens.name(0) {
+        let end = self.processes.finish(pid, &self.ended);
+        if end == Err(EndFault::ForeignPid) {
             return Some(CommandFault::ForeignPid);
         }
         if !self.formed() {
             return Some(CommandFault::NotFormed);
         }
-        match self.processes.finish(pid, &self.ended) {
-            Err(EndFault::NotMade) => Some(CommandFault::NotMade),
-            Err(EndFault::AlreadyEnded) => Some(CommandFault::AlreadyEnded),
-            Ok(()) => None,
-            // There is no other fault of a process of the node.
-            Err(_) => None,
-        }
+        fault_of_end(end)
     }
 }
 
@@ -81,5 +78,18 @@ fn name_fault(name: &Term) -> Option<CommandFault>
     match check_name(name) {
         Ok(()) => None,
         Err(_) => Some(CommandFault::NameTooLarge),
+    }
+}
+
+/// Why a process of a formed node can't end, as its processes tell.
+fn fault_of_end(end: Result<(), EndFault>) -> Option<CommandFault>
+    ensures unmade { end ≡ Err ends.NotMade → result ≡ Some faults.NotMade }
+    ensures ended { end ≡ Err ends.AlreadyEnded → result ≡ Some faults.AlreadyEnded }
+    ensures none { IsOk end → result ≡ None }
+{
+    match end {
+        Err(EndFault::NotMade) => Some(CommandFault::NotMade),
+        Err(EndFault::AlreadyEnded) => Some(CommandFault::AlreadyEnded),
+        _ => None,
     }
 }

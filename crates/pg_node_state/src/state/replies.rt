@@ -24,7 +24,7 @@ impl<T: GroupTable + Drop> NodeState<T> {
     ghost use Rattle.pg_node_state.specs.Issued.{ports_of};
     ghost use Rattle.pg_node_state.specs.States.{Stays};
     ghost use Rattle.pg_node_state.specs.States.{names_of, live_of, kept_by, state_of};
-    ghost use Rattle.pg_node_state.specs.States.{answers_of, is_counted, Happens, ComesAt};
+    ghost use Rattle.pg_node_state.specs.States.{answers_of, forgotten_of, is_counted, Happens, ComesAt};
     ghost use Rattle.pg_node_sends.specs.Sendable.{AreSendable};
 
     /// Takes the reply of a peer, which is not lost.
@@ -84,6 +84,7 @@ impl<T: GroupTable + Drop> NodeState<T> {
         ensures live { live_of self.new ≡ live_of self.old }
         ensures names { names_of self.new ≡ names_of self.old }
         ensures ports { ports_of self.new ≡ ports_of self.old }
+        ensures forgotten { forgotten_of self.new ≡ forgotten_of self.old }
     {
         self.opens.look_for(number);
     }
@@ -212,6 +213,7 @@ impl<T: GroupTable + Drop> NodeState<T> {
         ensures happens { Happens (names_of self.old) (at_clock clock (strange odd (kept_by self.old))) result (state_of self.new) (answers_of self.old) (answers_of self.new) }
         ensures names { names_of self.new ≡ names_of self.old }
         ensures ports { ports_of self.new ≡ ports_of self.old }
+        ensures forgotten { forgotten_of self.new ≡ forgotten_of self.old }
         ensures fits { AreSendable (names_of self.old) (S.listed result.sends) }
     {
         self.clock = clock;
@@ -228,7 +230,7 @@ ghost use Rattle.pg_node_ports.specs.PgStep.State.{Use};
 ghost use Rattle.pg_node_ports.specs.PgNodeOpens.Readings.{gathering_of as what_is_gathered};
 
 /// Whether a reply is of the kind that is gathered.
-fn is_kind(gathering: Gathering, said: Said) -> bool
+pub(crate) fn is_kind(gathering: Gathering, said: Said) -> bool
     ensures { (used : Use) → gathering ≡ what_is_gathered used → result ≡ is_kind used said }
 {
     match gathering {

@@ -30,7 +30,7 @@ impl<T: GroupTable + Drop> NodeState<T> {
     /// Whether both are the same but for their clocks: they know the same nodes by the same names, and have the same
     /// groups with the same members, the same ended processes, holders, merged and lost peers, as many processes and
     /// references made, the same open commands with the same gathered, and as many ports, where as many commands came
-    /// in and the same answers were given.
+    /// in and the same answers are kept. How many answers were forgotten is not compared.
     ///
     /// Errors: `AllocError`.
     ///

@@ -33,7 +33,7 @@ impl<T: GroupTable + Drop> NodeState<T> {
     ghost use Rattle.pg_node_state.specs.Clocks.{IsNow};
     ghost use Rattle.pg_node_state.specs.Issued.{ports_of};
     ghost use Rattle.pg_node_state.specs.States.{Stays};
-    ghost use Rattle.pg_node_state.specs.States.{names_of, live_of, kept_by, state_of, answers_of, Happens};
+    ghost use Rattle.pg_node_state.specs.States.{names_of, live_of, kept_by, state_of, answers_of, forgotten_of, Happens};
     ghost use Rattle.pg_node_sends.specs.Sendable.{AreSendable};
 
     /// Gives an attempt up: frees the lock at each node that granted it. `number`: the one of its reference.
@@ -250,6 +250,7 @@ impl<T: GroupTable + Drop> NodeState<T> {
         ensures happens { Happens (names_of self.old) (at_clock clock (becomes (kept_by self.old))) result (state_of self.new) (answers_of self.old) (answers_of self.new) }
         ensures names { names_of self.new ≡ names_of self.old }
         ensures ports { ports_of self.new ≡ ports_of self.old }
+        ensures forgotten { forgotten_of self.new ≡ forgotten_of self.old }
         ensures fits { AreSendable (names_of self.old) (S.listed result.sends) }
     {
         self.clock = clock;

@@ -43,7 +43,7 @@ pub fn see(rt: &impl Abort, alloc: Global, opens: &Opens, sight: Sight) -> bool 
         Sight::Open(count) => opens.open_count() == count,
         Sight::At(place, found) => op_at(opens, place) == found,
         Sight::Stands(number, stage) => opens.stage(op(number)) == stage,
-        Sight::Waits(number, waits) => opens.waits(op(number)) == waits,
+        Sight::Waits(number, waits) => wait_alike(opens, op(number), waits),
         Sight::HasWaitingUpdate(number) => opens.waiting_update(op(number)).is_some(),
         Sight::Gathers(number, gathering) => opens.gathering(number) == gathering,
         Sight::HasUpdate(number) => opens.update(number).is_some(),
@@ -77,6 +77,16 @@ fn op_at(opens: &Opens, place: usize) -> Option<OpId> {
     } else {
         None
     }
+}
+
+// Whether a command waits, wherever it is looked for first.
+fn wait_alike(opens: &Opens, op: OpId, waits: bool) -> bool {
+    for near in 0..opens.open_count() {
+        if opens.waits_near(near, op) != waits {
+            return false;
+        }
+    }
+    opens.waits(op) == waits && opens.waits_near(usize::MAX, op) == waits
 }
 
 fn looks(rt: &impl Abort, opens: &Opens, number: u32, granted: bool) -> Outlook {

@@ -1,5 +1,5 @@
 use Rattle.std.proofs.Common.{◌∙◌, ◌+◌, ◌++◌, ◌∷◌, [], ℕ, sym, ap, arith}
-use Rattle.pg_node_ports.proofs.Answered.{there, count_there, one_counted, one_answered, rooms_apart}
+use Rattle.pg_node_ports.proofs.Answered.{there, count_there, one_counted, one_answered, rooms_apart, none_forgotten}
 use Rattle.pg_node_ports.proofs.port.give.Goals as goal
 
 pub overflow_add-entry : goal.overflow_add-entry
@@ -21,3 +21,6 @@ returns-clause-answers c =
 
 pub returns-clause-rooms : goal.returns-clause-rooms
 returns-clause-rooms c = rooms_apart c.args.ports.now.items c.args.port c.from.result c.index_mut-entry.result.now c.answer.new.self c.from.ensures c.requires.place c.index_mut-entry.ensures.value
+
+pub returns-clause-forgotten : goal.returns-clause-forgotten
+returns-clause-forgotten c = none_forgotten c.args.ports.now.items c.args.port c.from.result c.index_mut-entry.result.now c.answer.new.self c.from.ensures c.requires.place c.index_mut-entry.ensures.value c.answer.ensures.forgotten

@@ -1,4 +1,4 @@
-use Rattle.pg_node_ports.proofs.Answered.{there, none_counted, one_answered, rooms_apart}
+use Rattle.pg_node_ports.proofs.Answered.{there, none_counted, one_answered, rooms_apart, none_forgotten}
 use Rattle.pg_node_ports.proofs.port.keep_reserved.Goals as goal
 
 pub answer-requires : goal.answer-requires
@@ -12,3 +12,6 @@ returns-clause-counts c = none_counted c.args.ports.now.items c.args.op.port c.f
 
 pub returns-clause-rooms : goal.returns-clause-rooms
 returns-clause-rooms c = rooms_apart c.args.ports.now.items c.args.op.port c.from.result c.index_mut-port.result.now c.answer.new.self c.from.ensures c.requires.place c.index_mut-port.ensures.value
+
+pub returns-clause-forgotten : goal.returns-clause-forgotten
+returns-clause-forgotten c = none_forgotten c.args.ports.now.items c.args.op.port c.from.result c.index_mut-port.result.now c.answer.new.self c.from.ensures c.requires.place c.index_mut-port.ensures.value c.answer.ensures.forgotten

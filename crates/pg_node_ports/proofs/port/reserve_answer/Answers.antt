@@ -1,6 +1,6 @@
 use Rattle.std.proofs.Common.{Result, Ok, Err}
 use Rattle.std.specs.Prelude.{OnOk}
-use Rattle.pg_node_ports.proofs.Answered.{there, none_counted, none_answered, room_there, rooms_kept}
+use Rattle.pg_node_ports.proofs.Answered.{there, none_counted, none_answered, room_there, rooms_kept, none_forgotten}
 use Rattle.pg_node_ports.proofs.port.reserve_answer.Goals as goal
 
 pub returns-clause-counts : goal.returns-clause-counts
@@ -21,3 +21,6 @@ returns-clause-succeeds c = λ room. c.reserve.ensures.succeeds (room c.index_mu
 
 pub returns-clause-rooms : goal.returns-clause-rooms
 returns-clause-rooms c = rooms_kept c.args.ports.now.items c.args.port c.from.result c.index_mut-entry.result.now c.reserve.new.self c.from.ensures c.requires.place c.index_mut-entry.ensures.value c.reserve.ensures.room
+
+pub returns-clause-forgotten : goal.returns-clause-forgotten
+returns-clause-forgotten c = none_forgotten c.args.ports.now.items c.args.port c.from.result c.index_mut-entry.result.now c.reserve.new.self c.from.ensures c.requires.place c.index_mut-entry.ensures.value c.reserve.ensures.forgotten

@@ -48,21 +48,21 @@ returns-in-Ok-clause-tried g c = λ whole.
     tried_where_waits g.L.Link.accepts g.I.Inlet.gives g.met.L.Link.rests g.met.I.Inlet.rests g.met.L.Link.composes g.met.I.Inlet.composes c.as_slice.result.now (is_ready_at (node_of c.args.linked.now)) c.args.pauses.now c.args.linked.now
     c.retry_listed.new.linked
     (λ op. ap (list_any (λ other. same_op other op)) c.as_slice.ensures.value
-    ∙ (c.in-Ok.ensures.each op ∙ ap (λ s. waits (live_of s) ((kept_by s).stages op) (kept_by s)) (c.state-state.ensures ∙ ap held_by c.node.ensures)))
+    ∙ (c.in-Ok.ensures.each.each op ∙ ap (λ s. waits (live_of s) ((kept_by s).stages op) (kept_by s)) (c.state-state.ensures ∙ ap held_by c.node.ensures)))
     (c.retry_listed.ensures.tried whole)
 
 pub returns-in-Ok-clause-waits : goal.returns-in-Ok-clause-waits
 returns-in-Ok-clause-waits g c =
     where_waits c.as_slice.result.now (is_ready_at (node_of c.args.linked.now)) c.retry_listed.result.whole c.args.pauses.now c.retry_listed.new.pauses (waits_at (node_of c.args.linked.now))
     (λ op. ap (list_any (λ other. same_op other op)) c.as_slice.ensures.value
-    ∙ (c.in-Ok.ensures.each op ∙ ap (λ s. waits (live_of s) ((kept_by s).stages op) (kept_by s)) (c.state-state.ensures ∙ ap held_by c.node.ensures)))
+    ∙ (c.in-Ok.ensures.each.each op ∙ ap (λ s. waits (live_of s) ((kept_by s).stages op) (kept_by s)) (c.state-state.ensures ∙ ap held_by c.node.ensures)))
     c.retry_listed.ensures.waits
 
 pub returns-in-Ok-clause-others : goal.returns-in-Ok-clause-others
 returns-in-Ok-clause-others g c = λ op waits_not.
     c.retry_listed.ensures.others op
     (ap (list_any (λ other. same_op other op)) c.as_slice.ensures.value
-    ∙ (c.in-Ok.ensures.each op ∙ (ap (λ s. waits (live_of s) ((kept_by s).stages op) (kept_by s)) (c.state-state.ensures ∙ ap held_by c.node.ensures) ∙ waits_not)))
+    ∙ (c.in-Ok.ensures.each.each op ∙ (ap (λ s. waits (live_of s) ((kept_by s).stages op) (kept_by s)) (c.state-state.ensures ∙ ap held_by c.node.ensures) ∙ waits_not)))
 
 pub returns-in-Err-clause-wanting : goal.returns-in-Err-clause-wanting
 returns-in-Err-clause-wanting g c = λ short. listing_wants g.L.Link.accepts g.I.Inlet.gives g.met.L.Link.rests g.met.I.Inlet.rests g.met.L.Link.composes g.met.I.Inlet.composes c.args.linked.now

@@ -5,7 +5,7 @@ use Rattle.std.proofs.Common.{◌≡◌, ◌+◌, ◌<◌, ◌∙◌, Err, lengt
 use Rattle.pg_node_state.specs.PgStep.declared.refusal.Refusal.TheVariants.{NodeLost}
 use Rattle.pg_node_state.specs.declared.state.fault.NodeFault.{NodeFault}
 use Rattle.pg_node_state.specs.declared.state.fault.NodeFault.TheVariants.{Refused}
-use Rattle.pg_node.specs.Bytes.{ReadsNext, next_packet, marked}
+use Rattle.pg_node.specs.Bytes.{ReadsNext, IsSeenBroken, next_packet, marked}
 use Rattle.pg_node.specs.Links.{Link, link_of, idle_link, links_in}
 use Rattle.pg_node.specs.Nodes.{read_next}
 use Rattle.pg_node.proofs.Events.{unmarked}
@@ -48,3 +48,9 @@ invariant_of-self g c =
       passage = c.args.self.now.passage;
       room = λ is. still_room wires c.args.peer c.index_mut-wire.result.now c.next.new.self within c.index_mut-wire.ensures.value (omega (arith, c.next.ensures.room)) (c.args.self.now.room is);
     }
+
+pub returns-clause-broken : goal.returns-clause-broken
+returns-clause-broken g c = λ fault here seen.
+    let wires = c.args.self.now.wires.items in
+    let within : c.args.peer < length wires = omega (arith, c.args.self.now.linked, c.requires.place) in
+    c.next.ensures.broken fault (subst (λ (link : Link). IsSeenBroken link fault) (part_here link_of idle_link wires c.args.peer c.index_mut-wire.result.now within c.index_mut-wire.ensures.value) seen)

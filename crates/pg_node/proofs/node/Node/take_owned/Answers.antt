@@ -1,27 +1,25 @@
 use Rattle.std.proofs.lemmas.List.{length-set}
 use Rattle.std.specs.Prelude.{slice_set}
-use Rattle.std.proofs.Common.{◌≡◌, ◌<◌, ◌+◌, ◌∙◌, List, Err, length, refl, sym, ap, arith}
-use Rattle.pg_node_state.specs.declared.state.fault.NodeFault.TheVariants.{OutOfMemory}
+use Rattle.std.proofs.Common.{◌≡◌, ◌<◌, ◌+◌, ◌∙◌, List, Err, length, sym, ap, subst, arith}
 use Rattle.pg_node.specs.Bytes.{marked}
 use Rattle.pg_node_state.specs.PgNodeSends.Framed.{listed_of}
-use Rattle.pg_node.specs.Links.{links_in, at_link}
+use Rattle.pg_node.specs.Links.{at_link}
 use Rattle.pg_node_state.specs.PgStep.Nodes.{Node}
-use Rattle.pg_node_state.specs.States.{names_of, state_of}
+use Rattle.pg_node_state.specs.Issued.{ports_of}
+use Rattle.pg_node_state.specs.PgNodeOpens.Places.{name_at}
+use Rattle.pg_node_state.specs.PgNodeSends.Sent.{stamped_of}
+use Rattle.pg_node_state.specs.PgNodeSends.contracts.framing.FramedOutgoing.TheImpl as frames
+use Rattle.pg_node_state.specs.PgStep.Step.{step_take}
+use Rattle.pg_node_state.specs.States.{names_of, nodes_of, state_of, answers_of, forgotten_of, Comes}
 use Rattle.pg_node.proofs.Linked.{one_link, still_room}
-use Rattle.pg_node.proofs.Events.{unmarked, sent_links, in_room}
+use Rattle.pg_node.proofs.Events.{no_room, sent_links}
 use Rattle.pg_node.proofs.node.Node.take_owned.Goals as goal
-
-pub returns-in-Err-clause-marked : goal.returns-in-Err-clause-marked
-returns-in-Err-clause-marked g c = c.make_room.ensures.same ∙ sym (unmarked (links_in c.args.self.now.wires.items) c.args.peer OutOfMemory refl)
-
-pub returns-in-Err-take_owned_as-clause-event : goal.returns-in-Err-take_owned_as-clause-event
-returns-in-Err-take_owned_as-clause-event g c = in_room _ (state_of c.args.self.now.state) _ _ _ _ (Err c.in-Err-take_owned_as.fault) c.in-Err-take_owned_as.ensures.event
 
 pub returns-in-Err-take_owned_as-clause-marked : goal.returns-in-Err-take_owned_as-clause-marked
 returns-in-Err-take_owned_as-clause-marked g c =
     let wires = c.make_room.new.wires.items in
     let within : c.args.peer < length wires = omega (arith, c.args.self.now.linked, c.requires.place, c.make_room.ensures.len) in
-    one_link wires c.args.peer c.index_mut-wire-in-Err-take_owned_as.result.now c.mark.new.self (λ l. marked l c.in-Err-take_owned_as.fault) within c.index_mut-wire-in-Err-take_owned_as.ensures.value c.mark.ensures.marked
+    one_link wires c.args.peer c.index_mut-wire-in-Err-take_owned_as.result.now c.mark-in-Err-take_owned_as.new.self (λ l. marked l c.in-Err-take_owned_as.fault) within c.index_mut-wire-in-Err-take_owned_as.ensures.value c.mark-in-Err-take_owned_as.ensures.marked
     ∙ ap (at_link c.args.peer (λ l. marked l c.in-Err-take_owned_as.fault)) c.make_room.ensures.same
 
 pub returns-in-Ok-take_owned_as-clause-sent : goal.returns-in-Ok-take_owned_as-clause-sent
@@ -52,9 +50,25 @@ invariant_of-self-in-Err-take_owned_as g c =
     let wires = c.make_room.new.wires.items in
     let within : c.args.peer < length wires = omega (arith, c.args.self.now.linked, c.requires.place, c.make_room.ensures.len) in
     let same = ap (λ (names : List Node). length names) c.take_owned_as.ensures.stays.names in
-    let linked : length (slice_set wires c.args.peer c.mark.new.self) + 1 ≡ length (names_of c.take_owned_as.new.self) = omega (arith, length-set wires c.args.peer c.mark.new.self, c.args.self.now.linked, c.make_room.ensures.len, same) in
+    let linked : length (slice_set wires c.args.peer c.mark-in-Err-take_owned_as.new.self) + 1 ≡ length (names_of c.take_owned_as.new.self) = omega (arith, length-set wires c.args.peer c.mark-in-Err-take_owned_as.new.self, c.args.self.now.linked, c.make_room.ensures.len, same) in
     record {
       linked = linked;
       passage = c.args.self.now.passage;
-      room = λ is. still_room wires c.args.peer c.index_mut-wire-in-Err-take_owned_as.result.now c.mark.new.self within c.index_mut-wire-in-Err-take_owned_as.ensures.value (omega (arith, c.mark.ensures.room)) (c.make_room.ensures.known is);
+      room = λ is. still_room wires c.args.peer c.index_mut-wire-in-Err-take_owned_as.result.now c.mark-in-Err-take_owned_as.new.self within c.index_mut-wire-in-Err-take_owned_as.ensures.value (omega (arith, c.mark-in-Err-take_owned_as.ensures.room)) (c.make_room.ensures.known is);
     }
+
+pub returns-in-Err-clause-event : goal.returns-in-Err-clause-event
+returns-in-Err-clause-event g c =
+    let node = c.args.self.now.state in
+    let after = c.mark.new.self.state in
+    let told = step_take (nodes_of node) (name_at (names_of node) (c.args.peer + 1)) (stamped_of c.args.packet) (state_of node) in
+    subst (λ fault. Comes {h = frames.ghosts} (names_of node) told (Err fault) (state_of after) (answers_of node) (answers_of after)) (sym c.take_fault_or_memory-fault.ensures)
+    (no_room (names_of node) (state_of node) (state_of after) (answers_of node) (answers_of after) told)
+
+pub returns-in-Err-clause-marked : goal.returns-in-Err-clause-marked
+returns-in-Err-clause-marked g c = c.mark.ensures.marked ∙ ap (at_link c.args.peer (λ l. marked l c.take_fault_or_memory-fault.result)) c.make_room.ensures.same
+
+pub returns-in-Err-clause-stays : goal.returns-in-Err-clause-stays
+returns-in-Err-clause-stays g c =
+    let same = c.mark.ensures.state in
+    record { state = ap state_of same; answers = ap answers_of same; names = ap names_of same; ports = ap ports_of same; forgotten = ap forgotten_of same }

@@ -43,3 +43,6 @@ pub returns-clause-order : goal.returns-clause-order
 returns-clause-order g c =
     order_any g.R.Source.gives g.W.Sink.flushed g.W.Sink.contents c.args.reader.now c.run-served.new.reader c.args.writer.now c.run-served.new.writer (pair_of c.in_ok-server.server.node) c.args.own.now c.args.peer.now c.run-served.result
     c.in_ok-server.ensures.peer c.run-served.ensures.order
+
+pub returns-in_err-server-clause-memory : goal.returns-in_err-server-clause-memory
+returns-in_err-server-clause-memory g c = λ is. ([], refl)

@@ -2,7 +2,7 @@ use Rattle.std.proofs.Common.{refl, arith}
 use Rattle.pg_node.specs.Nodes.{held_by}
 use Rattle.pg_node.specs.PgNodeState.States.{names_of, state_of, answers_of}
 use Rattle.pg_node_run.specs.Events.{told_of_loss}
-use Rattle.pg_node_run.proofs.Acting.{nothing_done, nothing_held, refused_as, in_room, log_after}
+use Rattle.pg_node_run.proofs.Acting.{nothing_done, nothing_held, refused_as, log_after}
 use Rattle.pg_node_run.proofs.Taking.{loss_acts, was_drained}
 use Rattle.pg_node_run.proofs.linked.LinkedNode.see_loss.Goals as goal
 
@@ -27,7 +27,7 @@ returns-in-Err-clause-fault g c =
     let s = state_of (held_by c.see_loss.new.self) in
     let after = answers_of (held_by c.see_loss.new.self) in
     refused_as (names_of (held_by n)) told c.in-Err.fault s (answers_of (held_by n)) after
-    (in_room (names_of (held_by n)) told c.in-Err.fault s (answers_of (held_by n)) after c.in-Err.ensures.event)
+    c.in-Err.ensures.event
 
 pub returns-in-Ok-clause-drained : goal.returns-in-Ok-clause-drained
 returns-in-Ok-clause-drained g c =

@@ -208,6 +208,7 @@ returns-in-Err-clause-stays g c =
       answers = c.in-Err.ensures.stays.answers;
       names = c.take_back_answer.ensures.nodes ∙ names2;
       ports = c.go_on.ensures.stays.ports;
+      forgotten = c.go_on.ensures.stays.forgotten;
     }
 
 pub returns-in-Ok-clause-fits : goal.returns-in-Ok-clause-fits

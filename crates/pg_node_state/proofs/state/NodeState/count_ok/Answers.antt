@@ -229,6 +229,7 @@ returns-in-Err-clause-stays g c =
       answers = c.in-Err.ensures.stays.answers;
       names = c.take_back_ok.ensures.nodes ∙ names2;
       ports = c.finish.ensures.stays.ports;
+      forgotten = c.finish.ensures.stays.forgotten;
     }
 
 pub returns-in-Ok-clause-fits : goal.returns-in-Ok-clause-fits

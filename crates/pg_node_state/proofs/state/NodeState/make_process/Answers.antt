@@ -82,4 +82,5 @@ returns-in_default-clause-stays g c =
       answers = c.reserve_answer.ensures.answers;
       names = refl;
       ports = c.reserve_answer.ensures.len;
+      forgotten = c.reserve_answer.ensures.forgotten;
     }

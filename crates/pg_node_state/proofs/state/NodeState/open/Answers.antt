@@ -61,6 +61,7 @@ returns-in_err-update-clause-stays g c =
       answers = on_err c.from_residual.result (answers_of old ≡ answers_of old) refl;
       names = c.prepared.ensures.nodes;
       ports = refl;
+      forgotten = refl;
     }
 
 pub count-requires-clause-few : goal.count-requires-clause-few
@@ -230,4 +231,5 @@ returns-in-Err-clause-stays g c =
       answers = c.uncount.ensures.answers ∙ (c.in-Err.ensures.stays.answers ∙ c.count.ensures.answers);
       names = c.take_back.ensures.nodes ∙ (c.attempt.ensures.stays.names ∙ (c.add.ensures.nodes ∙ c.prepared.ensures.nodes));
       ports = c.uncount.ensures.len ∙ (c.attempt.ensures.stays.ports ∙ c.count.ensures.len);
+      forgotten = c.uncount.ensures.forgotten ∙ (c.attempt.ensures.stays.forgotten ∙ c.count.ensures.forgotten);
     }

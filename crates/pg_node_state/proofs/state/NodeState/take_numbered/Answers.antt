@@ -32,4 +32,5 @@ returns-clause-stays g c =
       answers = subst (λ (answers : ℕ → List Answer). OnErr c.take_looked_for.result (answers_of c.take_looked_for.new.self ≡ answers)) c.look_for.ensures.answers h.answers;
       names = h.names ∙ c.look_for.ensures.names;
       ports = h.ports ∙ c.look_for.ensures.ports;
+      forgotten = h.forgotten ∙ c.look_for.ensures.forgotten;
     }

@@ -9,6 +9,7 @@ use Rattle.pg_node_state.specs.States.{state_of}
 use Rattle.pg_node.proofs.Replicas.Streams.{appends_kept}
 use Rattle.pg_node.proofs.Replicas.Served.{at_start, goes_on, stopped, finished, unread_ends, unwritten_ends}
 use Rattle.pg_node.proofs.Replicas.Served.{gave_more, read_failed, reads_spent, cause_of, left_flushed}
+use Rattle.pg_node.proofs.Replicas.Served.{each_gave, read_too}
 use Rattle.pg_node.proofs.Replicas.Served.{left_unread, where_ok, if_write, not_write, wrote_part, in_turn}
 use Rattle.pg_node.proofs.replica.server.Server.run.Goals as goal
 
@@ -149,3 +150,13 @@ returns-then-is_err-clause-order g c =
     in_turn g.R.Source.gives g.W.Sink.flushed contents c.args.reader.now c.loop.reader c.read.new.reader c.loop.counter (pair_of c.args.self.now.node) (g.R.Source.remaining c.args.reader.now) (g.R.Source.remaining c.loop.reader)
     c.loop.self.deframer.unread (state_of c.loop.self.node) c.args.writer.now c.loop.writer c.flush_all.new.self c.loop.invariant.1 c.loop.invariant.2 got.piece got.gave (got.some c.if-not-branch.false)
     (frames_of progress.replies, appends_kept (contents c.loop.writer) (contents c.answer_all.new.writer) (contents c.flush_all.new.self) (frames_of progress.replies) progress.wrote c.flush_all.ensures.bytes)
+
+pub returns-in_err-read-clause-memory : goal.returns-in_err-read-clause-memory
+returns-in_err-read-clause-memory g c =
+    let p = err_from_is_err_and c.from_residual.result c.from_residual.ensures.1 in
+    rw (p.1, p.2) (λ is. each_gave g.R.Source.gives c.args.reader.now c.loop.reader c.read.new.reader c.loop.counter c.loop.invariant.1.pieces c.loop.invariant.1.gave (c.in_err-read.ensures.memory (read_too c.in_err-read.field-0.0 is)))
+
+pub returns-in_err-answer_all-clause-memory : goal.returns-in_err-answer_all-clause-memory
+returns-in_err-answer_all-clause-memory g c = λ is.
+    let got = c.in_ok-read.ensures.piece in
+    each_gave g.R.Source.gives c.args.reader.now c.loop.reader c.read.new.reader c.loop.counter c.loop.invariant.1.pieces c.loop.invariant.1.gave (got.piece, got.gave, got.some c.if-not-branch.false)

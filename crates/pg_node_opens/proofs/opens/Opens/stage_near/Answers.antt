@@ -1,7 +1,7 @@
 use Rattle.std.proofs.Common.{sym, ap, ◌∙◌}
 use Rattle.pg_node_opens.specs.Readings.{stage_seen}
 use Rattle.pg_node_opens.proofs.Found.{closed_of, stands_for, stage_seen_here}
-use Rattle.pg_node_opens.proofs.opens.Opens.stage.Goals as goal
+use Rattle.pg_node_opens.proofs.opens.Opens.stage_near.Goals as goal
 
 pub returns-in-None : goal.returns-in-None
 returns-in-None c = sym (ap stage_seen (closed_of _ _ c.args.op c.deref.ensures.value c.in-None.ensures.none))

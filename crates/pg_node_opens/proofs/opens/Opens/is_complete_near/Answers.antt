@@ -3,7 +3,7 @@ use Rattle.pg_step.specs.Attempts.{is_complete}
 use Rattle.pg_node_opens.specs.Places.{live_in}
 use Rattle.pg_node_opens.specs.Readings.{complete_in}
 use Rattle.pg_node_opens.proofs.Found.{nothing_of, stands, complete_here}
-use Rattle.pg_node_opens.proofs.opens.Opens.is_complete.Goals as goal
+use Rattle.pg_node_opens.proofs.opens.Opens.is_complete_near.Goals as goal
 
 pub returns-in-None : goal.returns-in-None
 returns-in-None c = sym (nothing_of (is_complete (live_in c.args.self.now.names.items c.args.self.now.lost.items)) false _ _ _ _ c.args.number c.deref.ensures.value c.in-None.ensures.none refl refl)
