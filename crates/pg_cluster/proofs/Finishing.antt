@@ -3,7 +3,6 @@ use Rattle.std.proofs.Common.{◌≡◌, inl, inr, ℕ, ◌<◌, Bool, false}
 use Rattle.std.proofs.Common.{List, [], ◌∷◌, ◌++◌, length, map, arith}
 use Rattle.std.proofs.Common.{Result, Ok, Err, refl, sym, ap, subst, ◌∙◌}
 use Rattle.std.specs.Prelude.{IfOk}
-use Rattle.pg_cluster_judges.specs.PgNodeRun.declared.log.NodeEvent.TheVariants as entries
 use Rattle.pg_cluster_judges.specs.PgStep.Config.{Config}
 use Rattle.pg_cluster_judges.specs.Closed.{IsOneRun}
 use Rattle.pg_cluster_judges.specs.Judges.{Agree}

@@ -10,7 +10,10 @@ use Rattle.pg_cluster_judges.specs.PgStep.contracts.command.OpId as OpId
 use Rattle.pg_cluster_judges.specs.PgStep.contracts.answer.Reply as Reply
 use Rattle.pg_cluster_judges.specs.PgStep.contracts.answer.Answer as Answer
 use Rattle.pg_cluster_judges.specs.PgGroup.contracts.update.Update as Update
+use Rattle.pg_cluster_judges.specs.PgGroup.contracts.chunk.Chunk as Chunk
 use Rattle.pg_cluster_judges.specs.PgGroup.contracts.ended.Ended as Ended
+use Rattle.pg_cluster_judges.specs.PgGroup.contracts.number.Number as Number
+use Rattle.pg_cluster_judges.specs.PgGroup.contracts.numbers.Numbers as Numbers
 use Rattle.pg_cluster_judges.specs.PgIndex.contracts.index_table.IndexTable as IndexTable
 use Rattle.pg_cluster_judges.specs.PgLock.contracts.table.LockTable as LockTable
 use Rattle.pg_index_members.specs.contracts.members.Members as Members
@@ -74,8 +77,17 @@ answer_send = declared_send Answer.the_type (search (sendable, crosses) depth 30
 pub lock_send : IsSend LockTable.the_row
 lock_send = search (sendable, crosses, maps, term_send, reference_send) depth 30
 
+number_send : IsSend Number.the_row
+number_send = declared_send Number.the_type (as_row_send u32-field u32_send, (as_row_send u32-field u32_send, (as_row_send u32-field u32_send, tt)))
+
+chunk_send : IsSend Chunk.the_row
+chunk_send = declared_send Chunk.the_type (search (sendable, crosses, number_send) depth 30, (number_send, tt))
+
+numbers_send : IsSend Numbers.the_row
+numbers_send = search (sendable, crosses, chunk_send) depth 30
+
 pub ended_send : IsSend Ended.the_row
-ended_send = search (sendable, crosses, maps, sets, heap_send, frees, atom_send, pid_send) depth 30
+ended_send = search (sendable, crosses, maps, sets, heap_send, frees, atom_send, numbers_send) depth 30
 
 row_send : IsSend Row.the_row
 row_send = declared_send Row.the_type (pid_send, (as_row_send u64-field u64_send, tt))

@@ -1,5 +1,5 @@
 -- The steps of a run of the machine with losses can each be made where a last notice is taken just where a loss is seen.
-use Rattle.std.proofs.Common.{◌≡◌, ◌∙◌, ℕ, ◌+◌, ◌-◌, Bool, true, false, not, ◌&&◌, ◌||◌, cond, max, nat_eq, nat_lt}
+use Rattle.std.proofs.Common.{◌≡◌, ◌∙◌, ℕ, zero, suc, ◌+◌, ◌-◌, Bool, true, false, not, ◌&&◌, ◌||◌, cond, max, nat_le, nat_lt}
 use Rattle.std.proofs.Common.{length, map, List, [], ◌∷◌, ◌++◌, Some, None, Result, Ok, Err, refl, sym, ap, subst}
 use Rattle.std.specs.Prelude.{is_some, option_map}
 use Rattle.std.specs.List.{AllByRecursion, IsDistinct}
@@ -8,12 +8,13 @@ use Rattle.pg_term.specs.Same.{same_atom}
 use Rattle.pg_cluster_judges.specs.PgMessageTypes.declared.message.Message.{Message}
 use Rattle.pg_cluster_judges.specs.PgStep.Machines.Clocked.{Timed, Stamped}
 use Rattle.pg_cluster_judges.specs.PgStep.Machines.Losing.{LosingEvent, LosingLeads, Noticed, Sent, Last, Step}
-use Rattle.pg_cluster_judges.specs.PgStep.Machines.Losing.{Lose, can_keep, losing_happens, mapped_turn, nobody_gone}
+use Rattle.pg_cluster_judges.specs.PgStep.Machines.Losing.{Lose, can_keep, each_place, losing_happens, mapped_turn, nobody_gone}
 use Rattle.pg_cluster_judges.specs.PgStep.Machines.Machine.{Event, Turn, Taken, Own, Take, Do, happens, node_of, start_of}
-use Rattle.pg_cluster_judges.specs.PgStep.Machines.Places.{is_place}
+use Rattle.pg_cluster_judges.specs.PgStep.Machines.Places.{is_place, is_pair}
 use Rattle.pg_cluster_judges.proofs.PgStep.Machines.Options.{cond_is_some, map_is_some}
 use Rattle.pg_cluster_judges.proofs.PgStep.Machines.Steps.{did, pair_apart, took}
 use Rattle.pg_cluster_judges.specs.PgStep.Config.{Config, name_at, names_of, nodes_at, ports_at}
+use Rattle.pg_cluster_judges.specs.PgStep.Faults.{first_that_holds}
 use Rattle.pg_cluster_judges.specs.PgStep.FrameMachine.{frame_machine, last_notice, losing_frame_machine, sent_packet}
 use Rattle.pg_cluster_judges.specs.PgStep.LossLaws.{LosingFrameWorld, way_is_drained, is_notice}
 use Rattle.pg_cluster_judges.specs.PgStep.State.{State}
@@ -34,10 +35,10 @@ use Rattle.pg_cluster_judges.specs.ApartWithLosses.{is_last_notice}
 use Rattle.pg_cluster_judges.specs.Losses.{MarksNotices, MarkedLeads, is_first_last}
 use Rattle.pg_cluster_judges.specs.PgWorldPackets.declared.step.FrameStep.{FrameStep}
 use Rattle.pg_cluster_judges.specs.PgWorldPackets.declared.step.FrameStep.TheVariants as steps
-use Rattle.pg_cluster_judges.specs.PgWorldPackets.Losing.{first_refusal, keep_of, none_sent, packet_refusal}
+use Rattle.pg_cluster_judges.specs.PgWorldPackets.Losing.{CanBeMade, can_stay, count_sent, first_refusal, keep_of, none_sent, packet_refusal}
 use Rattle.pg_cluster_judges.specs.PgWorldPackets.Losing.{told_loss, told_of, told_own, told_sight, told_take}
 use Rattle.pg_cluster_judges.specs.Schedule.{seen_step}
-use Rattle.pg_cluster_judges.specs.Together.{CanBeMade, MadeInTurn, losing_event}
+use Rattle.pg_cluster_judges.specs.Together.{MadeInTurn, losing_event}
 use Rattle.pg_cluster_judges.proofs.Replaying.{turn_told}
 use Rattle.pg_cluster.proofs.Scheduled.{KeepsEach, is_sight, marked_event}
 
@@ -85,6 +86,19 @@ module _ (config : Config) (i : ℕ) (s : Timed State) where
         port_there (s.clock + 1) action told.0 told.1,
         ap refusal_of told.1,
       )
+
+-- packets alone are all sent
+all_sent : (xs : List (Stamped (Noticed Message))) (all : List Message) → map (λ (x : Stamped (Noticed Message)). x.packet) xs ≡ map Sent all → count_sent xs ≡ length xs
+all_sent [] all e = refl
+all_sent (x ∷ xs) [] e = absurd (cc)
+all_sent (x ∷ xs) (m ∷ all) e =
+    let here : x.packet ≡ Sent m = cc in
+    let more : map (λ (y : Stamped (Noticed Message)). y.packet) xs ≡ map Sent all = cc in
+    ap (λ (y : Noticed Message). cond (is_notice y) (count_sent xs) (suc (count_sent xs))) here ∙ ap suc (all_sent xs all more)
+
+each_same : (n : ℕ) (f g : ℕ → Bool) → ((y : ℕ) → f y ≡ g y) → each_place n f ≡ each_place n g
+each_same zero f g same = refl
+each_same (suc n) f g same = λ j. same n j && each_same n f g same j
 
 module _ (config : Config) (u v : LosingFrameWorld) where
   abbrev Leads : LosingEvent Action → Type 0
@@ -137,8 +151,6 @@ module _ (config : Config) (u v : LosingFrameWorld) where
         busy = refl;
       }
 
-  -- ---- a node is lost
-
   both_so : (a b : Bool) → (a && b) ≡ true → (a ≡ true) × (b ≡ true)
   both_so true b e = (refl, e)
   both_so false b e = absurd (cc)
@@ -146,21 +158,6 @@ module _ (config : Config) (u v : LosingFrameWorld) where
   alive : (b : Bool) → not b ≡ true → b ≡ false
   alive false e = refl
   alive true e = absurd (cc)
-
-  loss_made : (i : ℕ) (keep : List ℕ) → length keep ≡ length config - 1 → Leads (Lose i (keep_of i keep)) → CanBeMade (told_loss config u i keep)
-  unfolding losing_happens
-  loss_made i keep long h =
-      let got = cond_is_some (is_place (length config) i && (not (u.gone i) && can_keep (length config) u.world i (keep_of i keep))) _ v h in
-      let first = both_so (is_place (length config) i) (not (u.gone i) && can_keep (length config) u.world i (keep_of i keep)) got.0 in
-      let second = both_so (not (u.gone i)) (can_keep (length config) u.world i (keep_of i keep)) first.1 in
-      record {
-        allowed =
-            ap (λ b. cond (not (b && nat_eq (length keep) (length config - 1))) (Some NoSuchPlace) (cond (u.gone i) (Some NodeLost) (cond (not (can_keep (length config) u.world i (keep_of i keep))) (Some NoSuchPlace) None))) first.0
-            ∙ (ap (λ b. cond (not b) (Some NoSuchPlace) (cond (u.gone i) (Some NodeLost) (cond (not (can_keep (length config) u.world i (keep_of i keep))) (Some NoSuchPlace) None))) (eq-eqb (length keep) (length config - 1) long)
-            ∙ (ap (λ b. cond b (Some NodeLost) (cond (not (can_keep (length config) u.world i (keep_of i keep))) (Some NoSuchPlace) None)) (alive (u.gone i) second.0)
-            ∙ ap (λ b. cond (not b) (Some NoSuchPlace) None) second.1));
-        busy = refl;
-      }
 
   -- ---- a loss is seen
 
@@ -190,6 +187,38 @@ module _ (config : Config) (u v : LosingFrameWorld) where
         is_last : (y : Noticed Message) → is_notice y ≡ true → y ≡ Last
         is_last Last e = refl
         is_last (Sent m) e = absurd (cc)
+
+    -- ---- a node is lost
+
+    -- on a way from a node that is not lost are packets alone
+    sent_from : (i : ℕ) → u.gone i ≡ false → (y : ℕ) → is_pair (length config) i y ≡ true → count_sent (u.world.wire i y) ≡ length (u.world.wire i y)
+    sent_from i lives y pair =
+        let left = (bridged config apart events u reached).has in
+        let here = pair_first (length config) i y pair in
+        let there = pair_second (length config) i y pair in
+        let unseen = not_true ((u.world.node y).state.lost (name_at config i)) (λ seen. no (sym (left.gone (name_at config y) i here (left.sees y (name_at config i) there ∙ seen)) ∙ lives)) in
+        all_sent (u.world.wire i y) (left.ways i y)
+        (subst (λ b. Left b (map (λ (x : Stamped (Noticed Message)). x.packet) (u.world.wire i y)) (left.ways i y)) lives (left.cut i y here there (pair_apart (length config) i y pair) unseen))
+
+    can_stay_so : (i : ℕ) (keep : List ℕ) → u.gone i ≡ false → can_keep (length config) u.world i (keep_of i keep) ≡ true → can_stay config u i keep ≡ true
+    can_stay_so i keep lives can = sym (each_same (length config) _ _ (λ y. alike y (is_pair (length config) i y) refl)) ∙ can
+      where
+        alike : (y : ℕ) (b : Bool) → is_pair (length config) i y ≡ b → (not (is_pair (length config) i y) || nat_le (keep_of i keep y) (length (u.world.wire i y)))
+            ≡ (not (is_pair (length config) i y) || nat_le (keep_of i keep y) (count_sent (u.world.wire i y)))
+        alike y true pair = ap (λ n. not (is_pair (length config) i y) || nat_le (keep_of i keep y) n) (sym (sent_from i lives y pair))
+        alike y false none = ap (λ b. not b || nat_le (keep_of i keep y) (length (u.world.wire i y))) none ∙ sym (ap (λ b. not b || nat_le (keep_of i keep y) (count_sent (u.world.wire i y))) none)
+
+    loss_made : (i : ℕ) (keep : List ℕ) → length keep ≡ length config - 1 → Leads (Lose i (keep_of i keep)) → CanBeMade (told_loss config u i keep)
+    unfolding losing_happens
+    loss_made i keep long h =
+        let got = cond_is_some (is_place (length config) i && (not (u.gone i) && can_keep (length config) u.world i (keep_of i keep))) _ v h in
+        let first = both_so (is_place (length config) i) (not (u.gone i) && can_keep (length config) u.world i (keep_of i keep)) got.0 in
+        let second = both_so (not (u.gone i)) (can_keep (length config) u.world i (keep_of i keep)) first.1 in
+        let lives = alive (u.gone i) second.0 in
+        record {
+          allowed = λ j. first_that_holds ((not (first.0 j && (eq-eqb (length keep) (length config - 1) long j && can_stay_so i keep lives second.1 j)), NoSuchPlace) ∷ (lives j, NodeLost) ∷ []);
+          busy = refl;
+        }
 
     -- ---- a step
 

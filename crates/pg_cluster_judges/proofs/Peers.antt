@@ -2,8 +2,6 @@
 use Rattle.std.proofs.Common.{◌≡◌, ◌<◌, ◌+◌, ◌-◌, ◌^◌, ℕ, Bool, true, false, cond}
 use Rattle.std.proofs.Common.{nat_lt, min}
 use Rattle.std.proofs.Common.{refl, arith}
-use Rattle.pg_node_run.specs.declared.log.NodeEvent.TheVariants as entries
-use Rattle.pg_world.specs.PgWorldPackets.declared.step.FrameStep.TheVariants as steps
 use Rattle.pg_world.specs.PgWorldPackets.Views.{place_of_peer}
 use Rattle.pg_cluster_judges.specs.Schedule.{node_of_peer}
 

@@ -72,7 +72,7 @@ turn_is_told config w u (Do i action) happened =
 
 told_ten : (config : Config) (w u : TimedFrameWorld) (e : Event Action) (number : ℕ) → happens (frame_machine config) w e ≡ Some u → IsTold config w e number → number ≡ 10
 told_ten config w u e number happened (inl is) = is ∙ ap number_told (turn_is_told config w u e happened).1
-told_ten config w u e number happened (inr is) = is
+told_ten config w u e number happened (inr is) = is.1
 
 -- has the number of no memory
 passed_ten : (config : Config) (w u : TimedFrameWorld) (step : FrameStep) (e : Event Action) (number : ℕ) → event_of step ≡ Some e → happens (frame_machine config) w e ≡ Some u → ChangesNothing config w step number → number ≡ 10

@@ -16,7 +16,7 @@ use Rattle.pg_world.specs.PgWorldConfig.Seen.{Seen}
 use Rattle.pg_world.specs.Crossings.{node_of}
 use Rattle.pg_world.specs.PgWorldPackets.declared.step.FrameStep.{FrameStep}
 use Rattle.pg_world.specs.PgWorldPackets.declared.step.FrameStep.TheVariants as steps
-use Rattle.pg_world.specs.PgWorldPackets.Losing.{ShowsLosing, Telling, losing_of, told_of}
+use Rattle.pg_world.specs.PgWorldPackets.Losing.{CanBeMade, ShowsLosing, Telling, losing_of, told_of}
 use Rattle.pg_world.specs.PgWorldPackets.LosingRuns.{IsLeftOut, LosingRunsTo, RanLosing, packets_past_losses}
 use Rattle.pg_world.specs.PgWorldPackets.Openings.{CanBegin}
 use Rattle.pg_world.specs.PgWorldPackets.Views.{View}
@@ -24,7 +24,7 @@ use Rattle.pg_world.specs.PgWorldPackets.Worlds.{ShowsNode, TimedFrameWorld}
 use Rattle.pg_world.proofs.PgWorldPackets.OrderedOnce.{ordered_once}
 use Rattle.pg_cluster_judges.specs.Judges.{AreShown, ReplaysPastLosses, all_made, ran_out}
 use Rattle.pg_cluster_judges.specs.NodeOf.{NodeOf}
-use Rattle.pg_cluster_judges.specs.Together.{AreOneLosingRun, CanBeMade, MadeInTurn, losing_event}
+use Rattle.pg_cluster_judges.specs.Together.{AreOneLosingRun, MadeInTurn, losing_event}
 use Rattle.pg_cluster_judges.proofs.Replaying.{none_first, none_later, seen_again}
 
 -- what is told of a step is its event
@@ -38,7 +38,7 @@ event_is config u (steps.Lose i keep) = refl
 -- a step that can be made, and was left out, has the number of no memory
 left_ten : (told : Telling) (number : ℕ) → CanBeMade told → IsLeftOut told number → number ≡ 10
 left_ten told number can (inl is) = is ∙ (ap (λ r. option_map_or refusal_number_of r (cond told.is_idle 0 10)) can.allowed ∙ ap (λ b. cond {A = ℕ} b 0 10) can.busy)
-left_ten told number can (inr is) = is
+left_ten told number can (inr is) = is.1
 
 -- where no step was refused for memory, all happened, and led to the same world
 abbrev Again : LosingFrameWorld → LosingFrameWorld → List ℕ → Type 0
@@ -103,7 +103,7 @@ all_happen config (step ∷ schedule) w v (can, x, happened, made) =
     inl (record {
       listed = refl;
       e = losing_event step;
-      is = (sym (event_is config w step), can.busy);
+      is = (sym (event_is config w step), can);
       left = x;
       happened = happened;
       rest = record { later = map losing_event schedule; first = refl; rest = all_happen config schedule x v made };

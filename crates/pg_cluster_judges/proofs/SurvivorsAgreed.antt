@@ -59,7 +59,7 @@ use Rattle.pg_cluster_judges.specs.Merge.{log_at as merge_log}
 use Rattle.pg_cluster_judges.proofs.Sorted.{every_place}
 use Rattle.pg_world.specs.PgWorldPackets.declared.step.FrameStep.{FrameStep}
 use Rattle.pg_world.specs.PgWorldPackets.declared.step.FrameStep.TheVariants as steps
-use Rattle.pg_world.specs.PgWorldPackets.Losing.{none_sent, told_of}
+use Rattle.pg_world.specs.PgWorldPackets.Losing.{CanBeMade, none_sent, told_of}
 use Rattle.pg_world.specs.PgWorldPackets.Views.{peer_place, place_of_peer}
 use Rattle.pg_world.proofs.PgWorldPackets.Peering.{there_and_back}
 use Rattle.pg_cluster_judges.specs.Judges.{HasAs, formed_in, is_end_pending, is_pending_end}
@@ -71,7 +71,7 @@ use Rattle.pg_cluster_judges.specs.Survivors.{SurvivorsAgree, any_before, asks_o
 use Rattle.pg_cluster_judges.specs.Survivors.{is_compared, is_loss_of, is_loss_pending, is_missing}
 use Rattle.pg_cluster_judges.specs.Survivors.{is_touched_by_lost, is_take_of, log_at, survivors, was_lost}
 use Rattle.pg_cluster_judges.specs.NodeOf.{NodeOf}
-use Rattle.pg_cluster_judges.specs.Together.{AreOneLosingRun, CanBeMade, MadeInTurn, losing_event}
+use Rattle.pg_cluster_judges.specs.Together.{AreOneLosingRun, MadeInTurn, losing_event}
 use Rattle.pg_cluster_judges.proofs.Peers.{peer_within}
 use Rattle.pg_cluster_judges.proofs.Surviving.{any_found, any_survivor, not_each, survivors_all}
 

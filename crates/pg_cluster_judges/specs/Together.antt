@@ -1,5 +1,5 @@
 -- What a cluster that has ended did, as one run of its configuration.
-use Rattle.std.specs.Prelude.{◌≡◌, ℕ, ◌<◌, ◌≤◌, Bool, true, false, length, map, slice_get, List, [], ◌∷◌, None, Some}
+use Rattle.std.specs.Prelude.{◌≡◌, ℕ, ◌<◌, ◌≤◌, Bool, true, false, length, map, slice_get, List, [], ◌∷◌, Some}
 use Rattle.std.specs.List.{IsDistinct}
 use Rattle.pg_term.specs.Same.{same_atom}
 use Rattle.pg_world.specs.PgStep.Machines.Machine.{Event, start_of}
@@ -27,7 +27,7 @@ use Rattle.pg_world.specs.PgStep.LossLaws.{LosingFrameWorld}
 use Rattle.pg_world.specs.PgStep.Step.{Issue, Retry}
 use Rattle.pg_cluster_judges.specs.ApartWithLosses.{nodes_in}
 use Rattle.pg_world.specs.PgWorldPackets.declared.step.FrameStep.TheVariants as steps
-use Rattle.pg_world.specs.PgWorldPackets.Losing.{Telling, keep_of, told_of}
+use Rattle.pg_world.specs.PgWorldPackets.Losing.{CanBeMade, keep_of, told_of}
 use Rattle.pg_cluster_judges.specs.Schedule.{is_lost_in}
 use Rattle.pg_cluster_judges.specs.NodeOf.{NodeOf}
 
@@ -59,11 +59,6 @@ losing_event (steps.Command i port command) = Step (Do i (Issue port command))
 losing_event (steps.Retry i op) = Step (Do i (Retry op))
 losing_event (steps.SeeLoss i p) = Step (Take i p)
 losing_event (steps.Lose i keep) = Lose i (keep_of i keep.items)
-
--- nothing refuses a step, and a packet is on the way if it takes one
-pub record CanBeMade (told : Telling) : Type 0 where
-  pub allowed : told.refusal ≡ None
-  pub busy : told.is_idle ≡ false
 
 -- From the world u each of these steps can be made, one after another, and they lead to the world v.
 abbrev pub MadeInTurn : Config → LosingFrameWorld → List FrameStep → LosingFrameWorld → Type 0

@@ -11,7 +11,7 @@ use Rattle.pg_world_packets.specs.declared.step.FrameStep.{FrameStep}
 use Rattle.pg_world_packets.specs.declared.step.Stepped.{Stepped}
 use Rattle.pg_world_packets.specs.declared.step.Stepped.TheVariants.{Happened, Gone}
 use Rattle.pg_world_packets.specs.Views.{View}
-use Rattle.pg_world_packets.specs.Losing.{Telling, LosingLed, ShowsLosing, told_of}
+use Rattle.pg_world_packets.specs.Losing.{Telling, CanBeMade, LosingLed, ShowsLosing, told_of}
 use Rattle.pg_world_packets.specs.Losing.{told_take, told_own, told_sight, told_loss}
 use Rattle.pg_explore.specs.declared.moment.Moment.{Moment}
 use Rattle.pg_explore.specs.declared.moves.Move.{Move}
@@ -43,10 +43,10 @@ told_move config u plans progress (SeeLoss i p) = Some (told_sight config u i p)
 
 -- ---- what comes of it
 
--- its event happened, with a packet on the way if it takes one, and led to a world that is shown
+-- its event, which can be made, happened and led to a world that is shown
 abbrev pub HasHappened : Config → LosingFrameWorld → Option Telling → (LosingFrameWorld → Type 0) → Type 0
 HasHappened config u None Shown = ⊥
-HasHappened config u (Some telling) Shown = (telling.is_idle ≡ false) × LosingLed config u telling.event Shown
+HasHappened config u (Some telling) Shown = CanBeMade telling × LosingLed config u telling.event Shown
 
 -- a step led from one moment to another: whatever world of the machine the one shows, its event happens there, and the other shows what it leaves
 pub record MoveLeads (plans : List Plan) (old : Sight) (step : Move) (new : Sight) : Type 0 where

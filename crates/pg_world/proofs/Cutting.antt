@@ -61,8 +61,8 @@ module _ (config : Config) (w : TimedFrameWorld) (Shown : TimedFrameWorld → Ty
   came_as (steps.Lose node) lost stepped none comes = absurd (one_at_least node lost none)
 
   unseen_as : (pair : Bool) (fault : NodeFault) → IsUnseen pair (Err fault) → SeesNone pair (node_number_of fault)
-  unseen_as pair OutOfMemory unseen = inr (unseen, refl)
-  unseen_as pair (Refused refusal) unseen = inl (ap refusal_number_of unseen)
+  unseen_as pair OutOfMemory unseen = absurd unseen
+  unseen_as pair (Refused refusal) unseen = ap refusal_number_of unseen
   unseen_as pair (BadMessage m) unseen = absurd unseen
   unseen_as pair TooLong unseen = absurd unseen
   unseen_as pair Damaged unseen = absurd unseen

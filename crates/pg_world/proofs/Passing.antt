@@ -33,7 +33,7 @@ use Rattle.pg_world_packets.specs.PgNodeState.declared.state.fault.NodeFault.The
 use Rattle.pg_node.specs.Bytes.{ReadsNext, damages, marked, packet_in, packet_at, next_packet}
 use Rattle.pg_world_packets.specs.PgNodeSends.Frames.{AreSmallFrames}
 use Rattle.pg_node.specs.Links.{Link, at_link}
-use Rattle.pg_node.specs.Nodes.{read_next, ComesInRoom}
+use Rattle.pg_node.specs.Nodes.{read_next}
 use Rattle.pg_world_packets.specs.PgNodeSends.Sendable.{AreSendable}
 use Rattle.pg_world_packets.specs.PgNodeState.States.{Comes}
 use Rattle.pg_world_packets.specs.PgNodeSends.Sent.{stamped_of}
@@ -155,7 +155,7 @@ module _ (config : Config) (lost : List ℕ) (crossing crossing2 : Crossing) (ac
   module _ (i : ℕ) (stays : is_lost lost i ≡ false) (action : Action) (node after : Seen) (done : FramedDone) (here : slice_get crossing.nodes i ≡ Some node) (set : crossing2.nodes ≡ slice_set crossing.nodes i after)
       (names : after.names ≡ node.names) (ports : after.ports ≡ node.ports) (fits : AreSendable node.names (listed_of done.sends)) (small : AreSmallFrames (listed_of done.sends))
       (acts : Acts crossing crossing2 (Do i action) (listed_of done.sends)) (grew : Grew account account2 i None done.began) (effect : Effect) (did : effect ≡ effect_by done) where
-    pub own_shown : ComesInRoom node.names (step_act (whole_in node.names) node.ports action node.state) (Ok done) after.state node.answers after.answers
+    pub own_shown : Comes node.names (step_act (whole_in node.names) node.ports action node.state) (Ok done) after.state node.answers after.answers
         → EventComesTo config w (Do i action) (Ok (Happened effect)) (ShowsBytesPast config lost crossing2 account2)
     own_shown comes = happened_as config w (Do i action) (effect_by done) effect did _ _ whole
         (own_left config crossing.nodes w i action node shows.traffic.nodes here crossing2.nodes after done set names ports fits comes)
@@ -172,7 +172,7 @@ module _ (config : Config) (lost : List ℕ) (crossing crossing2 : Crossing) (ac
     module _ (after : Seen) (done : FramedDone) (set : crossing2.nodes ≡ slice_set crossing.nodes i after)
         (names : after.names ≡ node.names) (ports : after.ports ≡ node.ports) (fits : AreSendable node.names (listed_of done.sends)) (small : AreSmallFrames (listed_of done.sends))
         (acts : Acts crossing crossing2 (Take i p) (listed_of done.sends)) (grew : Grew account account2 i (update_asked_by packet.message) done.began) (effect : Effect) (did : effect ≡ effect_by done) where
-      pub taken_shown : ComesInRoom node.names (step_take (whole_in node.names) (place_name node.names (peer_place i p + 1)) (stamped_of packet) node.state) (Ok done) after.state node.answers after.answers
+      pub taken_shown : Comes node.names (step_take (whole_in node.names) (place_name node.names (peer_place i p + 1)) (stamped_of packet) node.state) (Ok done) after.state node.answers after.answers
           → EventComesTo config w (Take i p) (Ok (Happened effect)) (ShowsBytesPast config lost crossing2 account2)
       taken_shown comes = happened_as config w (Take i p) (effect_by done) effect did _ _ whole
           (take_left config crossing.nodes w i p shows.traffic.nodes pair node here (stamped_of packet) first.rest first.begins crossing2.nodes after done set names ports fits comes)
@@ -201,7 +201,7 @@ module _ (config : Config) (lost : List ℕ) (crossing crossing2 : Crossing) (ac
 module _ (config : Config) (lost : List ℕ) (crossing : Crossing) (w : TimedFrameWorld) (shows : ShowsPast config lost crossing w) (Shown : TimedFrameWorld → Type 0) where
   -- something of its own
   pub own_err : (i : ℕ) (action : Action) (node : Seen) (s : Timed State) (after : ℕ → List Answer) → slice_get crossing.nodes i ≡ Some node → (fault : NodeFault)
-      → ComesInRoom node.names (step_act (whole_in node.names) node.ports action node.state) (Err fault) s node.answers after → Shown w → EventComesTo config w (Do i action) (Err fault) Shown
+      → Comes {h = frames.ghosts} node.names (step_act (whole_in node.names) node.ports action node.state) (Err fault) s node.answers after → Shown w → EventComesTo config w (Do i action) (Err fault) Shown
   own_err i action node s after here OutOfMemory comes shown = shown
   own_err i action node s after here (Refused refusal) comes shown = (own_refused config crossing.nodes w i action node shows.nodes here frames.ghosts (Refused refusal) s node.answers after Shown comes, shown)
   own_err i action node s after here (BadMessage fault) comes shown = own_refused config crossing.nodes w i action node shows.nodes here frames.ghosts (BadMessage fault) s node.answers after Shown comes
@@ -225,7 +225,7 @@ module _ (config : Config) (lost : List ℕ) (crossing : Crossing) (w : TimedFra
     never comes = welcome (stamped_of packet) first.rest first.begins
         (sym (taken_told config crossing.nodes w i p shows.nodes pair node here (stamped_of packet) first.rest first.begins) ∙ no_message _ comes)
 
-    pub take_err : (fault : NodeFault) → ComesInRoom node.names (step_take (whole_in node.names) (place_name node.names (peer_place i p + 1)) (stamped_of packet) node.state) (Err fault) s node.answers after
+    pub take_err : (fault : NodeFault) → Comes {h = frames.ghosts} node.names (step_take (whole_in node.names) (place_name node.names (peer_place i p + 1)) (stamped_of packet) node.state) (Err fault) s node.answers after
         → (damages fault ≡ false → Shown w) → EventComesTo config w (Take i p) (Err fault) Shown
     take_err OutOfMemory comes shown = shown refl
     take_err (Refused NotAMessage) comes shown = absurd (never comes)

@@ -1,5 +1,5 @@
 -- What bars a step over bytes where nodes may be lost: a place that is not there, and losses.
-use Rattle.std.specs.Prelude.{◌≡◌, ◌⊎◌, ℕ, Bool, true, false, not, ◌||◌, nat_lt}
+use Rattle.std.specs.Prelude.{◌≡◌, ℕ, Bool, true, false, not, ◌||◌, nat_lt}
 use Rattle.std.specs.Prelude.{length, List, [], ◌∷◌, Option, Some, None, Result, Err}
 use Rattle.pg_world_packets.specs.PgStep.Machines.Places.{is_pair}
 use Rattle.pg_world_packets.specs.PgStep.declared.refusal.Refusal.{Refusal}
@@ -69,10 +69,10 @@ bar_of crossing lost (steps.Pull y x max) = pull_bar crossing lost y x
 bar_of crossing lost (steps.Event step) = event_bar crossing lost step
 bar_of crossing lost (steps.Lose i) = loss_bar crossing lost i
 
--- what is barred is refused so, or memory ran out
+-- what is barred is refused so, whatever memory there is
 abbrev pub RefusesBarred : Option Refusal → Result Stepped NodeFault → Type 0
 RefusesBarred None result = Unit {0}
-RefusesBarred (Some refusal) result = (result ≡ Err (Refused refusal)) ⊎ (result ≡ Err OutOfMemory)
+RefusesBarred (Some refusal) result = result ≡ Err (Refused refusal)
 
 -- a fault is the refusal of what is barred so, or memory ran out
 abbrev pub IsFaultOf : Option Refusal → NodeFault → Type 0

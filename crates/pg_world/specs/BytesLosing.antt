@@ -1,9 +1,9 @@
 -- Worlds over bytes whose nodes may be lost: the world with losses that they show, and what a step makes of it.
-use Rattle.std.specs.Prelude.{◌≡◌, ℕ, ◌||◌, cond, length, List, Option, Some, None, Result, Ok, Err}
+use Rattle.std.specs.Prelude.{◌≡◌, ℕ, Bool, true, false, ◌||◌, cond, length, List, Option, Some, None, Result, Ok, Err}
 use Rattle.pg_world_packets.specs.PgStep.Machines.Places.{is_place, is_pair}
 use Rattle.pg_world_packets.specs.PgStep.Machines.Losing.{Lose}
 use Rattle.pg_world_packets.specs.PgStep.declared.refusal.Refusal.{Refusal}
-use Rattle.pg_world_packets.specs.PgStep.declared.refusal.Refusal.TheVariants.{NoSuchPlace, NodeLost, NotDrained}
+use Rattle.pg_world_packets.specs.PgStep.declared.refusal.Refusal.TheVariants.{NoSuchPlace, NodeLost, NotLost, NotDrained}
 use Rattle.pg_world_packets.specs.PgStep.Config.{Config}
 use Rattle.pg_world_packets.specs.PgStep.LossLaws.{LosingFrameWorld}
 use Rattle.pg_world_packets.specs.PgStep.Step.{Issue, Retry}
@@ -17,7 +17,7 @@ use Rattle.pg_world.specs.declared.step.Step.TheVariants as steps
 use Rattle.pg_world_packets.specs.declared.step.Stepped.{Stepped}
 use Rattle.pg_world_packets.specs.declared.step.Stepped.TheVariants.{Nothing, Moved, Gone}
 use Rattle.pg_world.specs.Crossings.{Crossing, ShowsBytesPast}
-use Rattle.pg_world_packets.specs.Losing.{SeenAreLost, Telling, losing_of, told_take}
+use Rattle.pg_world_packets.specs.Losing.{SeenAreLost, Telling, is_told_first, losing_of, told_take}
 use Rattle.pg_world_packets.specs.Losing.{told_own, told_sight, LosingLed, LosingComesTo}
 use Rattle.pg_world_packets.specs.PgWorldAccount.Histories.{Account}
 use Rattle.pg_world_packets.specs.Worlds.{TimedFrameWorld}
@@ -52,26 +52,35 @@ MoveLeaves refusal (Err fault) Shown = ⊥
 
 -- ---- events
 
--- What came of a packet that should be taken: as over packets, but that nothing is told where no whole frame has come.
+-- What came of a packet that should be taken: as over packets, but that nothing is told where no whole frame has come, and no refusal is
+-- told first.
 abbrev pub WholeComesTo : Config → LosingFrameWorld → Telling → Result Stepped NodeFault → (LosingFrameWorld → Type 0) → Type 0
-WholeComesTo config u told (Ok Nothing) Shown = Shown u
+WholeComesTo config u told (Ok Nothing) Shown = (is_told_first told.refusal ≡ false) × Shown u
 WholeComesTo config u told result Shown = LosingComesTo config u told result Shown
 
+-- a refusal that stands before NotDrained, where a loss should be seen
+abbrev pub bars_sight : Option Refusal → Bool
+bars_sight (Some NoSuchPlace) = true
+bars_sight (Some NodeLost) = true
+bars_sight (Some NotLost) = true
+bars_sight refusal = false
+
 -- What came of a loss that should be seen: as over packets, but that bytes of the lost node which are on the ring, if no more than a
--- piece of a frame, bar it.
+-- piece of a frame, bar it, where no earlier refusal holds.
 abbrev pub SightComesTo : Config → LosingFrameWorld → Telling → Result Stepped NodeFault → (LosingFrameWorld → Type 0) → Type 0
-SightComesTo config u told (Err (Refused NotDrained)) Shown = Shown u
+SightComesTo config u told (Err (Refused NotDrained)) Shown = (bars_sight told.refusal ≡ false) × Shown u
 SightComesTo config u told result Shown = LosingComesTo config u told result Shown
 
 -- why a node is not lost, the first that holds
 abbrev pub gone_refusal : Config → LosingFrameWorld → ℕ → Option Refusal
 gone_refusal config u i = cond (is_place (length config) i) (cond (u.gone i) (Some NodeLost) None) (Some NoSuchPlace)
 
--- What came of the loss of a node: it is lost, and on each way from it so many packets stay as were put whole.
+-- What came of the loss of a node: nothing refuses it, it is lost, and on each way from it so many packets stay as were put whole; or
+-- memory ran out where nothing refuses it, or it was refused as is told.
 abbrev pub LossComesTo : Config → LosingFrameWorld → ℕ → Result Stepped NodeFault → (LosingFrameWorld → Type 0) → Type 0
-LossComesTo config u i (Ok Gone) Shown = (keep : ℕ → ℕ) × LosingLed config u (Lose i keep) Shown
+LossComesTo config u i (Ok Gone) Shown = (gone_refusal config u i ≡ None) × (keep : ℕ → ℕ) × LosingLed config u (Lose i keep) Shown
 LossComesTo config u i (Ok stepped) Shown = ⊥
-LossComesTo config u i (Err OutOfMemory) Shown = Shown u
+LossComesTo config u i (Err OutOfMemory) Shown = (gone_refusal config u i ≡ None) × Shown u
 LossComesTo config u i (Err (Refused r)) Shown = (gone_refusal config u i ≡ Some r) × Shown u
 LossComesTo config u i (Err fault) Shown = ⊥
 

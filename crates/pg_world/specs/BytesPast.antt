@@ -32,7 +32,7 @@ pub record BytesMissed (given : Config) (crossing : Crossing) (account : Account
 -- what a step made of them
 abbrev pub BytesGoOn : Config → Crossing → Account → List ℕ → Step → Result Stepped NodeFault → Crossing → Account → List ℕ → Type 0
 BytesGoOn given old account lost step result new later now =
-    PastGoesOn given (λ config u. ShowsLosingBytes config old account lost u) (λ config u. ShowsLosingBytes config new later now u) (λ config u Shown. StepLeaves config u step result Shown)
+    PastGoesOn bytes_past_losses given (λ config u. ShowsLosingBytes config old account lost u) (λ config u. ShowsLosingBytes config new later now u) step result (λ config u Shown. StepLeaves config u step result Shown)
 
 -- what steps made of them, one after another
 abbrev pub BytesRunOn : Config → Crossing → Account → List ℕ → List Step → List ℕ → Crossing → Account → List ℕ → Type 0

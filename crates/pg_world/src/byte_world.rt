@@ -210,8 +210,8 @@ impl<T: GroupTable + Drop> World<T> {
     ///
     /// Errors, by which the frame world stays, the first that holds: `Refused` by `NoSuchPlace` where a node, a port
     /// or a peer is not there, or a node and its peer are one; those of `NodeState::take`, `command` and `retry`, of
-    /// which `NotAMessage` never comes; `OutOfMemory` may come in the place of each after `NoSuchPlace`. No link
-    /// is ever damaged.
+    /// which `NotAMessage` never comes; `OutOfMemory` may come in the place of each, but not of `NoSuchPlace`, `NodeLost`,
+    /// `NotLost` or `NotDrained`. No link is ever damaged.
     ///
     /// Where nodes are lost, the same holds of whatever world with losses the world shows, as events lead to it from
     /// the start: a step is the event of the machine with losses. A step of a node that is lost, and a put from it,

@@ -109,8 +109,8 @@ impl<T: GroupTable + Drop> ByteNodes<T> {
     ///
     /// Errors, by which the frame world stays, the first that holds: `Refused` by `NoSuchPlace` where a node, a port
     /// or a peer is not there, or a node and its peer are one; those of `NodeState::take`, `command` and `retry`, of
-    /// which `NotAMessage` never comes; `OutOfMemory` may come in the place of each after `NoSuchPlace`. No link
-    /// is ever damaged.
+    /// which `NotAMessage` never comes; `OutOfMemory` may come in the place of each, but not of `NoSuchPlace`, `NodeLost`,
+    /// `NotLost` or `NotDrained`. No link is ever damaged.
     ///
     /// Where nodes are lost, the same holds of whatever world with losses the world shows, as events lead to it from
     /// the start: a step is the event of the machine with losses. A step of a node that is lost, and a put from it,
@@ -245,18 +245,23 @@ impl<T: GroupTable + Drop> ByteNodes<T> {
         if self.is_barred(event) {
             return Err(NodeFault::Refused(Refusal::NodeLost));
         }
-        match self.histories.settle() {
-            Ok(()) => {}
-            Err(AllocError) => return Err(NodeFault::OutOfMemory),
-        }
         match event {
-            FrameStep::Take { node, peer } => self.take(*node, *peer),
+            FrameStep::Take { node, peer } => match self.histories.settle() {
+                Ok(()) => self.take(*node, *peer),
+                Err(AllocError) => Err(NodeFault::OutOfMemory),
+            },
             FrameStep::Command {
                 node,
                 port,
                 command,
-            } => self.command(*node, *port, command),
-            FrameStep::Retry { node, op } => self.retry(*node, *op),
+            } => match self.histories.settle() {
+                Ok(()) => self.command(*node, *port, command),
+                Err(AllocError) => Err(NodeFault::OutOfMemory),
+            },
+            FrameStep::Retry { node, op } => match self.histories.settle() {
+                Ok(()) => self.retry(*node, *op),
+                Err(AllocError) => Err(NodeFault::OutOfMemory),
+            },
             FrameStep::SeeLoss { node, peer } => self.see_loss(*node, *peer),
             FrameStep::Lose { node, keep: _ } => self.lose(*node),
         }

@@ -1,6 +1,6 @@
 -- Steps that are refused where nodes may be lost, and what comes of those that know of no loss.
 use Rattle.std.proofs.Common.{◌≡◌, ℕ, ◌+◌, ◌-◌, ◌<◌, ◌≤◌, Bool, true, false, not, ◌&&◌, ◌||◌, cond}
-use Rattle.std.proofs.Common.{nat_eq, nat_lt, map, length, get_or, List, [], ◌∷◌, ◌++◌, Some, None}
+use Rattle.std.proofs.Common.{max, nat_eq, nat_lt, map, length, get_or, List, [], ◌∷◌, ◌++◌, Some, None}
 use Rattle.std.proofs.Common.{Result, Ok, Err, refl, sym, ap, ◌∙◌, inl, inr, ◌⊎◌, arith, subst}
 use Rattle.std.specs.Prelude.{slice_get, OnErr}
 use Rattle.std.specs.Option.{option_map_or}
@@ -8,9 +8,9 @@ use Rattle.std.proofs.lemmas.Bool.{lt-ltb}
 use Rattle.std.proofs.lemmas.Option.{slice_get_cases}
 use Rattle.pg_node_state.specs.PgMessageTypes.declared.message.Message.{Message}
 use Rattle.pg_node_state.specs.PgStep.Machines.Places.{is_place, is_pair}
-use Rattle.pg_node_state.specs.PgStep.Machines.Machine.{Event, Input, Take, Do, node_of, first_from, happens}
+use Rattle.pg_node_state.specs.PgStep.Machines.Machine.{Event, Input, Turn, Take, Do, Taken, Own, node_of, first_from, happens}
 use Rattle.pg_node_state.specs.PgStep.Machines.Clocked.{Timed, Stamped}
-use Rattle.pg_node_state.specs.PgStep.Machines.Losing.{Noticed, LosingEvent, Step, losing_happens, can_keep}
+use Rattle.pg_node_state.specs.PgStep.Machines.Losing.{Noticed, LosingEvent, Step, losing_happens}
 use Rattle.pg_node_state.proofs.PgStep.Machines.Options.{some_is}
 use Rattle.pg_node_state.proofs.PgStep.Machines.Steps.{happened}
 use Rattle.pg_node_state.specs.PgStep.Config.{Config, names_of, name_at, nodes_at, ports_at}
@@ -18,11 +18,14 @@ use Rattle.pg_node_state.specs.PgStep.Faults.{first_that_holds}
 use Rattle.pg_node_state.specs.PgStep.FrameMachine.{frame_machine, losing_frame_machine, last_notice, sent_packet}
 use Rattle.pg_node_state.specs.PgStep.LossLaws.{LosingFrameWorld, way_is_drained, clock_after}
 use Rattle.pg_node_state.specs.PgStep.Nodes.{Node, Nodes}
-use Rattle.pg_node_state.specs.PgStep.State.{State}
-use Rattle.pg_node_state.specs.PgStep.Step.{Action, Issue, Retry, step_take, step_act}
-use Rattle.pg_node_state.specs.PgStep.StepLaws.{refusal_of, port_of, is_full}
+use Rattle.pg_node_state.specs.PgStep.State.{State, live_nodes}
+use Rattle.pg_node_state.specs.PgStep.Step.{Action, Issue, Retry, TimedTurn, node_takes, node_acts, step_take, step_act}
+use Rattle.pg_node_state.specs.PgStep.StepLaws.{timed_placed, refusal_of, port_of, retries_none, is_full, is_no_message}
+use Rattle.pg_node_state.specs.PgStep.Turns.{Report}
+use Rattle.pg_node_state.proofs.PgStep.Refusals.{acts_in_order, same_step, takes_in_order}
 use Rattle.pg_node_state.specs.PgStep.declared.refusal.Refusal.{Refusal}
-use Rattle.pg_node_state.specs.PgStep.declared.refusal.Refusal.TheVariants.{NoSuchPlace, NodeLost, NotLost, NotDrained, ClockFull}
+use Rattle.pg_node_state.specs.PgStep.declared.refusal.Refusal.TheVariants.{NoSuchPlace, NodeLost, NotAMessage, NotLost}
+use Rattle.pg_node_state.specs.PgStep.declared.refusal.Refusal.TheVariants.{NotDrained, NotWaiting, ClockFull}
 use Rattle.pg_node_state.specs.PgNodeOpens.Places.{name_at as place_name}
 use Rattle.pg_node_state.specs.declared.state.fault.NodeFault.{NodeFault}
 use Rattle.pg_node_state.specs.declared.state.fault.NodeFault.TheVariants.{Refused, OutOfMemory}
@@ -34,8 +37,8 @@ use Rattle.pg_world_packets.specs.declared.step.Stepped.{Stepped}
 use Rattle.pg_world_packets.specs.declared.step.Stepped.TheVariants.{Happened, Moved, Nothing, Gone}
 use Rattle.pg_world_packets.specs.Effects.{effect_in, losing_effect_in}
 use Rattle.pg_world_packets.specs.Losing.{notices, losing_of, SeenAreLost, ShowsLosing, seen_at, is_cut_off}
-use Rattle.pg_world_packets.specs.Losing.{is_barred, none_sent, first_refusal, take_refusal, own_refusal, keep_of}
-use Rattle.pg_world_packets.specs.Losing.{Telling, told_take, told_own, told_of, LosingLed, LosingComesTo}
+use Rattle.pg_world_packets.specs.Losing.{is_barred, none_sent, first_refusal, take_refusal, own_refusal, can_stay}
+use Rattle.pg_world_packets.specs.Losing.{Telling, CanBeMade, is_told_first, told_take, told_own, told_of, LosingLed, LosingComesTo}
 use Rattle.pg_world_account.specs.Losses.{is_lost}
 use Rattle.pg_world_config.specs.Seen.{Seen}
 use Rattle.pg_world_packets.specs.Views.{View, peer_place}
@@ -113,8 +116,7 @@ module _ (config : Config) (nodes : List Seen) (w : TimedFrameWorld) (lost : Lis
       ∷ (not (way_is_drained (u.world.wire p i)), NotDrained) ∷ (is_full (clock_after (w.node i).clock (u.world.wire p i)), ClockFull) ∷ []))
       (sym (pair_here i p) ∙ none)
   unplaced_told (steps.Lose i keep) none = ap (λ b. first_that_holds (
-      (not (b && nat_eq (length keep.items) (length config - 1)), NoSuchPlace) ∷ (u.gone i, NodeLost)
-      ∷ (not (can_keep (length config) u.world i (keep_of i keep.items)), NoSuchPlace) ∷ []))
+      (not (b && (nat_eq (length keep.items) (length config - 1) && can_stay config u i keep.items)), NoSuchPlace) ∷ (u.gone i, NodeLost) ∷ []))
       (ap (nat_lt i) (sym shows.size) ∙ none)
 
   -- ---- losses bar it
@@ -150,6 +152,51 @@ first_told : (m : Nodes) (p : Node) (s : Timed State) (xs : List (Stamped Messag
     → told_of_first m p s xs ≡ Some (Err r) → first_refusal m p s (map sent_packet xs ++ more) ≡ Some r
 first_told m p s [] more r e = absurd (cc)
 first_told m p s (x ∷ xs) more r e = let same : step_take m p x s ≡ Err r = some_is e in ap refusal_of same
+
+-- what is told first refuses no packet of a peer whose loss was not seen
+first_late : (m : Nodes) (p : Node) (s last : Timed State) (xs : List (Stamped Message)) (b : Bool) → s.state.lost p ≡ false
+    → is_told_first (first_refusal m p s (map sent_packet xs ++ cond b (last_notice last ∷ []) [])) ≡ false
+first_late m p s last [] true unseen = refl
+first_late m p s last [] false unseen = refl
+first_late m p s last (x ∷ xs) b unseen =
+    ap is_told_first (takes_in_order m p x s) ∙ go (s.state.lost p) (is_full (max s.clock x.stamp + 1)) (is_no_message (live_nodes m s.state) p x.packet s.state) unseen
+  where
+    go : (lost full bad : Bool) → lost ≡ false → is_told_first (first_that_holds ((lost, NodeLost) ∷ (full, ClockFull) ∷ (bad, NotAMessage) ∷ [])) ≡ false
+    go true full bad e = absurd (cc)
+    go false true bad e = refl
+    go false false true e = refl
+    go false false false e = refl
+
+-- what is told first refuses nothing at a port that is there
+own_late : (m : Nodes) (ports : ℕ) (action : Action) (s : Timed State) → nat_lt (port_of action) ports ≡ true → is_told_first (refusal_of (step_act m ports action s)) ≡ false
+own_late m ports action s there =
+    ap is_told_first (acts_in_order m ports action s) ∙ go (nat_lt (port_of action) ports) (retries_none (live_nodes m s.state) action s.state) (is_full (s.clock + 1)) there
+  where
+    go : (port none full : Bool) → port ≡ true → is_told_first (first_that_holds ((not port, NoSuchPlace) ∷ (none, NotWaiting) ∷ (full, ClockFull) ∷ [])) ≡ false
+    go false none full e = absurd (cc)
+    go true true full e = refl
+    go true false true e = refl
+    go true false false e = refl
+
+-- a turn that is made is not refused
+made_unrefused : (config : Config) (r : Result TimedTurn Refusal) (turn : Turn (Timed State) (Stamped Message) Report) → timed_placed config r ≡ Some turn → refusal_of r ≡ None
+made_unrefused config (Ok t) turn made = refl
+made_unrefused config (Err refusal) turn made = absurd (cc)
+
+taken_unrefused : (config : Config) (i p : ℕ) (s : Timed State) (xs : List (Stamped Message)) (more : List (Stamped (Noticed Message))) (input : Input (Stamped Message) Action)
+    (turn : Turn (Timed State) (Stamped Message) Report) → first_from p xs ≡ Some input → (frame_machine config).step i s input ≡ Some turn
+    → first_refusal (nodes_at config i) (name_at config p) s (map sent_packet xs ++ more) ≡ None
+taken_unrefused config i p s [] more input turn given made = absurd (cc)
+taken_unrefused config i p s (x ∷ xs) more input turn given made =
+    let same : Taken p x ≡ input = some_is given in
+    made_unrefused config (step_take (nodes_at config i) (name_at config p) x s) turn
+    (sym (same_step config (max s.clock x.stamp + 1) (node_takes (nodes_at config i) (name_at config p) x.packet s.state)) ∙ (ap ((frame_machine config).step i s) same ∙ made))
+
+own_unrefused : (config : Config) (i : ℕ) (action : Action) (s : Timed State) (input : Input (Stamped Message) Action) (turn : Turn (Timed State) (Stamped Message) Report)
+    → Own action ≡ input → (frame_machine config).step i s input ≡ Some turn → refusal_of (step_act (nodes_at config i) (ports_at config i) action s) ≡ None
+own_unrefused config i action s input turn same made =
+    made_unrefused config (step_act (nodes_at config i) (ports_at config i) action s) turn
+    (sym (same_step config (s.clock + 1) (node_acts (nodes_at config i) (ports_at config i) action s.state)) ∙ (ap ((frame_machine config).step i s) same ∙ made))
 
 -- notices alone
 only_notices : (m : Nodes) (p : Node) (s last : Timed State) (xs : List (Stamped Message)) (b : Bool) → told_of_first m p s xs ≡ None
@@ -194,8 +241,37 @@ module _ (config : Config) (nodes : List Seen) (w : TimedFrameWorld) (lost : Lis
     take_idle_so e = let none = only_notices (nodes_at config i) (name_at config p) (w.node i) (w.node p) (w.wire p i) (is_pair (length config) p i && (is_lost lost p && not ((w.node i).state.lost (name_at config p)))) (sym told_first ∙ e) in
         (none.0, refusal_is ∙ none.1)
 
-    pub take_busy_so : (v : TimedFrameWorld) → happens (frame_machine config) w (Take i p) ≡ Some v → none_sent (map sent_packet (w.wire p i) ++ notices config w lost p i) ≡ false
-    take_busy_so v is_so = let h = happened (frame_machine config) w v (Take i p) is_so in taken_sent p (w.wire p i) (notices config w lost p i) h.input h.given
+    pub take_can : (v : TimedFrameWorld) → happens (frame_machine config) w (Take i p) ≡ Some v → CanBeMade (told_take config (losing_of config w lost) i p)
+    take_can v is_so =
+        let h = happened (frame_machine config) w v (Take i p) is_so in
+        record {
+          allowed = refusal_is ∙ taken_unrefused config i p (w.node i) (w.wire p i) (notices config w lost p i) h.input h.turn h.given h.made;
+          busy = taken_sent p (w.wire p i) (notices config w lost p i) h.input h.given;
+        }
+
+    pub take_late : is_told_first (take_refusal config (losing_of config w lost) i p) ≡ false
+    take_late = ap is_told_first refusal_is
+        ∙ first_late (nodes_at config i) (name_at config p) (w.node i) (w.node p) (w.wire p i) (is_pair (length config) p i && (is_lost lost p && not ((w.node i).state.lost (name_at config p))))
+        (either_unseen (is_lost lost i) ((w.node i).state.lost (name_at config p)) take_cut)
+
+  module _ (i : ℕ) (action : Action) (places : has_port nodes i (port_of action) ≡ true) (stays : is_lost lost i ≡ false) where
+    there : (is_place (length config) i && nat_lt (port_of action) (ports_at config i)) ≡ true
+    there = sym (port_is config nodes w lost shows i (port_of action)) ∙ places
+
+    own_is : own_refusal config (losing_of config w lost) i action ≡ refusal_of (step_act (nodes_at config i) (ports_at config i) action (w.node i))
+    own_is = own_barred config nodes w lost shows seen i action true false there stays
+
+    pub own_can : (v : TimedFrameWorld) → happens (frame_machine config) w (Do i action) ≡ Some v → CanBeMade (told_own config (losing_of config w lost) i action)
+    own_can v is_so =
+        let h = happened (frame_machine config) w v (Do i action) is_so in
+        record { allowed = own_is ∙ own_unrefused config i action (w.node i) h.input h.turn (some_is h.given) h.made; busy = refl }
+
+    pub own_first : is_told_first (own_refusal config (losing_of config w lost) i action) ≡ false
+    own_first = ap is_told_first own_is ∙ own_late (nodes_at config i) (ports_at config i) action (w.node i) (both_second (is_place (length config) i) (nat_lt (port_of action) (ports_at config i)) there)
+      where
+        both_second : (a b : Bool) → (a && b) ≡ true → b ≡ true
+        both_second true b e = e
+        both_second false b e = absurd (cc)
 
   pub own_refused_so : (i : ℕ) (action : Action) → has_port nodes i (port_of action) ≡ true → is_lost lost i ≡ false
       → (r : Refusal) → told_event config w (Do i action) ≡ Some (Err r) → own_refusal config (losing_of config w lost) i action ≡ Some r
@@ -222,7 +298,7 @@ module _ (config : Config) (old new : View) (lost lost2 : List ℕ) (w : TimedFr
 
   module _ (e : Event Action) (tells : Telling) (event : tells.event ≡ Step e) (loss : tells.is_loss ≡ false) (stays : is_lost lost (node_of e) ≡ false)
       (refused : (r : Refusal) → told_event config w e ≡ Some (Err r) → tells.refusal ≡ Some r) (idle : told_event config w e ≡ None → (tells.is_idle ≡ true) × (tells.refusal ≡ None))
-      (busy : (v : TimedFrameWorld) → happens (frame_machine config) w e ≡ Some v → tells.is_idle ≡ false) where
+      (can : (v : TimedFrameWorld) → happens (frame_machine config) w e ≡ Some v → CanBeMade tells) (late : is_told_first tells.refusal ≡ false) where
     led : (v : TimedFrameWorld) → happens (frame_machine config) w e ≡ Some v → ShowsWorld config new v → LosingLed config (losing_of config w lost) tells.event (ShowsLosing config new lost2)
     led v is shown =
         let h = happened (frame_machine config) w v e is in (
@@ -243,11 +319,11 @@ module _ (config : Config) (old new : View) (lost lost2 : List ℕ) (w : TimedFr
 
     pub comes : (result : Result Stepped NodeFault) → ComesTo config w e result (ShowsWorld config new) → (result ≡ Ok Nothing → new ≡ old) → OnErr result (new ≡ old)
         → LosingComesTo config (losing_of config w lost) tells result (ShowsLosing config new lost2)
-    comes (Ok (Happened effect)) (did, (v, is, shown)) nothing err = (loss, busy v is, did_so v effect is did, led v is shown)
+    comes (Ok (Happened effect)) (did, (v, is, shown)) nothing err = (loss, can v is, did_so v effect is did, led v is shown)
     comes (Ok Nothing) c nothing err = ((idle c).0, (idle c).1, still (nothing refl))
     comes (Ok (Moved count)) c nothing err = absurd c
     comes (Ok Gone) c nothing err = absurd c
-    comes (Err OutOfMemory) c nothing err = still err
+    comes (Err OutOfMemory) c nothing err = (late, still err)
     comes (Err (Refused r)) c nothing err = (refused r c, still err)
     comes (Err (BadMessage m)) c nothing err = absurd c
     comes (Err TooLong) c nothing err = absurd c
@@ -261,7 +337,7 @@ module _ (config : Config) (old new : View) (lost lost2 : List ℕ) (w : TimedFr
       let nodes = old.traffic.nodes in
       let its = shows.traffic.nodes in
       comes (Take i p) (told_take config (losing_of config w lost) i p) refl refl (either_stays config nodes w lost its seen (is_lost lost i) _ (take_cut config nodes w lost its seen i p places lives))
-      (take_refused_so config nodes w lost its seen i p places lives) (take_idle_so config nodes w lost its seen i p places lives) (take_busy_so config nodes w lost its seen i p places lives) result came nothing err
+      (take_refused_so config nodes w lost its seen i p places lives) (take_idle_so config nodes w lost its seen i p places lives) (take_can config nodes w lost its seen i p places lives) (take_late config nodes w lost its seen i p places lives) result came nothing err
 
   -- something of its own
   pub own_comes : (i : ℕ) (action : Action) (result : Result Stepped NodeFault) → has_port old.traffic.nodes i (port_of action) ≡ true → is_lost lost i ≡ false
@@ -269,7 +345,7 @@ module _ (config : Config) (old new : View) (lost lost2 : List ℕ) (w : TimedFr
       → LosingComesTo config (losing_of config w lost) (told_own config (losing_of config w lost) i action) result (ShowsLosing config new lost2)
   own_comes i action result places stays came nothing err =
       comes (Do i action) (told_own config (losing_of config w lost) i action) refl refl stays (own_refused_so config old.traffic.nodes w lost shows.traffic.nodes seen i action places stays)
-      (λ e. absurd (cc)) (λ v is. refl) result came nothing err
+      (λ e. absurd (cc)) (own_can config old.traffic.nodes w lost shows.traffic.nodes seen i action places stays) (own_first config old.traffic.nodes w lost shows.traffic.nodes seen i action places stays) result came nothing err
 
 -- ---- the same of a world with losses that is shown
 
@@ -284,6 +360,16 @@ module _ (config : Config) (old new : View) (u : LosingFrameWorld) (lost lost2 :
       → ComesTo config shows.frames (Do i action) result (ShowsWorld config new) → LosingComesTo config u (told_own config u i action) result (ShowsLosing config new lost2)
   own_in i action places stays came = subst (λ (x : LosingFrameWorld). LosingComesTo config x (told_own config x i action) result (ShowsLosing config new lost2)) (sym shows.is)
       (own_comes config old new lost lost2 shows.frames shows.shows shows.seen same i action result places stays came nothing err)
+
+-- events that nothing refuses which is told first
+module _ (config : Config) (view : View) (u : LosingFrameWorld) (lost : List ℕ) (shows : ShowsLosing config view lost u) where
+  pub take_late_in : (i p : ℕ) → is_pair (length view.traffic.nodes) i p ≡ true → is_cut_off view.traffic.nodes lost i p ≡ false → is_told_first (take_refusal config u i p) ≡ false
+  take_late_in i p places lives = subst (λ (x : LosingFrameWorld). is_told_first (take_refusal config x i p) ≡ false) (sym shows.is)
+      (take_late config view.traffic.nodes shows.frames lost shows.shows.traffic.nodes shows.seen i p places lives)
+
+  pub own_late_in : (i : ℕ) (action : Action) → has_port view.traffic.nodes i (port_of action) ≡ true → is_lost lost i ≡ false → is_told_first (own_refusal config u i action) ≡ false
+  own_late_in i action places stays = subst (λ (x : LosingFrameWorld). is_told_first (own_refusal config x i action) ≡ false) (sym shows.is)
+      (own_first config view.traffic.nodes shows.frames lost shows.shows.traffic.nodes shows.seen i action places stays)
 
 -- a step that is refused as a place is not there, or as a loss bars it
 module _ (config : Config) (view : View) (u : LosingFrameWorld) (lost : List ℕ) (shows : ShowsLosing config view lost u) (step : FrameStep) where

@@ -1,6 +1,6 @@
 -- What a world of packets shows once one of its nodes is lost.
 use Rattle.std.proofs.Common.{◌≡◌, ◌≢◌, ℕ, ◌+◌, ◌-◌, ◌<◌, Bool, false, true, map, take, length, get_or, List}
-use Rattle.std.proofs.Common.{[], ◌∷◌, ◌++◌, Some, Ok, refl, sym, ap, ◌∙◌, inl, inr, ◌⊎◌, arith, subst}
+use Rattle.std.proofs.Common.{[], ◌∷◌, ◌++◌, Option, Some, None, Ok, refl, sym, ap, ◌∙◌, inl, inr, ◌⊎◌, arith, subst}
 use Rattle.std.specs.Prelude.{slice_set}
 use Rattle.std.proofs.lemmas.Bool.{cases_eq}
 use Rattle.std.proofs.lemmas.List.{get_or-map, get_or-set_same, get_or-set_other, map-set, length-map, length-set}
@@ -21,7 +21,7 @@ use Rattle.pg_world_account.specs.Losses.{is_lost}
 use Rattle.pg_world_config.specs.Seen.{seen_of}
 use Rattle.pg_world_packets.specs.Views.{View, CanStay, IsWhole, ways_of, traffic_in}
 use Rattle.pg_world_packets.specs.Worlds.{TimedFrameWorld}
-use Rattle.pg_world_packets.proofs.Stopped.{count_refused, lost_refused, many_refused, can_stay}
+use Rattle.pg_world_packets.proofs.Stopped.{count_refused, lost_refused, many_refused, unrefused, keeps_so}
 use Rattle.pg_world_packets.proofs.Stopped.{packets_cut, shown_cut, loss_happens, seen_more}
 use Rattle.pg_world_packets.proofs.Turning.{way_at}
 
@@ -70,17 +70,20 @@ module _ (config : Config) (old new : View) (u : LosingFrameWorld) (i : ℕ) (ke
   count_here : length (get_or old.traffic.ways i []) + 1 ≡ length config
   count_here = count ∙ shows.shows.traffic.nodes.size
 
-  told_here : (r : Refusal) → loss_refusal config (losing_of config shows.frames lost) i keep ≡ Some r → loss_refusal config u i keep ≡ Some r
-  told_here r is = subst (λ (x : LosingFrameWorld). loss_refusal config x i keep ≡ Some r) (sym shows.is) is
+  told_here : (r : Option Refusal) → loss_refusal config (losing_of config shows.frames lost) i keep ≡ r → loss_refusal config u i keep ≡ r
+  told_here r is = subst (λ (x : LosingFrameWorld). loss_refusal config x i keep ≡ r) (sym shows.is) is
 
   pub few_or_many : (length keep ≡ length old.traffic.nodes - 1 → ⊥) → loss_refusal config u i keep ≡ Some NoSuchPlace
-  few_or_many other = told_here NoSuchPlace (count_refused config old shows.frames lost i keep shows.shows below (λ e. other (e ∙ ap (λ n. n - 1) (sym shows.shows.traffic.nodes.size))))
+  few_or_many other = told_here (Some NoSuchPlace) (count_refused config old shows.frames lost i keep shows.shows below (λ e. other (e ∙ ap (λ n. n - 1) (sym shows.shows.traffic.nodes.size))))
 
-  pub lost_before : length keep ≡ length old.traffic.nodes - 1 → is_lost lost i ≡ true → loss_refusal config u i keep ≡ Some NodeLost
-  lost_before len gone = told_here NodeLost (lost_refused config old shows.frames lost i keep shows.shows below (len ∙ ap (λ n. n - 1) shows.shows.traffic.nodes.size) gone)
+  pub too_many : length keep ≡ length old.traffic.nodes - 1 → (CanStay keep (get_or old.traffic.ways i []) → ⊥) → loss_refusal config u i keep ≡ Some NoSuchPlace
+  too_many len none = told_here (Some NoSuchPlace) (many_refused config old shows.frames lost i keep shows.shows below count_here (omega (arith, len, count)) none)
 
-  pub too_many : length keep ≡ length old.traffic.nodes - 1 → is_lost lost i ≡ false → (CanStay keep (get_or old.traffic.ways i []) → ⊥) → loss_refusal config u i keep ≡ Some NoSuchPlace
-  too_many len stays none = told_here NoSuchPlace (many_refused config old shows.frames lost i keep shows.shows below stays count_here (omega (arith, len, count)) none)
+  pub lost_before : CanStay keep (get_or old.traffic.ways i []) → is_lost lost i ≡ true → loss_refusal config u i keep ≡ Some NodeLost
+  lost_before can gone = told_here (Some NodeLost) (lost_refused config old shows.frames lost i keep shows.shows below count_here can gone)
+
+  pub none_refuses : CanStay keep (get_or old.traffic.ways i []) → is_lost lost i ≡ false → loss_refusal config u i keep ≡ None
+  none_refuses can stays = told_here None (unrefused config old shows.frames lost i keep shows.shows below count_here can stays)
 
   pub lost_now : is_lost lost i ≡ false → CanStay keep (get_or old.traffic.ways i []) → lost2 ≡ lost ++ i ∷ [] → new.traffic.nodes ≡ old.traffic.nodes → (formed : Bool) → new.account ≡ account_formed formed old.account
       → ((k : ℕ) → way_at new.traffic i k ≡ take (get_or keep k 0) (way_at old.traffic i k)) → ((x k : ℕ) → x ≢ i → way_at new.traffic x k ≡ way_at old.traffic x k)
@@ -88,15 +91,15 @@ module _ (config : Config) (old new : View) (u : LosingFrameWorld) (i : ℕ) (ke
   lost_now stays can more nodes formed account here others =
       subst (λ (x : LosingFrameWorld). LosingComesTo config x (told_loss config x i keep) (Ok Gone) (ShowsLosing config new lost2)) (sym shows.is) (
         refl,
-        refl,
+        record { allowed = unrefused config old shows.frames lost i keep shows.shows below count_here can stays; busy = refl },
         (
           losing_of config cut (lost ++ i ∷ []),
-          loss_happens config shows.frames lost i (keep_of i keep) nowhere below stays shows.seen (can_stay config old shows.frames lost i keep shows.shows below stays count_here can),
+          loss_happens config shows.frames lost i (keep_of i keep) nowhere below stays shows.seen (keeps_so config old shows.frames lost i keep shows.shows below count_here stays can),
           record {
             frames = cut;
             shows = shown_cut config old shows.frames lost i keep shows.shows new formed nodes account here others;
             seen = λ x p pair has. ap (λ (l : List ℕ). is_lost l p) more
-                ∙ seen_more config shows.frames lost i (keep_of i keep) nowhere below stays shows.seen (can_stay config old shows.frames lost i keep shows.shows below stays count_here can) x p pair has;
+                ∙ seen_more config shows.frames lost i (keep_of i keep) nowhere below stays shows.seen (keeps_so config old shows.frames lost i keep shows.shows below count_here stays can) x p pair has;
             is = ap (losing_of config cut) (sym more);
           },
         ),

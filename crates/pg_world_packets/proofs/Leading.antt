@@ -37,9 +37,9 @@ use Rattle.pg_world_packets.specs.declared.step.FrameStep.{FrameStep}
 use Rattle.pg_world_packets.specs.declared.step.Stepped.{Stepped}
 use Rattle.pg_world_packets.specs.declared.step.Stepped.TheVariants.{Happened, Moved, Nothing, Gone}
 use Rattle.pg_world_packets.specs.Losing.{Telling, LosingComesTo, SeenAreLost, ShowsLosing, formed_after, losing_of, seen_at, told_of}
-use Rattle.pg_world_packets.specs.LosingRuns.{LosingKind, LosingGoesTo, packets_past_losses}
+use Rattle.pg_world_packets.specs.LosingRuns.{LosingKind, LosingGoesTo, IsToldEvent, packets_past_losses}
 use Rattle.pg_world_account.specs.Losses.{is_lost}
-use Rattle.pg_world_packets.specs.Past.{HasHeadline, IsPast, HasPast, LedOn, PastGoesOn, FramesHavePast}
+use Rattle.pg_world_packets.specs.Past.{Adds, HasHeadline, IsPast, HasPast, LedOn, PastGoesOn, FramesHavePast}
 use Rattle.pg_world_packets.specs.Past.{FormedFirst, FramesGoOn, FramesRunOn, HistoriesGrow, MissedInRun, RunsOn, missed_in}
 use Rattle.pg_world_packets.specs.Pending.{AgreeOn, has_formed, pending_of, sees_free}
 use Rattle.pg_world_packets.specs.Starts.{Begins, Orders}
@@ -98,9 +98,9 @@ pub data Near (config : Config) (T : LosingEvent Action → Type 0) (S : Type 0)
   Here : u ≡ v → S → Near config T S u v
   Next : (e : LosingEvent Action) → losing_happens (losing_frame_machine config) last_notice u e ≡ Some v → T e → Near config T S u v
 
--- where it is told whether every node was formed when the first was lost, before it and behind it
-abbrev pub NearBy : Config → Bool → Bool → LosingFrameWorld → LosingFrameWorld → Type 0
-NearBy config was now u v = Near config (λ e. ToldBehind config u e was now) (now ≡ was) u v
+-- where it is told whether every node was formed when the first was lost, before it and behind it, and which events are added
+abbrev pub NearBy : Config → (List (LosingEvent Action) → Type 0) → Bool → Bool → LosingFrameWorld → LosingFrameWorld → Type 0
+NearBy config Added was now u v = Near config (λ e. ToldBehind config u e was now × Added (e ∷ [])) ((now ≡ was) × Added []) u v
 
 module _ (given : Config) (New : Config → LosingFrameWorld → Type 0) (apart : AreApart New) (survive : Survive) where
   pub past_of : (config : Config) (events : List (LosingEvent Action)) (u : LosingFrameWorld) → Orders given config → LosingReaches config events u → New config u → IsPast given New config events u
@@ -122,34 +122,35 @@ module _ (given : Config) (New : Config → LosingFrameWorld → Type 0) (apart 
       past_of config (events ++ e ∷ []) v orders (leads_on config events (e ∷ []) (nobody_gone (start_of (losing_frame_machine config))) u v reached (v, happened, refl)) shows
 
   -- what is near
-  pub led_near : (was now : Bool) (config : Config) (events : List (LosingEvent Action)) (u v : LosingFrameWorld) → Orders given config → LosingReaches config events u → NearBy config was now u v → New config v
-      → LedOn given New config events u v
-  led_near was now config events u v orders reached (Here same told) shows = record {
+  pub led_near : (Added : List (LosingEvent Action) → Type 0) (was now : Bool) (config : Config) (events : List (LosingEvent Action)) (u v : LosingFrameWorld) → Orders given config → LosingReaches config events u
+      → NearBy config Added was now u v → New config v → LedOn given New Added config events u v
+  led_near Added was now config events u v orders reached (Here same told) shows = record {
     more = [];
-    once = omega arith;
+    added = told.1;
     led = same;
     past = past_here config events u v orders reached same shows;
   }
-  led_near was now config events u v orders reached (Next e happened told) shows = record {
+  led_near Added was now config events u v orders reached (Next e happened told) shows = record {
     more = e ∷ [];
-    once = omega arith;
+    added = told.1;
     led = (v, happened, refl);
     past = past_next config events u v e orders reached happened shows;
   }
 
-  module _ (was now : Bool) (Old : Config → LosingFrameWorld → Type 0) (Comes : Config → LosingFrameWorld → (LosingFrameWorld → Type 0) → Type 0)
+  module _ {S : Type 0} (kind : LosingKind S) (step : S) (result : Result Stepped NodeFault) (was now : Bool) (Old : Config → LosingFrameWorld → Type 0)
+      (Comes : Config → LosingFrameWorld → (LosingFrameWorld → Type 0) → Type 0)
       -- what comes of a step leads to near worlds
       (mapped : (config : Config) (u : LosingFrameWorld) → Old config u → (((x : ℕ) → u.gone x ≡ false) → (k : ℕ) → NoneLost (u.world.node k).state)
-      → (P Q : LosingFrameWorld → Type 0) → ((v : LosingFrameWorld) → NearBy config was now u v → P v → Q v) → Comes config u P → Comes config u Q) where
+      → (P Q : LosingFrameWorld → Type 0) → ((v : LosingFrameWorld) → NearBy config (Adds (kind.Is config u step) result) was now u v → P v → Q v) → Comes config u P → Comes config u Q) where
     pub goes_on : HasPast given was Old → ((config : Config) (u : LosingFrameWorld) (events : List (LosingEvent Action)) → LosingReaches config events u → Old config u → Comes config u (New config))
-        → PastGoesOn given Old New Comes
+        → PastGoesOn kind given Old New step result Comes
     goes_on past came = record {
       config = past.config;
       events = past.events;
       u = past.u;
       past = past.is;
-      comes = mapped past.config past.u past.is.shows (none_seen past.config past.events past.u past.is.reached) (New past.config) (LedOn given New past.config past.events past.u)
-          (λ v near shows. led_near was now past.config past.events past.u v past.is.orders past.is.reached near shows)
+      comes = mapped past.config past.u past.is.shows (none_seen past.config past.events past.u past.is.reached) (New past.config) (LedOn given New (Adds (kind.Is past.config past.u step) result) past.config past.events past.u)
+          (λ v near shows. led_near (Adds (kind.Is past.config past.u step) result) was now past.config past.events past.u v past.is.orders past.is.reached near shows)
           (came past.config past.u past.events past.is.reached past.is.shows);
     }
 
@@ -157,7 +158,7 @@ module _ (given : Config) (New : Config → LosingFrameWorld → Type 0) (apart 
     pub past_after : ((config : Config) (u : LosingFrameWorld) (Q : LosingFrameWorld → Type 0) → Comes config u Q → (v : LosingFrameWorld) × Q v) → HasPast given was Old
         → ((config : Config) (u : LosingFrameWorld) (events : List (LosingEvent Action)) → LosingReaches config events u → Old config u → Comes config u (New config)) → HasPast given now New
     past_after some past came =
-        let Q = λ (v : LosingFrameWorld). NearBy config was now u v × New config v in
+        let Q = λ (v : LosingFrameWorld). NearBy config (Adds (kind.Is config u step) result) was now u v × New config v in
         let led = some config u Q (mapped config u past.is.shows (none_seen config events u past.is.reached) (New config) Q (λ v near shows. (near, shows)) (came config u events past.is.reached past.is.shows)) in
         go led.0 led.1.0 led.1.1
       where
@@ -170,13 +171,13 @@ module _ (given : Config) (New : Config → LosingFrameWorld → Type 0) (apart 
         u : LosingFrameWorld
         u = past.u
 
-        go : (v : LosingFrameWorld) → NearBy config was now u v → New config v → HasPast given now New
+        go : (v : LosingFrameWorld) → NearBy config (Adds (kind.Is config u step) result) was now u v → New config v → HasPast given now New
         go v (Here same told) shows = record {
           config = config;
           events = events ++ [];
           u = v;
           is = past_here config events u v past.is.orders past.is.reached same shows;
-          at_losses = told_same config events was now told past.at_losses;
+          at_losses = told_same config events was now told.0 past.at_losses;
           few = past.few;
         }
         go v (Next e happened told) shows = record {
@@ -184,7 +185,7 @@ module _ (given : Config) (New : Config → LosingFrameWorld → Type 0) (apart 
           events = events ++ e ∷ [];
           u = v;
           is = past_next config events u v e past.is.orders past.is.reached happened shows;
-          at_losses = told_more config events u past.is.reached e was now told past.at_losses;
+          at_losses = told_more config events u past.is.reached e was now told.0 past.at_losses;
           few = past.few;
         }
 
@@ -216,11 +217,21 @@ module _ (config : Config) (u : LosingFrameWorld) (T : LosingEvent Action → Ty
   comes_on (Ok Gone) so (kind, busy, (v, happened, shown)) = (kind, busy, (v, happened, onward v (Next told.event happened so) shown))
   comes_on (Ok Nothing) so (idle, unrefused, shown) = (idle, unrefused, onward u (Here refl so) shown)
   comes_on (Ok (Moved count)) so comes = absurd comes
-  comes_on (Err OutOfMemory) so shown = onward u (Here refl so) shown
+  comes_on (Err OutOfMemory) so (late, shown) = (late, onward u (Here refl so) shown)
   comes_on (Err (Refused refusal)) so (is, shown) = (is, onward u (Here refl so) shown)
   comes_on (Err (BadMessage m)) so comes = absurd comes
   comes_on (Err TooLong) so comes = absurd comes
   comes_on (Err Damaged) so comes = absurd comes
+
+-- the events that a step adds, beside what is told of it
+pub with_added : (config : Config) (u : LosingFrameWorld) (T : LosingEvent Action → Type 0) (S : Type 0) (told : Telling) (P : LosingFrameWorld → Type 0) (result : Result Stepped NodeFault)
+    → LosingComesTo config u told result P → ToldOf T S told.event result
+    → ToldOf (λ e. T e × Adds (IsToldEvent told) result (e ∷ [])) (S × Adds (IsToldEvent told) result []) told.event result
+with_added config u T S told P (Ok (Happened effect)) comes so = (so, (told.event, (refl, comes.1), refl))
+with_added config u T S told P (Ok Gone) comes so = (so, (told.event, (refl, comes.1), refl))
+with_added config u T S told P (Ok Nothing) comes so = (so, refl)
+with_added config u T S told P (Ok (Moved count)) comes so = absurd comes
+with_added config u T S told P (Err fault) comes so = (so, refl)
 
 -- one of them
 pub some_comes : (config : Config) (u : LosingFrameWorld) (told : Telling) (Q : LosingFrameWorld → Type 0) (result : Result Stepped NodeFault) → LosingComesTo config u told result Q → (v : LosingFrameWorld) × Q v
@@ -228,7 +239,7 @@ some_comes config u told Q (Ok (Happened effect)) (kind, busy, did, (v, happened
 some_comes config u told Q (Ok Gone) comes = (comes.2.0, comes.2.2)
 some_comes config u told Q (Ok Nothing) comes = (u, comes.2)
 some_comes config u told Q (Ok (Moved count)) comes = absurd comes
-some_comes config u told Q (Err OutOfMemory) comes = (u, comes)
+some_comes config u told Q (Err OutOfMemory) comes = (u, comes.1)
 some_comes config u told Q (Err (Refused refusal)) comes = (u, comes.1)
 some_comes config u told Q (Err (BadMessage m)) comes = absurd comes
 some_comes config u told Q (Err TooLong) comes = absurd comes
@@ -250,15 +261,20 @@ module _ (given : Config) (survive : Survive) (old : View) (lost : List ℕ) (st
   Before config u = ShowsLosing config old lost u
 
   onward_from : (config : Config) (u : LosingFrameWorld) → Before config u → (((x : ℕ) → u.gone x ≡ false) → (k : ℕ) → NoneLost (u.world.node k).state)
-      → (P Q : LosingFrameWorld → Type 0) → ((v : LosingFrameWorld) → NearBy config old.account.formed new.account.formed u v → P v → Q v) → Comes config u P → Comes config u Q
-  onward_from config u shows seen P Q onward comes = comes_on config u (λ e. ToldBehind config u e old.account.formed new.account.formed) (new.account.formed ≡ old.account.formed) (told_of config u step) P Q onward result
-      (told_frames config old.traffic.nodes lost shows.frames u shows.shows.traffic.nodes shows.is seen P old.account.formed new.account.formed step result told comes) comes
+      → (P Q : LosingFrameWorld → Type 0) → ((v : LosingFrameWorld) → NearBy config (Adds (IsToldEvent (told_of config u step)) result) old.account.formed new.account.formed u v → P v → Q v) → Comes config u P → Comes config u Q
+  onward_from config u shows seen P Q onward comes =
+      let Added = Adds (IsToldEvent (told_of config u step)) result in
+      let Behind = λ (e : LosingEvent Action). ToldBehind config u e old.account.formed new.account.formed in
+      let Same = new.account.formed ≡ old.account.formed in
+      comes_on config u (λ e. Behind e × Added (e ∷ [])) (Same × Added []) (told_of config u step) P Q onward result
+      (with_added config u Behind Same (told_of config u step) P result comes
+      (told_frames config old.traffic.nodes lost shows.frames u shows.shows.traffic.nodes shows.is seen P old.account.formed new.account.formed step result told comes)) comes
 
   pub frames_go_on : FramesHavePast given old lost → FramesGoOn given old lost step result new now
-  frames_go_on past = goes_on given After apart survive old.account.formed new.account.formed Before Comes onward_from past (λ config u events reached shows. came config u shows)
+  frames_go_on past = goes_on given After apart survive packets_past_losses step result old.account.formed new.account.formed Before Comes onward_from past (λ config u events reached shows. came config u shows)
 
   pub frames_past : FramesHavePast given old lost → FramesHavePast given new now
-  frames_past past = past_after given After apart survive old.account.formed new.account.formed Before Comes onward_from
+  frames_past past = past_after given After apart survive packets_past_losses step result old.account.formed new.account.formed Before Comes onward_from
       (λ config u Q comes. some_comes config u (told_of config u step) Q result comes) past (λ config u events reached shows. came config u shows)
 
 pub frames_run_on : (given : Config) → Survive → (old : View) (lost : List ℕ) (all : List FrameStep) (numbers : List ℕ) (new : View) (now : List ℕ)

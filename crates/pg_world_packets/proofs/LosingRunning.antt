@@ -175,7 +175,7 @@ module _ (config : Config) (u : LosingFrameWorld) (step : FrameStep) (Shown : Lo
 
   pub left_out_so : (result : Result Stepped NodeFault) (fault : NodeFault) → result ≡ Err fault → LosingComesTo config u told result Shown → LosingStepsTo packets_past_losses config u step (node_number_of fault) Shown
   left_out_so (Ok stepped) fault r comes = absurd (cc)
-  left_out_so (Err OutOfMemory) fault r comes = let one : OutOfMemory ≡ fault = cc in inr (inr (ap node_number_of (sym one)), comes)
+  left_out_so (Err OutOfMemory) fault r comes = let one : OutOfMemory ≡ fault = cc in inr (inr (comes.0, ap node_number_of (sym one)), comes.1)
   left_out_so (Err (Refused refusal)) fault r comes =
       let one : Refused refusal ≡ fault = cc in
       inr (inl (ap node_number_of (sym one) ∙ sym (ap (λ (o : Option Refusal). option_map_or refusal_number_of o (cond told.is_idle 0 10)) comes.0)), comes.1)

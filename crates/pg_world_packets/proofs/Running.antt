@@ -1,7 +1,7 @@
 -- Steps that are made one after another.
 use Rattle.std.proofs.Common.{◌≡◌, ℕ, ◌+◌, ◌<◌, List, [], ◌∷◌, ◌++◌, Ok, Err, Result}
 use Rattle.std.proofs.Common.{take, length, get_or, refl, sym, ap, ◌∙◌, inl, inr, subst}
-use Rattle.std.specs.Prelude.{slice_set, not, Bool, true, false, Some}
+use Rattle.std.specs.Prelude.{slice_set, ◌-◌, not, ◌&&◌, nat_eq, Bool, true, false, Some, None}
 use Rattle.std.specs.List.{IsDistinct, AllPass}
 use Rattle.std.specs.Option.{option_map_or}
 use Rattle.std.proofs.lemmas.List.{take_more, take_more_set}
@@ -10,13 +10,14 @@ use Rattle.pg_node_state.specs.PgStep.Machines.Machine.{Event, Take, Do, happens
 use Rattle.pg_node_state.specs.PgStep.Machines.Clocked.{plain}
 use Rattle.pg_node_state.specs.PgStep.Machines.Runs.{Leads}
 use Rattle.pg_node_state.specs.PgStep.Config.{Config, names_of}
-use Rattle.pg_node_state.specs.PgStep.Machines.Places.{is_pair}
-use Rattle.pg_node_state.specs.PgStep.Faults.{refusal_number_of}
+use Rattle.pg_node_state.specs.PgStep.Machines.Places.{is_place, is_pair}
+use Rattle.pg_node_state.specs.PgStep.Faults.{first_that_holds, refusal_number_of}
 use Rattle.pg_node_state.specs.PgStep.FrameMachine.{frame_machine}
 use Rattle.pg_node_state.specs.PgStep.Step.{Action, Issue, Retry}
 use Rattle.pg_term.specs.Same.{same_atom}
 use Rattle.pg_laws_losses.specs.PgLaws.Headline.{OneHistory}
 use Rattle.pg_laws_losses.specs.PgLaws.Reached.{Reaches}
+use Rattle.pg_node_state.specs.PgStep.declared.refusal.Refusal.TheVariants.{NoSuchPlace, NodeLost}
 use Rattle.pg_node_state.specs.NodeFault.{node_number_of}
 use Rattle.pg_node_state.specs.declared.state.fault.NodeFault.{NodeFault}
 use Rattle.pg_node_state.specs.declared.state.fault.NodeFault.TheVariants.{Refused, OutOfMemory}
@@ -26,7 +27,7 @@ use Rattle.pg_world_packets.specs.declared.step.FrameStep.TheVariants as frames
 use Rattle.pg_world_packets.specs.declared.step.Stepped.{Stepped}
 use Rattle.pg_world_packets.specs.declared.step.Stepped.TheVariants.{Happened, Moved, Nothing, Gone}
 use Rattle.pg_world_packets.specs.Worlds.{IsReached}
-use Rattle.pg_world_packets.specs.Losing.{lost_after, losing_of, told_loss, told_of, LosingComesTo}
+use Rattle.pg_world_packets.specs.Losing.{can_stay, is_told_first, lost_after, losing_of, told_loss, told_of, LosingComesTo}
 use Rattle.pg_node_state.specs.PgStep.LossLaws.{LosingFrameWorld}
 use Rattle.pg_world_packets.specs.Views.{View}
 use Rattle.pg_world_packets.specs.Worlds.{TimedFrameWorld, ShowsWorld, ComesTo, IsUnseen, StepComesTo, is_loss, event_of}
@@ -160,7 +161,7 @@ module _ (config : Config) (w : TimedFrameWorld) (old new : View) where
     event_refused (Ok stepped) fault r shows comes same = absurd (cc)
     event_refused (Err OutOfMemory) fault r shows comes same =
         let one : OutOfMemory ≡ fault = cc in
-        inr (passes (node_number_of fault) (inr (ap node_number_of (sym one))), subst (λ (view : View). ShowsWorld config view w) (sym same) shows)
+        inr (passes (node_number_of fault) (inr (comes, ap node_number_of (sym one))), subst (λ (view : View). ShowsWorld config view w) (sym same) shows)
     event_refused (Err (Refused refusal)) fault r shows comes same =
         let one : Refused refusal ≡ fault = cc in
         inr (passes (node_number_of fault) (inl (ap node_number_of (sym one) ∙ sym (ap number_told comes))), subst (λ (view : View). ShowsWorld config view w) (sym same) shows)
@@ -175,8 +176,8 @@ module _ (config : Config) (w : TimedFrameWorld) (old new : View) where
 
   pub unseen_number : (pair : Bool) (result : Result Stepped NodeFault) (fault : NodeFault) → result ≡ Err fault → IsUnseen pair result → SeesNone pair (node_number_of fault)
   unseen_number pair (Ok other) fault r unseen = absurd (cc)
-  unseen_number pair (Err OutOfMemory) fault r unseen = let one : OutOfMemory ≡ fault = cc in inr (unseen, ap node_number_of (sym one))
-  unseen_number pair (Err (Refused refusal)) fault r unseen = let one : Refused refusal ≡ fault = cc in inl (ap node_number_of (sym one) ∙ ap refusal_number_of unseen)
+  unseen_number pair (Err OutOfMemory) fault r unseen = absurd unseen
+  unseen_number pair (Err (Refused refusal)) fault r unseen = let one : Refused refusal ≡ fault = cc in ap node_number_of (sym one) ∙ ap refusal_number_of unseen
   unseen_number pair (Err (BadMessage m)) fault r unseen = absurd unseen
   unseen_number pair (Err TooLong) fault r unseen = absurd unseen
   unseen_number pair (Err Damaged) fault r unseen = absurd unseen
@@ -185,9 +186,18 @@ module _ (config : Config) (w : TimedFrameWorld) (old new : View) where
   unlost_so : (i : ℕ) (keep : List ℕ) (Shown : LosingFrameWorld → Type 0) (result : Result Stepped NodeFault) (fault : NodeFault) → result ≡ Err fault
       → LosingComesTo config (losing_of config w []) (told_loss config (losing_of config w []) i keep) result Shown → IsUnlost config w i keep (node_number_of fault)
   unlost_so i keep Shown (Ok stepped) fault r comes = absurd (cc)
-  unlost_so i keep Shown (Err OutOfMemory) fault r comes = let one : OutOfMemory ≡ fault = cc in inr (ap node_number_of (sym one))
+  unlost_so i keep Shown (Err OutOfMemory) fault r (late, shown) =
+      let one : OutOfMemory ≡ fault = cc in
+      ap node_number_of (sym one) ∙ sym (ap (λ o. option_map_or refusal_number_of o 10)
+      (none_told (not (is_place (length config) i && (nat_eq (length keep) (length config - 1) && can_stay config (losing_of config w []) i keep))) false late))
+    where
+      -- what refuses a loss is told first
+      none_told : (a b : Bool) → is_told_first (first_that_holds ((a, NoSuchPlace) ∷ (b, NodeLost) ∷ [])) ≡ false → first_that_holds ((a, NoSuchPlace) ∷ (b, NodeLost) ∷ []) ≡ None
+      none_told true b e = absurd (cc)
+      none_told false true e = absurd (cc)
+      none_told false false e = refl
   unlost_so i keep Shown (Err (Refused refusal)) fault r (is, shown) =
-      let one : Refused refusal ≡ fault = cc in inl (ap node_number_of (sym one) ∙ sym (ap (λ o. option_map_or refusal_number_of o 10) is))
+      let one : Refused refusal ≡ fault = cc in ap node_number_of (sym one) ∙ sym (ap (λ o. option_map_or refusal_number_of o 10) is)
   unlost_so i keep Shown (Err (BadMessage m)) fault r comes = absurd comes
   unlost_so i keep Shown (Err TooLong) fault r comes = absurd comes
   unlost_so i keep Shown (Err Damaged) fault r comes = absurd comes

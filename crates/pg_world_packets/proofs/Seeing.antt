@@ -32,7 +32,7 @@ use Rattle.pg_world_packets.specs.declared.ways.Ways.{Ways}
 use Rattle.pg_world_packets.specs.declared.step.Stepped.TheVariants.{Happened}
 use Rattle.pg_world_packets.specs.Effects.{no_effect}
 use Rattle.pg_world_packets.specs.Losing.{SeenAreLost, notices, losing_of, is_cut_off}
-use Rattle.pg_world_packets.specs.Losing.{told_sight, ShowsLosing, LosingComesTo}
+use Rattle.pg_world_packets.specs.Losing.{is_told_first, told_sight, ShowsLosing, LosingComesTo}
 use Rattle.pg_world_account.specs.Losses.{is_lost}
 use Rattle.pg_world_config.specs.Seen.{Seen, seen_of}
 use Rattle.pg_world_packets.specs.Views.{View, IsWhole, ways_of, traffic_in, peer_place, on_the_way}
@@ -114,10 +114,10 @@ module _ (config : Config) (nodes : List Seen) (w : TimedFrameWorld) (i p : ℕ)
         ∙ (ap (λ b. timed (sight_clock w i p) (cond b (Err NodeLost) (Ok (sight config w i p)))) unseen
         ∙ ap (λ b. cond b (Ok turn) (Err ClockFull)) is)
 
-    full_told : nat_le (sight_clock w i p) CLOCK_LIMIT ≡ false → see_refusal config u i p ≡ Some ClockFull
-    full_told full =
+    refusal_is : (fits : Bool) → nat_le (sight_clock w i p) CLOCK_LIMIT ≡ fits → see_refusal config u i p ≡ tests true false true true (not fits)
+    refusal_is fits is =
         (λ j. tests (there j) (cut j) (gone j) (way_is_drained (alone j)) (is_full (clock_after (w.node i).clock (alone j))))
-        ∙ ap (λ b. tests true false true true (not b)) full
+        ∙ ap (λ b. tests true false true true (not b)) is
       where
         alone : coming ≡ last_notice (w.node p) ∷ []
         alone = (λ j. map sent_packet (none_coming j) ++ cond (turned j && (gone j && not (unseen j))) (last_notice (w.node p) ∷ []) [])
@@ -135,13 +135,13 @@ module _ (config : Config) (nodes : List Seen) (w : TimedFrameWorld) (i p : ℕ)
             where
               by_fault : (b : Bool) → nat_le (sight_clock w i p) CLOCK_LIMIT ≡ b → (f : NodeFault) → Comes {S = S} {h = listing} node.names (cond b (Ok turn) (Err ClockFull)) (Err f) s before after
                   → LosingComesTo config u (told_sight config u i p) (Err f) Shown
-              by_fault true full OutOfMemory k = still
+              by_fault true full OutOfMemory k = (ap is_told_first (refusal_is true full), still)
               by_fault true full (Refused r) k = absurd k
               by_fault true full (BadMessage m) k = absurd k
               by_fault true full TooLong k = absurd k
               by_fault true full Damaged k = absurd k
               by_fault false full OutOfMemory k = absurd (cc)
-              by_fault false full (Refused r) k = let one : r ≡ ClockFull = cc in (full_told full ∙ ap Some (sym one), still)
+              by_fault false full (Refused r) k = let one : r ≡ ClockFull = cc in (refusal_is false full ∙ ap Some (sym one), still)
               by_fault false full (BadMessage m) k = absurd (cc)
               by_fault false full TooLong k = absurd (cc)
               by_fault false full Damaged k = absurd (cc)
@@ -157,7 +157,7 @@ module _ (config : Config) (nodes : List Seen) (w : TimedFrameWorld) (i p : ℕ)
               → LosingComesTo config u (told_sight config u i p) (Ok (Happened no_effect)) Shown
           go true e h = (
             refl,
-            refl,
+            record { allowed = refusal_is true e; busy = refl },
             sight_effect config w lost i p there shows.apart turned stays gone unseen none_coming e,
             (losing_of config (sighted config w lost i p there) lost, sight_happens config w lost i p there shows.apart turned stays gone unseen none_coming e, then (h true e)),
           )

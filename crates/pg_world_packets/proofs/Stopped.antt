@@ -19,7 +19,7 @@ use Rattle.pg_node_state.specs.PgStep.FrameMachine.{losing_frame_machine, last_n
 use Rattle.pg_node_state.specs.PgStep.LossLaws.{LosingFrameWorld}
 use Rattle.pg_node_state.specs.PgStep.State.{State}
 use Rattle.pg_node_state.specs.PgStep.Turns.{Report}
-use Rattle.pg_world_packets.specs.Losing.{SeenAreLost, losing_of, keep_of, loss_refusal}
+use Rattle.pg_world_packets.specs.Losing.{SeenAreLost, losing_of, keep_of, count_sent, can_stay, loss_refusal}
 use Rattle.pg_world_account.specs.Losses.{is_lost}
 use Rattle.pg_world_config.specs.Seen.{Seen}
 use Rattle.pg_world_packets.specs.Views.{View, CanStay, peer_place, place_of_peer, on_the_way}
@@ -102,6 +102,12 @@ lost_still xs i x is = lost_more xs i x ∙ ap (λ b. b || nat_eq i x) is
 abbrev LossyWorld : Type 0
 LossyWorld = World (Timed State) (Stamped (Noticed Message)) Report
 
+-- a last notice is no packet that is sent
+sent_only : (xs : List (Stamped Message)) (b : Bool) (last : Timed State) → count_sent (map sent_packet xs ++ cond b (last_notice last ∷ []) []) ≡ length xs
+sent_only [] true last = refl
+sent_only [] false last = refl
+sent_only (x ∷ xs) b last = ap suc (sent_only xs b last)
+
 module _ (config : Config) (old : View) (w : TimedFrameWorld) (lost : List ℕ) (i : ℕ) (keep : List ℕ) (shows : ShowsWorld config old w) (within : i < length config) where
   -- the ways from the node
   abbrev ways : List (List (Stamped Message))
@@ -111,7 +117,7 @@ module _ (config : Config) (old : View) (w : TimedFrameWorld) (lost : List ℕ) 
   before = (losing_of config w lost).world
 
   abbrev tests : Bool → Bool → Bool → Bool → Option Refusal
-  tests place count gone can = first_that_holds ((not (place && count), NoSuchPlace) ∷ (gone, NodeLost) ∷ (not can, NoSuchPlace) ∷ [])
+  tests place count can gone = first_that_holds ((not (place && (count && can)), NoSuchPlace) ∷ (gone, NodeLost) ∷ [])
 
   way_is : (y : ℕ) → is_pair (length config) i y ≡ true → w.wire i y ≡ get_or ways (peer_place i y) []
   way_is y pair = shows.traffic.ways i y pair
@@ -119,32 +125,34 @@ module _ (config : Config) (old : View) (w : TimedFrameWorld) (lost : List ℕ) 
   none_else : (y : ℕ) → is_pair (length config) i y ≡ false → w.wire i y ≡ []
   none_else y none = shows.traffic.nodes.nowhere i y none
 
-  module _ (stays : is_lost lost i ≡ false) (count : length ways + 1 ≡ length config) where
-    wire_here : (y : ℕ) → before.wire i y ≡ map sent_packet (w.wire i y)
-    wire_here y = ap (λ (ns : List (Stamped (Noticed Message))). map sent_packet (w.wire i y) ++ ns) (no_notice config w lost i y stays) ∙ append-nil (map sent_packet (w.wire i y))
+  many_sent : (y : ℕ) → count_sent (before.wire i y) ≡ length (w.wire i y)
+  many_sent y = sent_only (w.wire i y) (is_pair (length config) i y && (is_lost lost i && not ((w.node y).state.lost (name_at config i)))) (w.node i)
 
-    many_here : (y : ℕ) → length (before.wire i y) ≡ length (w.wire i y)
-    many_here y = ap length (wire_here y) ∙ length-map (w.wire i y) sent_packet
-
+  module _ (count : length ways + 1 ≡ length config) where
     abbrev test : ℕ → Bool
-    test y = not (is_pair (length config) i y) || nat_le (keep_of i keep y) (length (before.wire i y))
+    test y = not (is_pair (length config) i y) || nat_le (keep_of i keep y) (count_sent (before.wire i y))
 
     -- as many as are there can stay
-    pub can_stay : CanStay keep ways → can_keep (length config) before i (keep_of i keep) ≡ true
-    can_stay can = each_so (length config) test (λ y below. go y (is_pair (length config) i y) refl)
+    fits_so : CanStay keep ways → (y : ℕ) → is_pair (length config) i y ≡ true → keep_of i keep y ≤ length (w.wire i y)
+    fits_so can y is =
+        let all = pair_is (length config) i y is in
+        let place : peer_place i y + 1 < length config = place_within i y (length config) within all.1 all.2 in
+        let few = can.fits (peer_place i y) (omega (arith, place, count)) in
+        let way = ap length (way_is y is) in
+        omega (arith, few, way)
+
+    stay_so : CanStay keep ways → can_stay config (losing_of config w lost) i keep ≡ true
+    stay_so can = each_so (length config) test (λ y below. go y (is_pair (length config) i y) refl)
       where
-        go : (y : ℕ) (b : Bool) → is_pair (length config) i y ≡ b → (not (is_pair (length config) i y) || nat_le (keep_of i keep y) (length (before.wire i y))) ≡ true
+        go : (y : ℕ) (b : Bool) → is_pair (length config) i y ≡ b → (not (is_pair (length config) i y) || nat_le (keep_of i keep y) (count_sent (before.wire i y))) ≡ true
         go y true is =
-            let all = pair_is (length config) i y is in
-            let place : peer_place i y + 1 < length config = place_within i y (length config) within all.1 all.2 in
-            let few = can.fits (peer_place i y) (omega (arith, place, count)) in
-            let many = many_here y in
-            let way = ap length (way_is y is) in
-            ap (λ c. not c || nat_le (keep_of i keep y) (length (before.wire i y))) is ∙ le-leb (keep_of i keep y) (length (before.wire i y)) (omega (arith, few, many, way))
-        go y false is = ap (λ c. not c || nat_le (keep_of i keep y) (length (before.wire i y))) is
+            let few = fits_so can y is in
+            let many = many_sent y in
+            ap (λ c. not c || nat_le (keep_of i keep y) (count_sent (before.wire i y))) is ∙ le-leb (keep_of i keep y) (count_sent (before.wire i y)) (omega (arith, few, many))
+        go y false is = ap (λ c. not c || nat_le (keep_of i keep y) (count_sent (before.wire i y))) is
 
     -- and no more
-    can_only : length keep ≡ length ways → can_keep (length config) before i (keep_of i keep) ≡ true → CanStay keep ways
+    can_only : length keep ≡ length ways → can_stay config (losing_of config w lost) i keep ≡ true → CanStay keep ways
     can_only len can = record { len = len; fits = λ k below. fits k below }
       where
         fits : (k : ℕ) → k < length ways → get_or keep k 0 ≤ length (get_or ways k [])
@@ -153,28 +161,53 @@ module _ (config : Config) (old : View) (w : TimedFrameWorld) (lost : List ℕ) 
             let back = place_back i k in
             let pair : is_pair (length config) i y ≡ true = is_pair_so (length config) i y within (place_below i k (length config) (omega (arith, below, count)) within) (own_place i k) in
             let tested : test y ≡ true = each_is (length config) test can y (pair_is (length config) i y pair).1 in
-            let few : nat_le (keep_of i keep y) (length (before.wire i y)) ≡ true = ap (λ c. not c || nat_le (keep_of i keep y) (length (before.wire i y))) (sym pair) ∙ tested in
-            let least = leb-true (keep_of i keep y) (length (before.wire i y)) few in
-            let many = many_here y in
+            let few : nat_le (keep_of i keep y) (count_sent (before.wire i y)) ≡ true = ap (λ c. not c || nat_le (keep_of i keep y) (count_sent (before.wire i y))) (sym pair) ∙ tested in
+            let least = leb-true (keep_of i keep y) (count_sent (before.wire i y)) few in
+            let many = many_sent y in
             let way = ap length (way_is y pair) in
             subst (λ z. get_or keep z 0 ≤ length (get_or ways z [])) back (omega (arith, least, many, way))
 
     -- why it is refused
     pub many_refused : length keep ≡ length ways → (CanStay keep ways → ⊥) → loss_refusal config (losing_of config w lost) i keep ≡ Some NoSuchPlace
-    many_refused len none = (λ j. tests (lt-ltb i (length config) within j) (eq-eqb (length keep) (length config - 1) (omega (arith, len, count)) j) (stays j) (can_keep (length config) before i (keep_of i keep)))
-        ∙ go (can_keep (length config) before i (keep_of i keep)) refl
+    many_refused len none = (λ j. tests (lt-ltb i (length config) within j) (eq-eqb (length keep) (length config - 1) (omega (arith, len, count)) j) (can_stay config (losing_of config w lost) i keep) (is_lost lost i))
+        ∙ go (can_stay config (losing_of config w lost) i keep) refl
       where
-        go : (can : Bool) → can_keep (length config) before i (keep_of i keep) ≡ can → tests true true false can ≡ Some NoSuchPlace
+        go : (can : Bool) → can_stay config (losing_of config w lost) i keep ≡ can → tests true true can (is_lost lost i) ≡ Some NoSuchPlace
         go false c = refl
         go true c = absurd (none (can_only len c))
 
-  -- it is lost
-  pub lost_refused : length keep ≡ length config - 1 → is_lost lost i ≡ true → loss_refusal config (losing_of config w lost) i keep ≡ Some NodeLost
-  lost_refused len gone = λ j. tests (lt-ltb i (length config) within j) (eq-eqb (length keep) (length config - 1) len j) (gone j) (can_keep (length config) before i (keep_of i keep))
+    placed : CanStay keep ways → loss_refusal config (losing_of config w lost) i keep ≡ tests true true true (is_lost lost i)
+    placed can = let len = can.len in
+        λ j. tests (lt-ltb i (length config) within j) (eq-eqb (length keep) (length config - 1) (omega (arith, len, count)) j) (stay_so can j) (is_lost lost i)
+
+    -- it is lost
+    pub lost_refused : CanStay keep ways → is_lost lost i ≡ true → loss_refusal config (losing_of config w lost) i keep ≡ Some NodeLost
+    lost_refused can gone = placed can ∙ ap (tests true true true) gone
+
+    -- nothing refuses it
+    pub unrefused : CanStay keep ways → is_lost lost i ≡ false → loss_refusal config (losing_of config w lost) i keep ≡ None
+    unrefused can stays = placed can ∙ ap (tests true true true) stays
+
+    pub keeps_so : is_lost lost i ≡ false → CanStay keep ways → can_keep (length config) before i (keep_of i keep) ≡ true
+    keeps_so stays can = each_so (length config) keeps (λ y below. go y (is_pair (length config) i y) refl)
+      where
+        keeps : ℕ → Bool
+        keeps y = not (is_pair (length config) i y) || nat_le (keep_of i keep y) (length (before.wire i y))
+
+        many_here : (y : ℕ) → length (before.wire i y) ≡ length (w.wire i y)
+        many_here y = ap (λ (ns : List (Stamped (Noticed Message))). length (map sent_packet (w.wire i y) ++ ns)) (no_notice config w lost i y stays)
+            ∙ (ap length (append-nil (map sent_packet (w.wire i y))) ∙ length-map (w.wire i y) sent_packet)
+
+        go : (y : ℕ) (b : Bool) → is_pair (length config) i y ≡ b → (not (is_pair (length config) i y) || nat_le (keep_of i keep y) (length (before.wire i y))) ≡ true
+        go y true is =
+            let few = fits_so can y is in
+            let many = many_here y in
+            ap (λ c. not c || nat_le (keep_of i keep y) (length (before.wire i y))) is ∙ le-leb (keep_of i keep y) (length (before.wire i y)) (omega (arith, few, many))
+        go y false is = ap (λ c. not c || nat_le (keep_of i keep y) (length (before.wire i y))) is
 
   -- it has not a number for each of its peers
   pub count_refused : (length keep ≡ length config - 1 → ⊥) → loss_refusal config (losing_of config w lost) i keep ≡ Some NoSuchPlace
-  count_refused other = λ j. tests (lt-ltb i (length config) within j) (ne_eqb (length keep) (length config - 1) other j) (is_lost lost i) (can_keep (length config) before i (keep_of i keep))
+  count_refused other = λ j. tests (lt-ltb i (length config) within j) (ne_eqb (length keep) (length config - 1) other j) (can_stay config (losing_of config w lost) i keep) (is_lost lost i)
 
 -- ---- the world that is left
 

@@ -18,15 +18,17 @@ use Rattle.pg_node_state.specs.PgStep.Machines.Clocked.{Timed, Stamped}
 use Rattle.pg_node_state.proofs.PgStep.Machines.Steps.{turn_changes, turn_made, happens_so}
 use Rattle.pg_node_state.specs.PgStep.Config.{Config, names_of, name_at, nodes_at, ports_at}
 use Rattle.pg_node_state.specs.PgStep.FrameMachine.{frame_machine}
-use Rattle.pg_node_state.specs.PgStep.Nodes.{Node, all_of}
-use Rattle.pg_node_state.specs.PgStep.State.{State}
+use Rattle.pg_node_state.specs.PgStep.Faults.{first_that_holds}
+use Rattle.pg_node_state.specs.PgStep.Nodes.{Node, Nodes, all_of}
+use Rattle.pg_node_state.specs.PgStep.State.{State, live_nodes}
 use Rattle.pg_node_state.specs.PgStep.Step.{Action, TimedTurn, node_takes, node_acts, step_take, step_act}
-use Rattle.pg_node_state.proofs.PgStep.Refusals.{same_step}
-use Rattle.pg_node_state.specs.PgStep.StepLaws.{place_timed, timed_placed}
+use Rattle.pg_node_state.proofs.PgStep.Machines.Options.{some_is}
+use Rattle.pg_node_state.proofs.PgStep.Refusals.{acts_in_order, same_step}
+use Rattle.pg_node_state.specs.PgStep.StepLaws.{place_timed, timed_placed, refusal_of, port_of, retries_none, is_full}
 use Rattle.pg_node_state.specs.PgStep.Turns.{Report}
 use Rattle.pg_node_state.specs.PgStep.declared.answer.Answer.{Answer}
 use Rattle.pg_node_state.specs.PgStep.declared.refusal.Refusal.{Refusal}
-use Rattle.pg_node_state.specs.PgStep.declared.refusal.Refusal.TheVariants.{NoSuchPlace}
+use Rattle.pg_node_state.specs.PgStep.declared.refusal.Refusal.TheVariants.{NoSuchPlace, NotWaiting, ClockFull}
 use Rattle.pg_laws_losses.specs.PgLaws.History.{answers_by}
 use Rattle.pg_node_state.specs.PgNodeOpens.Places.{whole_in, name_at as place_name}
 use Rattle.pg_node_state.specs.PgNodeSends.declared.done.Done.{Done}
@@ -225,6 +227,14 @@ module _ {S : Type 0} {listing : Listing S} (config : Config) (nodes nodes2 : Li
 
 -- ---- something of its own
 
+-- what is not refused is done at a port that is there
+port_so : (m : Nodes) (ports : ℕ) (action : Action) (s : Timed State) (t : TimedTurn) → step_act m ports action s ≡ Ok t → nat_lt (port_of action) ports ≡ true
+port_so m ports action s t is = go (nat_lt (port_of action) ports) (sym (acts_in_order m ports action s) ∙ ap refusal_of is)
+  where
+    go : (b : Bool) → first_that_holds ((not b, NoSuchPlace) ∷ (retries_none (live_nodes m s.state) action s.state, NotWaiting) ∷ (is_full (s.clock + 1), ClockFull) ∷ []) ≡ None → b ≡ true
+    go true e = refl
+    go false e = absurd (cc)
+
 module _ (config : Config) (nodes : List Seen) (w : TimedFrameWorld) (i : ℕ) (action : Action) (node : Seen) (shows : ShowsNodes config nodes w) (here : slice_get nodes i ≡ Some node) where
   its : ShowsNode config w i node
   its = shows.each i node here
@@ -245,12 +255,12 @@ module _ (config : Config) (nodes : List Seen) (w : TimedFrameWorld) (i : ℕ) (
   own_refused {S} listing fault s before after Shown comes = go (step_act (whole_in node.names) node.ports action node.state) fault own_is comes
     where
       go : (r : Result TimedTurn Refusal) (fault : NodeFault) → told_event config w (Do i action) ≡ Some r → Comes {S = S} {h = listing} node.names r (Err fault) s before after → ComesTo config w (Do i action) (Err fault) Shown
-      go (Ok t) OutOfMemory is h = tt
+      go (Ok t) OutOfMemory is h = (λ j. its_place j && port_so (nodes_at config i) (ports_at config i) action (w.node i) t (some_is (sym (own_is ∙ ap Some own_told) ∙ is)) j)
       go (Ok t) (Refused refusal) is h = absurd h
       go (Ok t) (BadMessage fault) is h = absurd h
       go (Ok t) TooLong is h = absurd h
       go (Ok t) Damaged is h = absurd h
-      go (Err refusal) OutOfMemory is h = tt
+      go (Err refusal) OutOfMemory is h = absurd (cc)
       go (Err refusal) (Refused other) is h = let same : refusal ≡ other = cc in is ∙ ap (λ (x : Refusal). Some (Err x)) same
       go (Err refusal) (BadMessage fault) is h = absurd (cc)
       go (Err refusal) TooLong is h = absurd (cc)
@@ -329,12 +339,12 @@ module _ (config : Config) (nodes : List Seen) (w : TimedFrameWorld) (i p : ℕ)
     taken_refused {S} listing fault s before after Shown comes = go (step_take (whole_in node.names) (place_name node.names (peer_place i p + 1)) x node.state) fault take_is comes
       where
         go : (r : Result TimedTurn Refusal) (fault : NodeFault) → told_event config w (Take i p) ≡ Some r → Comes {S = S} {h = listing} node.names r (Err fault) s before after → ComesTo config w (Take i p) (Err fault) Shown
-        go (Ok t) OutOfMemory is h = tt
+        go (Ok t) OutOfMemory is h = pair_there
         go (Ok t) (Refused refusal) is h = absurd h
         go (Ok t) (BadMessage fault) is h = absurd h
         go (Ok t) TooLong is h = absurd h
         go (Ok t) Damaged is h = absurd h
-        go (Err refusal) OutOfMemory is h = tt
+        go (Err refusal) OutOfMemory is h = absurd (cc)
         go (Err refusal) (Refused other) is h = let same : refusal ≡ other = cc in is ∙ ap (λ (x : Refusal). Some (Err x)) same
         go (Err refusal) (BadMessage fault) is h = absurd (cc)
         go (Err refusal) TooLong is h = absurd (cc)

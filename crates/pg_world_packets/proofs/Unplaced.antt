@@ -6,7 +6,7 @@ use Rattle.std.specs.Option.{option_map_or}
 use Rattle.std.proofs.lemmas.Bool.{lt-ltb}
 use Rattle.std.proofs.lemmas.Option.{slice_get_cases}
 use Rattle.pg_node_state.specs.PgStep.Machines.Places.{is_place, is_pair}
-use Rattle.pg_node_state.specs.PgStep.Machines.Machine.{Take, Do}
+use Rattle.pg_node_state.specs.PgStep.Machines.Machine.{Event, Take, Do}
 use Rattle.pg_node_state.specs.PgStep.Machines.Clocked.{Timed}
 use Rattle.pg_node_state.specs.PgStep.Attempts.{retry}
 use Rattle.pg_node_state.specs.PgStep.Commands.{command}
@@ -21,8 +21,9 @@ use Rattle.pg_world_packets.specs.declared.step.FrameStep.{FrameStep}
 use Rattle.pg_world_packets.specs.declared.step.FrameStep.TheVariants as steps
 use Rattle.pg_world_config.specs.Seen.{Seen}
 use Rattle.pg_world_packets.specs.Worlds.{TimedFrameWorld, ShowsNodes, has_port}
-use Rattle.pg_world_packets.specs.Worlds.{has_places, told_event, told_of_first, StepComesTo}
+use Rattle.pg_world_packets.specs.Worlds.{event_of, has_places, told_event, told_of_first, StepComesTo}
 use Rattle.pg_world_packets.specs.Losing.{is_barred}
+use Rattle.pg_world_packets.proofs.Barred.{pair_here, port_is}
 use Rattle.pg_world_packets.proofs.Peering.{lt_false}
 
 no_port : (m : Nodes) (ports : ℕ) (action : Action) (s : Timed State) → nat_lt (port_of action) ports ≡ false → step_act m ports action s ≡ Err NoSuchPlace
@@ -59,12 +60,12 @@ module _ (config : Config) (nodes : List Seen) (w : TimedFrameWorld) (shows : Sh
   unplaced (steps.Lose i keep) Shown none = tt
 
   -- memory ran out behind the places
-  pub starved : (step : FrameStep) (Shown : TimedFrameWorld → Type 0) → has_places nodes step ≡ true → StepComesTo config w step (Err OutOfMemory) Shown
-  starved (steps.Take i p) Shown places = tt
-  starved (steps.Command i port c) Shown places = tt
-  starved (steps.Retry i op) Shown places = tt
-  starved (steps.SeeLoss i p) Shown places = ap (λ n. is_pair n i p) (sym shows.size) ∙ places
-  starved (steps.Lose i keep) Shown places = tt
+  pub starved : (step : FrameStep) (e : Event Action) (Shown : TimedFrameWorld → Type 0) → event_of step ≡ Some e → has_places nodes step ≡ true → StepComesTo config w step (Err OutOfMemory) Shown
+  starved (steps.Take i p) e Shown is places = sym (pair_here config nodes w [] shows i p) ∙ places
+  starved (steps.Command i port c) e Shown is places = sym (port_is config nodes w [] shows i port) ∙ places
+  starved (steps.Retry i op) e Shown is places = sym (port_is config nodes w [] shows i op.port) ∙ places
+  starved (steps.SeeLoss i p) e Shown is places = absurd (cc)
+  starved (steps.Lose i keep) e Shown is places = absurd (cc)
 
 -- where no node is lost no step is barred
 pub never_barred : (nodes : List Seen) (step : FrameStep) → is_barred nodes [] step ≡ false

@@ -1,5 +1,5 @@
 -- Worlds of packets whose nodes may be lost: the world with losses that they show, and what a step makes of it.
-use Rattle.std.specs.Prelude.{◌≡◌, ℕ, ◌+◌, ◌-◌, Bool, true, false, not, ◌&&◌, ◌||◌, cond, nat_eq, nat_lt, map}
+use Rattle.std.specs.Prelude.{◌≡◌, ℕ, suc, ◌+◌, ◌-◌, Bool, true, false, not, ◌&&◌, ◌||◌, cond, nat_eq, nat_le, nat_lt, map}
 use Rattle.std.specs.Prelude.{length, get_or, slice_get, List, [], ◌∷◌, ◌++◌, Option, Some, None, Result, Ok, Err}
 use Rattle.std.specs.List.{list_all}
 use Rattle.std.specs.Option.{option_map_or}
@@ -8,9 +8,9 @@ use Rattle.pg_node_state.specs.PgMessageTypes.declared.message.Message.{Message}
 use Rattle.pg_node_state.specs.PgStep.Machines.Places.{is_place, is_pair}
 use Rattle.pg_node_state.specs.PgStep.Machines.Machine.{Take, Do}
 use Rattle.pg_node_state.specs.PgStep.Machines.Clocked.{Timed, Stamped}
-use Rattle.pg_node_state.specs.PgStep.Machines.Losing.{Noticed, Sent, Last, LosingEvent, Step, Lose, losing_happens, can_keep}
+use Rattle.pg_node_state.specs.PgStep.Machines.Losing.{Noticed, Sent, Last, LosingEvent, Step, Lose, losing_happens, each_place}
 use Rattle.pg_node_state.specs.PgStep.declared.refusal.Refusal.{Refusal}
-use Rattle.pg_node_state.specs.PgStep.declared.refusal.Refusal.TheVariants.{NoSuchPlace, NodeLost}
+use Rattle.pg_node_state.specs.PgStep.declared.refusal.Refusal.TheVariants.{NoSuchPlace, NodeLost, NotLost, NotDrained}
 use Rattle.pg_node_state.specs.PgStep.Config.{Config, name_at, nodes_at, ports_at}
 use Rattle.pg_node_state.specs.PgStep.Faults.{first_that_holds}
 use Rattle.pg_node_state.specs.PgStep.FrameMachine.{losing_frame_machine, last_notice, sent_packet}
@@ -178,13 +178,21 @@ told_own config u i action = record { event = Step (Do i action); refusal = own_
 abbrev pub told_sight : Config → LosingFrameWorld → ℕ → ℕ → Telling
 told_sight config u i p = record { event = Step (Take i p); refusal = see_refusal config u i p; is_idle = false; is_loss = false }
 
--- why a node is not lost, the first that holds: it is not there, or has not a number for each of its peers; it is lost; or more
--- packets should stay than are on a way
+-- how many packets are on the way, of which a last notice is none
+abbrev pub count_sent : List (Stamped (Noticed Message)) → ℕ
+count_sent [] = 0
+count_sent (x ∷ rest) = cond (is_notice x.packet) (count_sent rest) (suc (count_sent rest))
+
+-- no more packets should stay on a way from node i than are there
+abbrev pub can_stay : Config → LosingFrameWorld → ℕ → List ℕ → Bool
+can_stay config u i keep = each_place (length config) (λ y. not (is_pair (length config) i y) || nat_le (keep_of i keep y) (count_sent (u.world.wire i y)))
+
+-- why a node is not lost, the first that holds: it is not there, has not a number for each of its peers, or more packets should stay
+-- than are on a way; or it is lost
 abbrev pub loss_refusal : Config → LosingFrameWorld → ℕ → List ℕ → Option Refusal
 loss_refusal config u i keep = first_that_holds (
-    (not (is_place (length config) i && nat_eq (length keep) (length config - 1)), NoSuchPlace)
-    ∷ (u.gone i, NodeLost)
-    ∷ (not (can_keep (length config) u.world i (keep_of i keep)), NoSuchPlace) ∷ [])
+    (not (is_place (length config) i && (nat_eq (length keep) (length config - 1) && can_stay config u i keep)), NoSuchPlace)
+    ∷ (u.gone i, NodeLost) ∷ [])
 
 -- A node is lost, with a number for each of its peers of how many packets stay on the way there.
 abbrev pub told_loss : Config → LosingFrameWorld → ℕ → List ℕ → Telling
@@ -197,18 +205,31 @@ told_of config u (steps.Retry i op) = told_own config u i (Retry op)
 told_of config u (steps.SeeLoss i p) = told_sight config u i p
 told_of config u (steps.Lose i keep) = told_loss config u i keep.items
 
+-- nothing refuses a step, and a packet is on the way if it takes one
+pub record CanBeMade (told : Telling) : Type 0 where
+  pub allowed : told.refusal ≡ None
+  pub busy : told.is_idle ≡ false
+
+-- A refusal that is told whatever memory there is: a place is not there, a node is lost or not, or its packets are not all taken.
+abbrev pub is_told_first : Option Refusal → Bool
+is_told_first (Some NoSuchPlace) = true
+is_told_first (Some NodeLost) = true
+is_told_first (Some NotLost) = true
+is_told_first (Some NotDrained) = true
+is_told_first refusal = false
+
 -- its event happened, and led to a world with losses that is shown
 abbrev pub LosingLed : Config → LosingFrameWorld → LosingEvent Action → (LosingFrameWorld → Type 0) → Type 0
 LosingLed config u e Shown = (v : LosingFrameWorld) × (losing_happens (losing_frame_machine config) last_notice u e ≡ Some v) × Shown v
 
--- What came of a step in the world u: it happened, with a packet on the way if it takes one, did what is reported, and led to a world
--- that is shown; nothing was on the way; or memory ran out, or it was refused as is told, and the world u is shown.
+-- What came of a step in the world u: it can be made, happened, did what is reported, and led to a world that is shown; nothing was on
+-- the way; or memory ran out where no refusal is told first, or it was refused as is told, and the world u is shown.
 abbrev pub LosingComesTo : Config → LosingFrameWorld → Telling → Result Stepped NodeFault → (LosingFrameWorld → Type 0) → Type 0
-LosingComesTo config u told (Ok (Happened effect)) Shown = (told.is_loss ≡ false) × (told.is_idle ≡ false) × (losing_effect_in config u told.event ≡ Some effect) × LosingLed config u told.event Shown
-LosingComesTo config u told (Ok Gone) Shown = (told.is_loss ≡ true) × (told.is_idle ≡ false) × LosingLed config u told.event Shown
+LosingComesTo config u told (Ok (Happened effect)) Shown = (told.is_loss ≡ false) × CanBeMade told × (losing_effect_in config u told.event ≡ Some effect) × LosingLed config u told.event Shown
+LosingComesTo config u told (Ok Gone) Shown = (told.is_loss ≡ true) × CanBeMade told × LosingLed config u told.event Shown
 LosingComesTo config u told (Ok Nothing) Shown = (told.is_idle ≡ true) × (told.refusal ≡ None) × Shown u
 LosingComesTo config u told (Ok stepped) Shown = ⊥
-LosingComesTo config u told (Err OutOfMemory) Shown = Shown u
+LosingComesTo config u told (Err OutOfMemory) Shown = (is_told_first told.refusal ≡ false) × Shown u
 LosingComesTo config u told (Err (Refused refusal)) Shown = (told.refusal ≡ Some refusal) × Shown u
 LosingComesTo config u told (Err fault) Shown = ⊥
 

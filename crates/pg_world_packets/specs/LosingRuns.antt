@@ -10,7 +10,7 @@ use Rattle.pg_node_state.specs.PgStep.LossLaws.{LosingFrameWorld}
 use Rattle.pg_node_state.specs.PgStep.Step.{Action}
 use Rattle.pg_laws_losses.specs.Retrying.Survived.{LossesSurvived}
 use Rattle.pg_world_packets.specs.declared.step.FrameStep.{FrameStep}
-use Rattle.pg_world_packets.specs.Losing.{Telling, told_of}
+use Rattle.pg_world_packets.specs.Losing.{Telling, CanBeMade, is_told_first, told_of}
 use Rattle.pg_world_packets.specs.Runs.{Led}
 use Rattle.pg_world_packets.specs.Starts.{Orders}
 
@@ -19,9 +19,9 @@ use Rattle.pg_world_packets.specs.Starts.{Orders}
 abbrev pub number_left : Telling → ℕ
 number_left told = option_map_or refusal_number_of told.refusal (cond told.is_idle 0 10)
 
--- A step that did nothing has the number of what is told of it, in the place of which memory may run out.
+-- A step that did nothing has the number of what is told of it, in the place of which memory may run out where no refusal is told first.
 abbrev pub IsLeftOut : Telling → ℕ → Type 0
-IsLeftOut told number = (number ≡ number_left told) ⊎ (number ≡ 10)
+IsLeftOut told number = (number ≡ number_left told) ⊎ ((is_told_first told.refusal ≡ false) × (number ≡ 10))
 
 -- ---- kinds of steps
 
@@ -30,9 +30,9 @@ pub record LosingKind (S : Type 0) : Type 1 where
   pub Is : Config → LosingFrameWorld → S → LosingEvent Action → Type 0
   pub LeftOut : Config → LosingFrameWorld → S → ℕ → Type 0
 
--- the event that is told, with a packet on the way if it takes one
+-- the event that is told, which can be made
 abbrev pub IsToldEvent : Telling → LosingEvent Action → Type 0
-IsToldEvent told e = (e ≡ told.event) × (told.is_idle ≡ false)
+IsToldEvent told e = (e ≡ told.event) × CanBeMade told
 
 abbrev pub packets_past_losses : LosingKind FrameStep
 packets_past_losses = record { Is = λ config u step. IsToldEvent (told_of config u step); LeftOut = λ config u step. IsLeftOut (told_of config u step) }

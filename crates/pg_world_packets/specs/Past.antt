@@ -1,5 +1,5 @@
 -- What is behind a world: the events that led to it from the start of its configuration, and what holds of them.
-use Rattle.std.specs.Prelude.{◌≡◌, ◌↔◌, ◌≤◌, ◌&&◌, ℕ, Bool, true, false, length, take, List, ◌++◌, Result}
+use Rattle.std.specs.Prelude.{◌≡◌, ◌↔◌, ◌≤◌, ◌&&◌, ℕ, Bool, true, false, length, take, List, [], ◌∷◌, ◌++◌, Result, Ok}
 use Rattle.pg_term.specs.declared.term.Term.{Term}
 use Rattle.pg_node_state.specs.PgStep.Machines.Clocked.{plain}
 use Rattle.pg_node_state.specs.PgStep.Machines.Losing.{LosingEvent, LosingLeads, nobody_gone, mapped}
@@ -17,6 +17,7 @@ use Rattle.pg_laws_losses.specs.Retrying.Survived.{LossesSurvived}
 use Rattle.pg_node_state.specs.declared.state.fault.NodeFault.{NodeFault}
 use Rattle.pg_world_packets.specs.declared.step.FrameStep.{FrameStep}
 use Rattle.pg_world_packets.specs.declared.step.Stepped.{Stepped}
+use Rattle.pg_world_packets.specs.declared.step.Stepped.TheVariants.{Happened, Gone}
 use Rattle.pg_world_packets.specs.Losing.{ShowsLosing, LosingComesTo, seen_at, told_of}
 use Rattle.pg_world_packets.specs.LosingRuns.{LosingKind, LosingRunsTo, packets_past_losses}
 use Rattle.pg_world_packets.specs.Starts.{Orders}
@@ -79,22 +80,29 @@ pub record MissedInRun (given : Config) (view : View) (lost : List ℕ) (i : ℕ
 
 -- ---- what a step adds
 
--- Behind these events, which led to the world u, there is one more at most. It led to the world v, and all of them are its past.
-pub record LedOn (given : Config) (Shown : Config → LosingFrameWorld → Type 0) (config : Config) (events : List (LosingEvent Action)) (u v : LosingFrameWorld) : Type 0 where
+-- The events that a step adds: one that it can be, where it happened, and none where it did not.
+abbrev pub Adds : (LosingEvent Action → Type 0) → Result Stepped NodeFault → List (LosingEvent Action) → Type 0
+Adds Is (Ok (Happened effect)) more = (e : LosingEvent Action) × Is e × (more ≡ e ∷ [])
+Adds Is (Ok Gone) more = (e : LosingEvent Action) × Is e × (more ≡ e ∷ [])
+Adds Is result more = more ≡ []
+
+-- Behind these events, which led to the world u, are those that a step adds. They led to the world v, and all of them are its past.
+pub record LedOn (given : Config) (Shown : Config → LosingFrameWorld → Type 0) (Added : List (LosingEvent Action) → Type 0) (config : Config) (events : List (LosingEvent Action)) (u v : LosingFrameWorld) : Type 0 where
   pub more : List (LosingEvent Action)
-  pub once : length more ≤ 1
+  pub added : Added more
   pub led : LosingLeads (losing_frame_machine config) last_notice u more v
   pub past : IsPast given Shown config (events ++ more) v
 
--- What a step made of a world: what came of it in the world u to which its past led, and the past of what it left, which has one event
--- more at most. Old and New: what the code's world shows before and after; Comes: what comes of the step in a world, which leads to
--- worlds that are so.
-pub record PastGoesOn (given : Config) (Old New : Config → LosingFrameWorld → Type 0) (Comes : Config → LosingFrameWorld → (LosingFrameWorld → Type 0) → Type 0) : Type 0 where
+-- What a step made of a world: what came of it in the world u to which its past led, and the past of what it left, which has the step's
+-- own event more, where it happened. Old and New: what the code's world shows before and after; Comes: what comes of the step in a world,
+-- which leads to worlds that are so.
+pub record PastGoesOn {S : Type 0} (kind : LosingKind S) (given : Config) (Old New : Config → LosingFrameWorld → Type 0) (step : S) (result : Result Stepped NodeFault)
+    (Comes : Config → LosingFrameWorld → (LosingFrameWorld → Type 0) → Type 0) : Type 0 where
   pub config : Config
   pub events : List (LosingEvent Action)
   pub u : LosingFrameWorld
   pub past : IsPast given Old config events u
-  pub comes : Comes config u (LedOn given New config events u)
+  pub comes : Comes config u (LedOn given New (Adds (kind.Is config u step) result) config events u)
 
 -- What steps made of a world, one after another: the numbers of the steps, and the events of those that happened, which led on from
 -- the world u to which its past led, and are the last of the past of what was left.
@@ -117,7 +125,7 @@ HistoriesGrow old new = (name : Term) → take (length (old.histories name)) (ne
 -- what a step made of them
 abbrev pub FramesGoOn : Config → View → List ℕ → FrameStep → Result Stepped NodeFault → View → List ℕ → Type 0
 FramesGoOn given old lost step result new now =
-    PastGoesOn given (λ config u. ShowsLosing config old lost u) (λ config u. ShowsLosing config new now u) (λ config u Shown. LosingComesTo config u (told_of config u step) result Shown)
+    PastGoesOn packets_past_losses given (λ config u. ShowsLosing config old lost u) (λ config u. ShowsLosing config new now u) step result (λ config u Shown. LosingComesTo config u (told_of config u step) result Shown)
 
 -- what steps made of them, one after another
 abbrev pub FramesRunOn : Config → View → List ℕ → List FrameStep → List ℕ → View → List ℕ → Type 0

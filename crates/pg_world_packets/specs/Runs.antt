@@ -17,7 +17,7 @@ use Rattle.pg_world_packets.specs.declared.step.FrameStep.{FrameStep}
 use Rattle.pg_world_packets.specs.declared.step.FrameStep.TheVariants as frames
 use Rattle.pg_world_packets.specs.Losing.{loss_refusal, losing_of}
 use Rattle.pg_world_packets.specs.Starts.{Orders}
-use Rattle.pg_world_packets.specs.Worlds.{TimedFrameWorld, event_of, is_loss, told_event}
+use Rattle.pg_world_packets.specs.Worlds.{TimedFrameWorld, are_there, event_of, is_loss, told_event}
 
 -- the number of a step that did nothing, by what is told of its event: 0 where nothing was on the way, that of the refusal where
 -- it is refused, and 10, out of memory, where it could have happened
@@ -33,17 +33,18 @@ pub record Kind (S : Type 0) : Type 1 where
   pub event : S → Option (Event Action)
   pub Passed : Config → TimedFrameWorld → S → ℕ → Type 0
 
--- An event over packets that did nothing has the number of what is told of it, in the place of which memory may run out.
+-- An event over packets that did nothing has the number of what is told of it, in the place of which memory may run out where its places
+-- are there.
 abbrev pub IsTold : Config → TimedFrameWorld → Event Action → ℕ → Type 0
-IsTold config w e number = (number ≡ number_told (told_event config w e)) ⊎ (number ≡ 10)
+IsTold config w e number = (number ≡ number_told (told_event config w e)) ⊎ ((are_there config e ≡ true) × (number ≡ 10))
 
--- no loss is seen where no node is lost: a place is not there, the peer is not lost, or memory ran out
+-- no loss is seen where no node is lost: a place is not there, or the peer is not lost
 abbrev pub SeesNone : Bool → ℕ → Type 0
-SeesNone pair number = (number ≡ refusal_number_of (cond pair NotLost NoSuchPlace)) ⊎ ((pair ≡ true) × (number ≡ 10))
+SeesNone pair number = number ≡ refusal_number_of (cond pair NotLost NoSuchPlace)
 
--- the loss of a node that was refused where none is lost, or for which memory ran out
+-- the loss of a node that was refused where none is lost, or for which memory ran out as nothing refuses it
 abbrev pub IsUnlost : Config → TimedFrameWorld → ℕ → List ℕ → ℕ → Type 0
-IsUnlost config w i keep number = (number ≡ option_map_or refusal_number_of (loss_refusal config (losing_of config w []) i keep) 10) ⊎ (number ≡ 10)
+IsUnlost config w i keep number = number ≡ option_map_or refusal_number_of (loss_refusal config (losing_of config w []) i keep) 10
 
 -- a step that left a frame world as it was, where no node is lost
 abbrev pub ChangesNothing : Config → TimedFrameWorld → FrameStep → ℕ → Type 0

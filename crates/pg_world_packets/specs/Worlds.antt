@@ -1,5 +1,5 @@
 -- The frame world that a world of nodes shows, and what a step makes of it.
-use Rattle.std.specs.Prelude.{◌≡◌, ◌<◌, ℕ, Bool, true, false, cond, nat_lt, length, slice_get}
+use Rattle.std.specs.Prelude.{◌≡◌, ◌<◌, ℕ, Bool, true, false, ◌&&◌, cond, nat_lt, length, slice_get}
 use Rattle.std.specs.Prelude.{List, [], ◌∷◌, Option, Some, None, Result, Ok, Err}
 use Rattle.std.specs.List.{IsDistinct}
 use Rattle.std.specs.Option.{option_map_or}
@@ -19,6 +19,7 @@ use Rattle.pg_node_state.specs.PgStep.FrameMachine.{frame_machine}
 use Rattle.pg_node_state.specs.PgStep.Nodes.{Node, Nodes, all_of}
 use Rattle.pg_node_state.specs.PgStep.State.{State, Response}
 use Rattle.pg_node_state.specs.PgStep.Step.{Action, Issue, Retry, TimedTurn, step_take, step_act}
+use Rattle.pg_node_state.specs.PgStep.StepLaws.{port_of}
 use Rattle.pg_node_state.specs.PgStep.Turns.{Report}
 use Rattle.pg_laws_losses.specs.PgLaws.History.{answers_by, history, applied_count}
 use Rattle.pg_node_state.specs.declared.state.fault.NodeFault.{NodeFault}
@@ -122,21 +123,24 @@ told_event config w (Do i action) = Some (cond (is_place (length config) i) (ste
 abbrev pub EventLed : Config → TimedFrameWorld → Event Action → (TimedFrameWorld → Type 0) → Type 0
 EventLed config w e Shown = (v : TimedFrameWorld) × (happens (frame_machine config) w e ≡ Some v) × Shown v
 
+-- the places that an event names are there
+abbrev pub are_there : Config → Event Action → Bool
+are_there config (Take i p) = is_pair (length config) i p
+are_there config (Do i action) = is_place (length config) i && nat_lt (port_of action) (ports_at config i)
+
 -- What came of an event in the world w: it happened, did what is reported, and led to a world that is shown; nothing was on the way;
--- memory ran out; or it was refused as is told.
+-- memory ran out, where its places are there; or it was refused as is told.
 abbrev pub ComesTo : Config → TimedFrameWorld → Event Action → Result Stepped NodeFault → (TimedFrameWorld → Type 0) → Type 0
 ComesTo config w e (Ok (Happened effect)) Shown = (effect_in (frame_machine config) w e ≡ Some effect) × EventLed config w e Shown
 ComesTo config w e (Ok Nothing) Shown = told_event config w e ≡ None
 ComesTo config w e (Ok stepped) Shown = ⊥
-ComesTo config w e (Err OutOfMemory) Shown = Unit {0}
+ComesTo config w e (Err OutOfMemory) Shown = are_there config e ≡ true
 ComesTo config w e (Err (Refused refusal)) Shown = told_event config w e ≡ Some (Err refusal)
 ComesTo config w e (Err fault) Shown = ⊥
 
--- What came of seeing a loss where no node is lost: it is refused, since a place is not there or the peer is not lost; or memory
--- ran out.
+-- What came of seeing a loss where no node is lost: it is refused, since a place is not there or the peer is not lost.
 abbrev pub IsUnseen : Bool → Result Stepped NodeFault → Type 0
 IsUnseen pair (Ok stepped) = ⊥
-IsUnseen pair (Err OutOfMemory) = pair ≡ true
 IsUnseen pair (Err (Refused refusal)) = refusal ≡ cond pair NotLost NoSuchPlace
 IsUnseen pair (Err fault) = ⊥
 

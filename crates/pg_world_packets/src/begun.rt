@@ -64,8 +64,7 @@ ghost use Rattle.pg_world_packets.specs.Openings.{CantBegin as CantBeginWith, ar
 
 /// Whether a world of a configuration can begin, but for the length of what its nodes announce.
 ///
-/// Errors, the first that holds: those of `Config::check`; `TooLong`, where a group has more than 2^32 members;
-/// `OutOfMemory` in the place of each.
+/// Errors, the first that holds: those of `Config::check`; `TooLong`, where a group has more than 2^32 members.
 ///
 /// Cost: that of `Config::check`.
 pub fn ready(alloc: Global, config: &Config) -> Result<(), WorldFault>

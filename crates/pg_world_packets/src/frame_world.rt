@@ -248,13 +248,13 @@ impl<T: GroupTable + Drop> FrameWorld<T> {
     /// Errors, which change nothing, the first that holds: `Refused` by `NoSuchPlace` where a node, a port or a peer
     /// is not there, or a node would take from itself; those of `NodeState::take`, `command` and `retry`;
     /// `OutOfMemory` may come in the place of each after `NoSuchPlace`, as room for what is sent is made before
-    /// anything changes.
+    /// anything changes. It never comes in the place of `NoSuchPlace`, `NodeLost`, `NotLost` or `NotDrained`.
     ///
     /// Where nodes are lost, the step is the event of the machine with losses. A step of a node that is lost is
     /// refused by `NodeLost`, after `NoSuchPlace`, and so is a take of a peer whose loss was seen. `SeeLoss`:
     /// `NoSuchPlace`; `NodeLost`, also where it was seen before; `NotLost`; `NotDrained` where a packet of the peer
-    /// is on the way; `ClockFull`. `Lose`: `NoSuchPlace`, also where `keep` has not one number for each peer;
-    /// `NodeLost`; `NoSuchPlace` where more should stay than are on the way.
+    /// is on the way; `ClockFull`. `Lose`: `NoSuchPlace`, also where `keep` has not one number for each peer, or more
+    /// should stay than are on the way; `NodeLost`.
     ///
     /// Cost: that of the call of `NodeState`, O(log n) in the groups that were named, and memory for one more packet
     /// to each peer and one more entry of a history. `Lose`: O(packets that go) in the place of the call.

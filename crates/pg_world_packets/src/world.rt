@@ -67,13 +67,13 @@ impl<T: GroupTable + Drop> FrameNodes<T> {
     /// Errors, which change nothing, the first that holds: `Refused` by `NoSuchPlace` where a node, a port or a peer
     /// is not there, or a node would take from itself; those of `NodeState::take`, `command` and `retry`;
     /// `OutOfMemory` may come in the place of each after `NoSuchPlace`, as room for what is sent is made before
-    /// anything changes.
+    /// anything changes. It never comes in the place of `NoSuchPlace`, `NodeLost`, `NotLost` or `NotDrained`.
     ///
     /// Where nodes are lost, the step is the event of the machine with losses. A step of a node that is lost is
     /// refused by `NodeLost`, after `NoSuchPlace`, and so is a take of a peer whose loss was seen. `SeeLoss`:
     /// `NoSuchPlace`; `NodeLost`, also where it was seen before; `NotLost`; `NotDrained` where a packet of the peer
-    /// is on the way; `ClockFull`. `Lose`: `NoSuchPlace`, also where `keep` has not one number for each peer;
-    /// `NodeLost`; `NoSuchPlace` where more should stay than are on the way.
+    /// is on the way; `ClockFull`. `Lose`: `NoSuchPlace`, also where `keep` has not one number for each peer, or more
+    /// should stay than are on the way; `NodeLost`.
     pub(crate) fn step(&mut self, step: &FrameStep) -> Result<Stepped, NodeFault>
         ensures event { (config : Config) (w : TimedFrameWorld) → lost_of self.old ≡ [] → ShowsWorld config (view_of self.old) w
             → StepComesTo config w step.now result (ShowsWorld config (view_of self.new)) }
@@ -91,18 +91,23 @@ impl<T: GroupTable + Drop> FrameNodes<T> {
         if self.is_barred(step) {
             return Err(NodeFault::Refused(Refusal::NodeLost));
         }
-        match self.histories.settle() {
-            Ok(()) => {}
-            Err(AllocError) => return Err(NodeFault::OutOfMemory),
-        }
         match step {
-            FrameStep::Take { node, peer } => self.take(*node, *peer),
+            FrameStep::Take { node, peer } => match self.histories.settle() {
+                Ok(()) => self.take(*node, *peer),
+                Err(AllocError) => Err(NodeFault::OutOfMemory),
+            },
             FrameStep::Command {
                 node,
                 port,
                 command,
-            } => self.command(*node, *port, command),
-            FrameStep::Retry { node, op } => self.retry(*node, *op),
+            } => match self.histories.settle() {
+                Ok(()) => self.command(*node, *port, command),
+                Err(AllocError) => Err(NodeFault::OutOfMemory),
+            },
+            FrameStep::Retry { node, op } => match self.histories.settle() {
+                Ok(()) => self.retry(*node, *op),
+                Err(AllocError) => Err(NodeFault::OutOfMemory),
+            },
             FrameStep::SeeLoss { node, peer } => self.see_loss(*node, *peer),
             FrameStep::Lose { node, keep } => self.lose(*node, keep.as_slice()),
         }

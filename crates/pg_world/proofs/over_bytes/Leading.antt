@@ -1,5 +1,5 @@
 -- The past of a world of bytes, and what a step adds to it.
-use Rattle.std.proofs.Common.{◌≡◌, ◌<◌, ◌≤◌, ◌+◌, ℕ, Bool, false, true, get_or, length, List, [], Option}
+use Rattle.std.proofs.Common.{◌≡◌, ◌<◌, ◌≤◌, ◌+◌, ℕ, Bool, false, true, get_or, length, List, [], ◌∷◌, Option}
 use Rattle.std.proofs.Common.{Some, None, Result, Ok, Err, refl, sym, ap, ◌∙◌, arith, subst}
 use Rattle.std.specs.Prelude.{slice_get, option_map, IfSome}
 use Rattle.std.specs.Option.{option_copied}
@@ -31,9 +31,9 @@ use Rattle.pg_world.specs.declared.step.Step.TheVariants as steps
 use Rattle.pg_world_packets.specs.declared.step.Stepped.{Stepped}
 use Rattle.pg_world_packets.specs.declared.step.Stepped.TheVariants.{Happened, Moved, Nothing, Gone}
 use Rattle.pg_world.specs.BytesLosing.{ShowsLosingBytes, MoveLeaves, WholeComesTo, SightComesTo}
-use Rattle.pg_world.specs.BytesLosing.{LossComesTo, EventLeaves, StepLeaves, put_refusal, pull_refusal}
+use Rattle.pg_world.specs.BytesLosing.{LossComesTo, EventLeaves, StepLeaves, put_refusal, pull_refusal, gone_refusal}
 use Rattle.pg_world_packets.specs.Losing.{IsReachedLosing}
-use Rattle.pg_world.specs.BytesLosingRuns.{bytes_past_losses}
+use Rattle.pg_world.specs.BytesLosingRuns.{bytes_past_losses, IsBytesEvent, IsFrameEvent, IsLossOf}
 use Rattle.pg_world.specs.BytesStart.{BytesBegin}
 use Rattle.pg_world.specs.Crossings.{Crossing, ShowsPast, node_of, no_links}
 use Rattle.pg_node.specs.Links.{Link}
@@ -43,8 +43,8 @@ use Rattle.pg_world_packets.proofs.Counted.{place_there}
 use Rattle.pg_world_packets.proofs.Peering.{known, own_place, same_place}
 use Rattle.pg_world_packets.proofs.Turning.{is_pair_so}
 use Rattle.pg_world_packets.specs.Losing.{Telling, formed_after, formed_with, losing_of, told_take, told_own, told_sight}
-use Rattle.pg_world_packets.specs.LosingRuns.{LosingGoesTo}
-use Rattle.pg_world_packets.specs.Past.{HistoriesGrow, missed_in}
+use Rattle.pg_world_packets.specs.LosingRuns.{LosingGoesTo, IsToldEvent}
+use Rattle.pg_world_packets.specs.Past.{Adds, HistoriesGrow, missed_in}
 use Rattle.pg_world.specs.Bars.{bytes_formed_after}
 use Rattle.pg_world.specs.BytesPast.{BytesFormedFirst, BytesHavePast, BytesGoOn, BytesMissed, BytesRunOn}
 use Rattle.pg_world_packets.specs.Pending.{AgreeOn, pending_of, sees_free}
@@ -55,7 +55,7 @@ use Rattle.pg_world_packets.specs.Worlds.{TimedFrameWorld, ShowsNodes}
 use Rattle.pg_world_packets.proofs.AtLosses.{ToldBehind, none_told}
 use Rattle.pg_world_packets.proofs.FormedSeen.{ToldOf, loss_told, told_both}
 use Rattle.pg_world_packets.proofs.Leading.{Near, NearBy, Here, Next, Lists, Survive, AreApart, goes_on}
-use Rattle.pg_world_packets.proofs.Leading.{past_after, past_of, runs_on, comes_on, some_comes}
+use Rattle.pg_world_packets.proofs.Leading.{past_after, past_of, runs_on, comes_on, some_comes, with_added}
 use Rattle.pg_world_packets.proofs.Leading.{histories_grow, history_is, applied_there, agreed_there, missed_there}
 use Rattle.pg_world_packets.proofs.Ordered.{ordered_length}
 use Rattle.pg_world_packets.proofs.LosingRunning.{losing_leads, start_is}
@@ -69,8 +69,11 @@ LossTold T S i (Ok stepped) = (keep : ℕ → ℕ) → T (Lose i keep)
 LossTold T S i (Err fault) = S
 
 abbrev EventTold : (LosingEvent Action → Type 0) → Type 0 → FrameStep → Result Stepped NodeFault → Type 0
+EventTold T S (frames.Take i p) result = ToldOf T S (Happens (Take i p)) result
+EventTold T S (frames.Command i port command) result = ToldOf T S (Happens (Do i (Issue port command))) result
+EventTold T S (frames.Retry i op) result = ToldOf T S (Happens (Do i (Retry op))) result
+EventTold T S (frames.SeeLoss i p) result = ToldOf T S (Happens (Take i p)) result
 EventTold T S (frames.Lose i keep) result = LossTold T S i result
-EventTold T S step result = ((e : Event Action) → T (Happens e)) × S
 
 abbrev pub StepTold : (LosingEvent Action → Type 0) → Type 0 → Step → Result Stepped NodeFault → Type 0
 StepTold T S (steps.Event step) result = EventTold T S step result
@@ -79,29 +82,29 @@ StepTold T S step result = S
 
 module _ (config : Config) (u : LosingFrameWorld) (T : LosingEvent Action → Type 0) (S : Type 0) (P Q : LosingFrameWorld → Type 0) (onward : (v : LosingFrameWorld) → Near config T S u v → P v → Q v) where
   whole_on : (told : Telling) (result : Result Stepped NodeFault) → ToldOf T S told.event result → WholeComesTo config u told result P → WholeComesTo config u told result Q
-  whole_on told (Ok Nothing) so shown = onward u (Here refl so) shown
+  whole_on told (Ok Nothing) so (late, shown) = (late, onward u (Here refl so) shown)
   whole_on told result so comes = comes_on config u T S told P Q onward result so comes
 
   sight_on : (told : Telling) (result : Result Stepped NodeFault) → ToldOf T S told.event result → SightComesTo config u told result P → SightComesTo config u told result Q
-  sight_on told (Err (Refused NotDrained)) so shown = onward u (Here refl so) shown
+  sight_on told (Err (Refused NotDrained)) so (before, shown) = (before, onward u (Here refl so) shown)
   sight_on told result so comes = comes_on config u T S told P Q onward result so comes
 
   loss_on : (i : ℕ) (result : Result Stepped NodeFault) → LossTold T S i result → LossComesTo config u i result P → LossComesTo config u i result Q
-  loss_on i (Ok Gone) so (keep, (v, happened, shown)) = (keep, (v, happened, onward v (Next (Lose i keep) happened (so keep)) shown))
+  loss_on i (Ok Gone) so (none, keep, (v, happened, shown)) = (none, keep, (v, happened, onward v (Next (Lose i keep) happened (so keep)) shown))
   loss_on i (Ok (Happened effect)) so comes = absurd comes
   loss_on i (Ok Nothing) so comes = absurd comes
   loss_on i (Ok (Moved count)) so comes = absurd comes
-  loss_on i (Err OutOfMemory) so shown = onward u (Here refl so) shown
+  loss_on i (Err OutOfMemory) so (none, shown) = (none, onward u (Here refl so) shown)
   loss_on i (Err (Refused refusal)) so (is, shown) = (is, onward u (Here refl so) shown)
   loss_on i (Err (BadMessage m)) so comes = absurd comes
   loss_on i (Err TooLong) so comes = absurd comes
   loss_on i (Err Damaged) so comes = absurd comes
 
   event_on : (step : FrameStep) (result : Result Stepped NodeFault) → EventTold T S step result → EventLeaves config u step result P → EventLeaves config u step result Q
-  event_on (frames.Take i p) result so comes = whole_on (told_take config u i p) result (told_both T S (Happens (Take i p)) result (so.0 (Take i p)) so.1) comes
-  event_on (frames.Command i port command) result so comes = comes_on config u T S (told_own config u i (Issue port command)) P Q onward result (told_both T S (Happens (Do i (Issue port command))) result (so.0 (Do i (Issue port command))) so.1) comes
-  event_on (frames.Retry i op) result so comes = comes_on config u T S (told_own config u i (Retry op)) P Q onward result (told_both T S (Happens (Do i (Retry op))) result (so.0 (Do i (Retry op))) so.1) comes
-  event_on (frames.SeeLoss i p) result so comes = sight_on (told_sight config u i p) result (told_both T S (Happens (Take i p)) result (so.0 (Take i p)) so.1) comes
+  event_on (frames.Take i p) result so comes = whole_on (told_take config u i p) result so comes
+  event_on (frames.Command i port command) result so comes = comes_on config u T S (told_own config u i (Issue port command)) P Q onward result so comes
+  event_on (frames.Retry i op) result so comes = comes_on config u T S (told_own config u i (Retry op)) P Q onward result so comes
+  event_on (frames.SeeLoss i p) result so comes = sight_on (told_sight config u i p) result so comes
   event_on (frames.Lose i keep) result so comes = loss_on i result so comes
 
   pub leaves_on : (step : Step) (result : Result Stepped NodeFault) → StepTold T S step result → StepLeaves config u step result P → StepLeaves config u step result Q
@@ -124,10 +127,10 @@ module _ (config : Config) (nodes : List Seen) (lost : List ℕ) (w : TimedFrame
   told_loss i (Err fault) so = so
 
   told_event : (step : FrameStep) (result : Result Stepped NodeFault) → now ≡ formed_after step result nodes lost was → EventTold T S step result
-  told_event (frames.Take i p) result so = ((λ e. so), so)
-  told_event (frames.Command i port command) result so = ((λ e. so), so)
-  told_event (frames.Retry i op) result so = ((λ e. so), so)
-  told_event (frames.SeeLoss i p) result so = ((λ e. so), so)
+  told_event (frames.Take i p) result so = told_both T S (Happens (Take i p)) result so so
+  told_event (frames.Command i port command) result so = told_both T S (Happens (Do i (Issue port command))) result so so
+  told_event (frames.Retry i op) result so = told_both T S (Happens (Do i (Retry op))) result so so
+  told_event (frames.SeeLoss i p) result so = told_both T S (Happens (Take i p)) result so so
   told_event (frames.Lose i keep) result so = told_loss i result so
 
   pub told_bytes : (step : Step) (result : Result Stepped NodeFault) → now ≡ bytes_formed_after step result nodes lost was → StepTold T S step result
@@ -135,6 +138,56 @@ module _ (config : Config) (nodes : List Seen) (lost : List ℕ) (w : TimedFrame
   told_bytes (steps.Pull y x max) result so = so
   told_bytes (steps.Event step) result so = told_event step result so
   told_bytes (steps.Lose i) result so = told_loss i result so
+
+-- the events that a step adds, beside what is told of it
+module _ (config : Config) (u : LosingFrameWorld) (T : LosingEvent Action → Type 0) (S : Type 0) (P : LosingFrameWorld → Type 0) where
+  abbrev WithT : (LosingEvent Action → Type 0) → Result Stepped NodeFault → LosingEvent Action → Type 0
+  WithT Is result e = T e × Adds Is result (e ∷ [])
+
+  abbrev WithS : (LosingEvent Action → Type 0) → Result Stepped NodeFault → Type 0
+  WithS Is result = S × Adds Is result []
+
+  moved_added : (Is : LosingEvent Action → Type 0) (refusal : Option Refusal) (result : Result Stepped NodeFault) → MoveLeaves refusal result (P u) → S → WithS Is result
+  moved_added Is refusal (Ok (Moved count)) comes so = (so, refl)
+  moved_added Is refusal (Ok Nothing) comes so = (so, refl)
+  moved_added Is refusal (Ok (Happened effect)) comes so = absurd comes
+  moved_added Is refusal (Ok Gone) comes so = absurd comes
+  moved_added Is refusal (Err fault) comes so = (so, refl)
+
+  whole_added : (told : Telling) (result : Result Stepped NodeFault) → WholeComesTo config u told result P → ToldOf T S told.event result
+      → ToldOf (WithT (IsToldEvent told) result) (WithS (IsToldEvent told) result) told.event result
+  whole_added told (Ok Nothing) comes so = (so, refl)
+  whole_added told result comes so = with_added config u T S told P result comes so
+
+  sight_added : (told : Telling) (result : Result Stepped NodeFault) → SightComesTo config u told result P → ToldOf T S told.event result
+      → ToldOf (WithT (IsToldEvent told) result) (WithS (IsToldEvent told) result) told.event result
+  sight_added told (Err (Refused NotDrained)) comes so = (so, refl)
+  sight_added told result comes so = with_added config u T S told P result comes so
+
+  abbrev IsLost : ℕ → LosingEvent Action → Type 0
+  IsLost i e = (gone_refusal config u i ≡ None) × IsLossOf i e
+
+  loss_added : (i : ℕ) (result : Result Stepped NodeFault) → LossComesTo config u i result P → LossTold T S i result → LossTold (WithT (IsLost i) result) (WithS (IsLost i) result) i result
+  loss_added i (Ok Gone) comes so = λ keep. (so keep, (Lose i keep, (comes.0, (keep, refl)), refl))
+  loss_added i (Ok (Happened effect)) comes so = absurd comes
+  loss_added i (Ok Nothing) comes so = absurd comes
+  loss_added i (Ok (Moved count)) comes so = absurd comes
+  loss_added i (Err fault) comes so = (so, refl)
+
+  event_added : (step : FrameStep) (result : Result Stepped NodeFault) → EventLeaves config u step result P → EventTold T S step result
+      → EventTold (WithT (IsFrameEvent config u step) result) (WithS (IsFrameEvent config u step) result) step result
+  event_added (frames.Take i p) result comes so = whole_added (told_take config u i p) result comes so
+  event_added (frames.Command i port command) result comes so = with_added config u T S (told_own config u i (Issue port command)) P result comes so
+  event_added (frames.Retry i op) result comes so = with_added config u T S (told_own config u i (Retry op)) P result comes so
+  event_added (frames.SeeLoss i p) result comes so = sight_added (told_sight config u i p) result comes so
+  event_added (frames.Lose i keep) result comes so = loss_added i result comes so
+
+  pub bytes_added : (step : Step) (result : Result Stepped NodeFault) → StepLeaves config u step result P → StepTold T S step result
+      → StepTold (WithT (IsBytesEvent config u step) result) (WithS (IsBytesEvent config u step) result) step result
+  bytes_added (steps.Put x y max) result leaves so = moved_added (λ e. ⊥) (put_refusal config u x y) result leaves so
+  bytes_added (steps.Pull y x max) result leaves so = moved_added (λ e. ⊥) (pull_refusal config u y x) result leaves so
+  bytes_added (steps.Event step) result leaves so = event_added step result leaves so
+  bytes_added (steps.Lose i) result leaves so = loss_added i result leaves so
 
 -- where nothing is asked
 abbrev pub Any : LosingEvent Action → Type 0
@@ -145,10 +198,10 @@ any_loss i (Ok stepped) = λ keep. tt
 any_loss i (Err fault) = tt
 
 any_event : (step : FrameStep) (result : Result Stepped NodeFault) → EventTold Any (Unit {0}) step result
-any_event (frames.Take i p) result = ((λ e. tt), tt)
-any_event (frames.Command i port command) result = ((λ e. tt), tt)
-any_event (frames.Retry i op) result = ((λ e. tt), tt)
-any_event (frames.SeeLoss i p) result = ((λ e. tt), tt)
+any_event (frames.Take i p) result = told_both Any (Unit {0}) (Happens (Take i p)) result tt tt
+any_event (frames.Command i port command) result = told_both Any (Unit {0}) (Happens (Do i (Issue port command))) result tt tt
+any_event (frames.Retry i op) result = told_both Any (Unit {0}) (Happens (Do i (Retry op))) result tt tt
+any_event (frames.SeeLoss i p) result = told_both Any (Unit {0}) (Happens (Take i p)) result tt tt
 any_event (frames.Lose i keep) result = any_loss i result
 
 pub any_told : (step : Step) (result : Result Stepped NodeFault) → StepTold Any (Unit {0}) step result
@@ -174,19 +227,19 @@ module _ (config : Config) (u : LosingFrameWorld) (Q : LosingFrameWorld → Type
   Some_world = (v : LosingFrameWorld) × Q v
 
   some_whole : (told : Telling) (result : Result Stepped NodeFault) → WholeComesTo config u told result Q → Some_world
-  some_whole told (Ok Nothing) shown = (u, shown)
+  some_whole told (Ok Nothing) comes = (u, comes.1)
   some_whole told result comes = some_comes config u told Q result comes
 
   some_sight : (told : Telling) (result : Result Stepped NodeFault) → SightComesTo config u told result Q → Some_world
-  some_sight told (Err (Refused NotDrained)) shown = (u, shown)
+  some_sight told (Err (Refused NotDrained)) comes = (u, comes.1)
   some_sight told result comes = some_comes config u told Q result comes
 
   some_loss : (i : ℕ) (result : Result Stepped NodeFault) → LossComesTo config u i result Q → Some_world
-  some_loss i (Ok Gone) comes = (comes.1.0, comes.1.2)
+  some_loss i (Ok Gone) (none, keep, (v, happened, shown)) = (v, shown)
   some_loss i (Ok (Happened effect)) comes = absurd comes
   some_loss i (Ok Nothing) comes = absurd comes
   some_loss i (Ok (Moved count)) comes = absurd comes
-  some_loss i (Err OutOfMemory) shown = (u, shown)
+  some_loss i (Err OutOfMemory) comes = (u, comes.1)
   some_loss i (Err (Refused refusal)) comes = (u, comes.1)
   some_loss i (Err (BadMessage m)) comes = absurd comes
   some_loss i (Err TooLong) comes = absurd comes
@@ -223,15 +276,20 @@ module _ (given : Config) (survive : Survive) (old : Crossing) (account : Accoun
   apart config u shows = shows.shows.traffic.nodes.apart
 
   onward_from : (config : Config) (u : LosingFrameWorld) → Before config u → (((x : ℕ) → u.gone x ≡ false) → (k : ℕ) → NoneLost (u.world.node k).state)
-      → (P Q : LosingFrameWorld → Type 0) → ((v : LosingFrameWorld) → NearBy config account.formed later.formed u v → P v → Q v) → Comes config u P → Comes config u Q
-  onward_from config u shows seen P Q onward leaves = leaves_on config u (λ e. ToldBehind config u e account.formed later.formed) (later.formed ≡ account.formed) P Q onward step result
-      (told_bytes config old.nodes lost shows.frames u shows.shows.traffic.nodes shows.is seen account.formed later.formed step result told) leaves
+      → (P Q : LosingFrameWorld → Type 0) → ((v : LosingFrameWorld) → NearBy config (Adds (IsBytesEvent config u step) result) account.formed later.formed u v → P v → Q v) → Comes config u P → Comes config u Q
+  onward_from config u shows seen P Q onward leaves =
+      let Added = Adds (IsBytesEvent config u step) result in
+      let Behind = λ (e : LosingEvent Action). ToldBehind config u e account.formed later.formed in
+      let Same = later.formed ≡ account.formed in
+      leaves_on config u (λ e. Behind e × Added (e ∷ [])) (Same × Added []) P Q onward step result
+      (bytes_added config u Behind Same P step result leaves
+      (told_bytes config old.nodes lost shows.frames u shows.shows.traffic.nodes shows.is seen account.formed later.formed step result told)) leaves
 
   pub bytes_go_on : BytesHavePast given old account lost → BytesGoOn given old account lost step result new later now
-  bytes_go_on past = goes_on given After apart survive account.formed later.formed Before Comes onward_from past (λ config u events reached shows. came config u (events, reached) shows)
+  bytes_go_on past = goes_on given After apart survive bytes_past_losses step result account.formed later.formed Before Comes onward_from past (λ config u events reached shows. came config u (events, reached) shows)
 
   pub bytes_past : BytesHavePast given old account lost → BytesHavePast given new later now
-  bytes_past past = past_after given After apart survive account.formed later.formed Before Comes onward_from
+  bytes_past past = past_after given After apart survive bytes_past_losses step result account.formed later.formed Before Comes onward_from
       (λ config u Q leaves. some_leaves config u Q step result leaves) past (λ config u events reached shows. came config u (events, reached) shows)
 
 -- ---- steps, one after another, and the start

@@ -1,10 +1,10 @@
 -- What a world of bytes shows once one of its nodes is lost, or a loss is seen.
 use Rattle.std.proofs.Common.{◌≡◌, ◌≢◌, ◌⊎◌, inl, inr, ℕ, zero, suc, ◌+◌, ◌<◌, ◌≤◌, Bool, true}
 use Rattle.std.proofs.Common.{false, not, ◌||◌, cond, map, take, length, List, [], ◌∷◌, ◌++◌}
-use Rattle.std.proofs.Common.{Option, Some, Result, Ok, Err, refl, sym, ap, ◌∙◌, arith, subst}
+use Rattle.std.proofs.Common.{Option, Some, None, Result, Ok, Err, refl, sym, ap, ◌∙◌, arith, subst}
 use Rattle.std.specs.Prelude.{slice_get, slice_set}
 use Rattle.std.specs.List.{AllByRecursion}
-use Rattle.std.proofs.lemmas.Bool.{cases_eq}
+use Rattle.std.proofs.lemmas.Bool.{cases_eq, lt-ltb}
 use Rattle.std.proofs.lemmas.List.{length-map, take-map}
 use Rattle.pg_world_packets.specs.PgFrame.declared.fault.TooLong.{TooLong}
 use Rattle.pg_world_packets.specs.PgFrame.Frames.{front_of}
@@ -12,14 +12,16 @@ use Rattle.pg_world_packets.specs.PgMessageTypes.declared.message.Message.{Messa
 use Rattle.pg_world_packets.specs.PgMessageTypes.declared.packet.Packet.{Packet}
 use Rattle.pg_world_packets.specs.PgStep.Machines.Places.{is_pair}
 use Rattle.pg_world_packets.specs.PgStep.Machines.Clocked.{Timed, Stamped}
-use Rattle.pg_world_packets.specs.PgStep.Machines.Losing.{can_keep}
+use Rattle.pg_world_packets.specs.PgStep.Machines.Losing.{Noticed, can_keep}
 use Rattle.pg_world_packets.specs.PgFrame.Pieces.{Bytes, ArePackets, AreCut, AreShort, StayWhole}
 use Rattle.pg_world_packets.specs.PgNodeOpens.Places.{name_at as place_name}
 use Rattle.pg_world_packets.specs.PgStep.declared.answer.Answer.{Answer}
-use Rattle.pg_world_packets.specs.PgStep.declared.refusal.Refusal.TheVariants.{NodeLost, NotLost, NotDrained}
+use Rattle.pg_world_packets.specs.PgStep.declared.refusal.Refusal.TheVariants.{NoSuchPlace, NodeLost, NotLost, NotDrained, ClockFull}
 use Rattle.pg_world_packets.specs.PgStep.Config.{Config, name_at, names_of}
-use Rattle.pg_world_packets.specs.PgStep.LossLaws.{LosingFrameWorld, see_refusal}
+use Rattle.pg_world_packets.specs.PgStep.Faults.{first_that_holds}
+use Rattle.pg_world_packets.specs.PgStep.LossLaws.{LosingFrameWorld, clock_after, see_refusal, way_is_drained}
 use Rattle.pg_world_packets.specs.PgStep.State.{State}
+use Rattle.pg_world_packets.specs.PgStep.StepLaws.{is_full}
 use Rattle.pg_world_packets.specs.PgStep.Step.{TimedTurn, at_clock}
 use Rattle.pg_world_packets.specs.PgNodeSends.contracts.framing.FramedOutgoing.TheImpl as frames
 use Rattle.pg_world_packets.specs.PgNodeSends.Dones.{FramedDone}
@@ -31,7 +33,7 @@ use Rattle.pg_node.specs.Nodes.{step_lose}
 use Rattle.pg_world_packets.specs.PgNodeState.States.{Comes, Happens, step_see_loss}
 use Rattle.pg_world_packets.specs.declared.step.Stepped.TheVariants.{Happened, Gone}
 use Rattle.pg_world.specs.Bars.{has_bytes}
-use Rattle.pg_world.specs.BytesLosing.{ShowsLosingBytes, SightComesTo, LossComesTo}
+use Rattle.pg_world.specs.BytesLosing.{ShowsLosingBytes, SightComesTo, LossComesTo, bars_sight, gone_refusal}
 use Rattle.pg_world.specs.Crossings.{Crossing, link_at, bytes_at, packet_as}
 use Rattle.pg_world.specs.Crossings.{packets_between, written_of, CanCross, IsOnWay}
 use Rattle.pg_world_packets.specs.declared.effect.Effect.{Effect}
@@ -42,7 +44,7 @@ use Rattle.pg_world_packets.specs.PgWorldConfig.Seen.{Seen}
 use Rattle.pg_world_packets.specs.Views.{peer_place}
 use Rattle.pg_world_packets.specs.PgWorldAccount.Histories.{Account}
 use Rattle.pg_world_packets.specs.Worlds.{TimedFrameWorld, ShowsNodes}
-use Rattle.pg_world.proofs.over_bytes.Past.{sight_from}
+use Rattle.pg_world.proofs.over_bytes.Past.{gone_none, sight_from}
 use Rattle.pg_world.proofs.Crossed.{all_short}
 use Rattle.pg_world_packets.proofs.Peering.{named, peer_name, there_and_back}
 use Rattle.pg_world_packets.proofs.Seeing.{there, turned, stays, unseen, not_lost, sight_refused, sight_seen}
@@ -100,6 +102,22 @@ module _ (config : Config) (crossing crossing2 : Crossing) (account account2 : A
   pub sight_not_lost : is_lost lost p ≡ false → SightComesTo config u (told_sight config u i p) (Err (Refused NotLost)) (ShowsLosingBytes config crossing account lost)
   sight_not_lost gone = (subst (λ (x : LosingFrameWorld). see_refusal config x i p ≡ Some NotLost) (sym shows.is) (not_lost config crossing.nodes w i p lost its shows.seen pair lives gone), shows)
 
+  abbrev coming : List (Stamped (Noticed Message))
+  coming = (losing_of config w lost).world.wire p i
+
+  -- nothing that stands before NotDrained refuses it
+  pub unbarred : is_lost lost p ≡ true → bars_sight (see_refusal config u i p) ≡ false
+  unbarred gone = subst (λ (x : LosingFrameWorld). bars_sight (see_refusal config x i p) ≡ false) (sym shows.is) (
+      (λ j. bars_sight (first_that_holds (
+      (not (here j), NoSuchPlace) ∷ (lasts j || unseen config crossing.nodes w i p lost its shows.seen pair lives j, NodeLost) ∷ (not (gone j), NotLost)
+      ∷ (not (way_is_drained coming), NotDrained) ∷ (is_full (clock_after (w.node i).clock coming), ClockFull) ∷ [])))
+      ∙ go (way_is_drained coming) (is_full (clock_after (w.node i).clock coming)))
+    where
+      go : (drained full : Bool) → bars_sight (first_that_holds ((not drained, NotDrained) ∷ (full, ClockFull) ∷ [])) ≡ false
+      go true true = refl
+      go true false = refl
+      go false full = refl
+
   module _ (law : ReadsWhole) (gone : is_lost lost p ≡ true) (empty : has_bytes (bytes_at crossing p i).ring ≡ false) (node : Seen) (at : slice_get crossing.nodes i ≡ Some node) (last : ℕ) (clock : (w.node p).clock ≡ last) (same : lost2 ≡ lost) where
     abbrev link : Link
     link = link_at crossing i p
@@ -137,7 +155,7 @@ module _ (config : Config) (crossing crossing2 : Crossing) (account account2 : A
             (subst (λ (a : Account). ShowsLosingBytes config crossing2 a lost u) (sym kept) (subst (λ (c : Crossing). ShowsLosingBytes config c account lost u) (sym unchanged) shows))
 
         undrained : (f : NodeFault) → Comes {h = frames.ghosts} node.names (Err NotDrained) (Err f) s node.answers after → SightComesTo config u (told_sight config u i p) (Err f) (ShowsLosingBytes config crossing2 account2 lost2)
-        undrained f c = let one : f ≡ Refused NotDrained = cc in subst (λ x. SightComesTo config u (told_sight config u i p) (Err x) (ShowsLosingBytes config crossing2 account2 lost2)) (sym one) still
+        undrained f c = let one : f ≡ Refused NotDrained = cc in subst (λ x. SightComesTo config u (told_sight config u i p) (Err x) (ShowsLosingBytes config crossing2 account2 lost2)) (sym one) (unbarred gone, still)
 
         drained_so : is_drained link ≡ true → (f : NodeFault) → Comes {h = frames.ghosts} node.names (step_see_loss peer last node.state) (Err f) s node.answers after
             → SightComesTo config u (told_sight config u i p) (Err f) (ShowsLosingBytes config crossing2 account2 lost2)
@@ -283,6 +301,7 @@ module _ (config : Config) (crossing : Crossing) (account : Account) (u : Losing
 
   pub lost_bytes : LossComesTo config u i (Ok Gone) (ShowsLosingBytes config crossing account lost2)
   lost_bytes = subst (λ (x : LosingFrameWorld). LossComesTo config x i (Ok Gone) (ShowsLosingBytes config crossing account lost2)) (sym shows.is) (
+    subst (λ (x : LosingFrameWorld). gone_refusal config x i ≡ None) shows.is (gone_none config crossing account u lost shows i (lt-ltb i (length crossing.nodes) within) lasting),
     kept,
     (
       losing_of config cut all,

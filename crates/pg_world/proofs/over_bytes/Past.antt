@@ -26,17 +26,17 @@ use Rattle.pg_world_packets.specs.declared.step.Stepped.{Stepped}
 use Rattle.pg_world_packets.specs.declared.step.Stepped.TheVariants.{Happened, Moved, Nothing, Gone}
 use Rattle.pg_world.specs.Bars.{IsFaultOf, put_bar, pull_bar}
 use Rattle.pg_world.specs.BytesLosing.{ShowsLosingBytes, MoveLeaves, WholeComesTo, SightComesTo}
-use Rattle.pg_world.specs.BytesLosing.{EventLeaves, LossComesTo, put_refusal, pull_refusal, gone_refusal}
+use Rattle.pg_world.specs.BytesLosing.{EventLeaves, LossComesTo, bars_sight, put_refusal, pull_refusal, gone_refusal}
 use Rattle.pg_world.specs.Crossings.{Crossing, ShowsBytes, ShowsBytesPast, EventComesTo, MoveComesTo, LossLeaves, is_take}
 use Rattle.pg_world_packets.specs.Effects.{effect_in, losing_effect_in}
 use Rattle.pg_world_packets.specs.Losing.{SeenAreLost, account_with, formed_at, losing_of, is_cut_off, is_barred, Telling}
-use Rattle.pg_world_packets.specs.Losing.{told_take, told_own, told_of, LosingLed, LosingComesTo}
+use Rattle.pg_world_packets.specs.Losing.{CanBeMade, is_told_first, told_take, told_own, told_of, LosingLed, LosingComesTo}
 use Rattle.pg_world_packets.specs.PgWorldAccount.Losses.{is_lost}
 use Rattle.pg_world_packets.specs.PgWorldAccount.Histories.{Account, account_formed}
 use Rattle.pg_world_packets.specs.PgWorldConfig.Seen.{Seen}
 use Rattle.pg_world_packets.specs.Worlds.{TimedFrameWorld, ShowsNodes, ShowsUpdates, has_port, has_places, told_event}
 use Rattle.pg_world_packets.proofs.Barred.{cut_is, barred_told, unplaced_told, take_cut, either_stays}
-use Rattle.pg_world_packets.proofs.Barred.{take_refused_so, take_busy_so, own_refused_so}
+use Rattle.pg_world_packets.proofs.Barred.{take_refused_so, take_can, take_late, own_refused_so, own_can, own_first}
 use Rattle.pg_world_packets.proofs.Lossy.{lifted, same_effect, lost_kept}
 use Rattle.pg_world_packets.proofs.Stopped.{updates_formed}
 use Rattle.pg_world_packets.proofs.Turning.{pair_turned}
@@ -91,7 +91,8 @@ bytes_with config crossing account w (Err fault) nodes lost shows = shows
 
 pub lost_with : (config : Config) (crossing : Crossing) (account account2 : Account) (u : LosingFrameWorld) (i : ℕ) (lost : List ℕ) (formed : Bool) → account2 ≡ account_formed formed account
     → LossComesTo config u i (Ok Gone) (ShowsLosingBytes config crossing account lost) → LossComesTo config u i (Ok Gone) (ShowsLosingBytes config crossing account2 lost)
-lost_with config crossing account account2 u i lost formed same (keep, (v, happened, shows)) = (
+lost_with config crossing account account2 u i lost formed same (none, keep, (v, happened, shows)) = (
+  none,
   keep,
   (
     v,
@@ -150,7 +151,7 @@ module _ (config : Config) (crossing2 : Crossing) (account2 : Account) (lost los
 
   module _ (e : Event Action) (tells : Telling) (event : tells.event ≡ Step e) (loss : tells.is_loss ≡ false) (stays : is_lost lost (node_of e) ≡ false)
       (refused : (r : Refusal) → told_event config w e ≡ Some (Err r) → tells.refusal ≡ Some r)
-      (busy : (v : TimedFrameWorld) → happens (frame_machine config) w e ≡ Some v → tells.is_idle ≡ false) where
+      (can : (v : TimedFrameWorld) → happens (frame_machine config) w e ≡ Some v → CanBeMade tells) (late : is_told_first tells.refusal ≡ false) where
     led_past : (v : TimedFrameWorld) → happens (frame_machine config) w e ≡ Some v → ShowsBytesPast config lost crossing2 account2 v
         → LosingLed config (losing_of config w lost) tells.event (ShowsLosingBytes config crossing2 account2 lost2)
     led_past v is shown =
@@ -173,11 +174,11 @@ module _ (config : Config) (crossing2 : Crossing) (account2 : Account) (lost los
     -- something of its own
     own_comes : (result : Result Stepped NodeFault) → is_take e ≡ false → EventComesTo config w e result (ShowsBytesPast config lost crossing2 account2)
         → LosingComesTo config (losing_of config w lost) tells result (ShowsLosingBytes config crossing2 account2 lost2)
-    own_comes (Ok (Happened effect)) own (did, (v, is, shown)) = (loss, busy v is, did_past v effect is did, led_past v is shown)
+    own_comes (Ok (Happened effect)) own (did, (v, is, shown)) = (loss, can v is, did_past v effect is did, led_past v is shown)
     own_comes (Ok Nothing) own (takes, shown) = let no : true ≡ false = sym takes ∙ own in absurd (cc)
     own_comes (Ok (Moved count)) own comes = absurd comes
     own_comes (Ok Gone) own comes = absurd comes
-    own_comes (Err OutOfMemory) own shown = still_past shown
+    own_comes (Err OutOfMemory) own shown = (late, still_past shown)
     own_comes (Err (Refused r)) own (is, shown) = (refused r is, still_past shown)
     own_comes (Err (BadMessage m)) own comes = absurd comes
     own_comes (Err TooLong) own comes = absurd comes
@@ -186,11 +187,11 @@ module _ (config : Config) (crossing2 : Crossing) (account2 : Account) (lost los
     -- a packet that is taken
     taken_comes : (result : Result Stepped NodeFault) → EventComesTo config w e result (ShowsBytesPast config lost crossing2 account2)
         → WholeComesTo config (losing_of config w lost) tells result (ShowsLosingBytes config crossing2 account2 lost2)
-    taken_comes (Ok (Happened effect)) (did, (v, is, shown)) = (loss, busy v is, did_past v effect is did, led_past v is shown)
-    taken_comes (Ok Nothing) (takes, shown) = still_past shown
+    taken_comes (Ok (Happened effect)) (did, (v, is, shown)) = (loss, can v is, did_past v effect is did, led_past v is shown)
+    taken_comes (Ok Nothing) (takes, shown) = (late, still_past shown)
     taken_comes (Ok (Moved count)) comes = absurd comes
     taken_comes (Ok Gone) comes = absurd comes
-    taken_comes (Err OutOfMemory) shown = still_past shown
+    taken_comes (Err OutOfMemory) shown = (late, still_past shown)
     taken_comes (Err (Refused r)) (is, shown) = (refused r is, still_past shown)
     taken_comes (Err (BadMessage m)) comes = absurd comes
     taken_comes (Err TooLong) comes = absurd comes
@@ -221,13 +222,13 @@ module _ (config : Config) (crossing crossing2 : Crossing) (account account2 : A
   take_past i p places lives came = subst (λ (x : LosingFrameWorld). WholeComesTo config x (told_take config x i p) result (ShowsLosingBytes config crossing2 account2 lost2)) (sym shows.is)
       (taken_comes config crossing2 account2 lost lost2 w shows.seen same (Take i p) (told_take config (losing_of config w lost) i p) refl refl
       (either_stays config crossing.nodes w lost nodes shows.seen (is_lost lost i) _ (take_cut config crossing.nodes w lost nodes shows.seen i p places lives))
-      (take_refused_so config crossing.nodes w lost nodes shows.seen i p places lives) (take_busy_so config crossing.nodes w lost nodes shows.seen i p places lives) result came)
+      (take_refused_so config crossing.nodes w lost nodes shows.seen i p places lives) (take_can config crossing.nodes w lost nodes shows.seen i p places lives) (take_late config crossing.nodes w lost nodes shows.seen i p places lives) result came)
 
   pub own_past : (i : ℕ) (action : Action) → has_port crossing.nodes i (port_of action) ≡ true → is_lost lost i ≡ false
       → EventComesTo config w (Do i action) result (ShowsBytesPast config lost crossing2 account2) → LosingComesTo config u (told_own config u i action) result (ShowsLosingBytes config crossing2 account2 lost2)
   own_past i action places stays came = subst (λ (x : LosingFrameWorld). LosingComesTo config x (told_own config x i action) result (ShowsLosingBytes config crossing2 account2 lost2)) (sym shows.is)
       (own_comes config crossing2 account2 lost lost2 w shows.seen same (Do i action) (told_own config (losing_of config w lost) i action) refl refl stays
-      (own_refused_so config crossing.nodes w lost nodes shows.seen i action places stays) (λ v is. refl) result refl came)
+      (own_refused_so config crossing.nodes w lost nodes shows.seen i action places stays) (own_can config crossing.nodes w lost nodes shows.seen i action places stays) (own_first config crossing.nodes w lost nodes shows.seen i action places stays) result refl came)
 
 -- ---- events that are refused as a place is not there, or as a loss bars them
 
@@ -237,7 +238,7 @@ sight_so config u tells NotAMessage Shown is shown = (is, shown)
 sight_so config u tells NoSuchPlace Shown is shown = (is, shown)
 sight_so config u tells NotWaiting Shown is shown = (is, shown)
 sight_so config u tells NodeLost Shown is shown = (is, shown)
-sight_so config u tells NotDrained Shown is shown = shown
+sight_so config u tells NotDrained Shown is shown = (ap bars_sight is, shown)
 sight_so config u tells ClockFull Shown is shown = (is, shown)
 sight_so config u tells NotLost Shown is shown = (is, shown)
 
@@ -262,6 +263,9 @@ module _ (config : Config) (crossing : Crossing) (account : Account) (u : Losing
   pub gone_unplaced : (i : ℕ) → is_place (length crossing.nodes) i ≡ false → gone_refusal config u i ≡ Some NoSuchPlace
   gone_unplaced i none = ap (λ b. cond b (cond (u.gone i) (Some NodeLost) None) (Some NoSuchPlace)) (ap (λ n. is_place n i) (sym shows.shows.traffic.nodes.size) ∙ none)
 
+  pub gone_none : (i : ℕ) → is_place (length crossing.nodes) i ≡ true → is_lost lost i ≡ false → gone_refusal config u i ≡ None
+  gone_none i there stays = λ j. cond ((ap (λ n. is_place n i) (sym shows.shows.traffic.nodes.size) ∙ there) j) (cond ((ap (λ (x : LosingFrameWorld). x.gone i) shows.is ∙ stays) j) (Some NodeLost) None) (Some NoSuchPlace)
+
   pub gone_before : (i : ℕ) → is_place (length crossing.nodes) i ≡ true → is_lost lost i ≡ true → gone_refusal config u i ≡ Some NodeLost
   gone_before i there gone = λ j. cond ((ap (λ n. is_place n i) (sym shows.shows.traffic.nodes.size) ∙ there) j) (cond ((ap (λ (x : LosingFrameWorld). x.gone i) shows.is ∙ gone) j) (Some NodeLost) None) (Some NoSuchPlace)
 
@@ -285,10 +289,17 @@ module _ (config : Config) (crossing : Crossing) (account : Account) (u : Losing
       go (frames.SeeLoss i p) bars is = (is, shows)
       go (frames.Lose i keep) bars is = absurd (cc)
 
--- memory ran out before anything changed
-pub starved_past : (config : Config) (u : LosingFrameWorld) (step : FrameStep) (Shown : LosingFrameWorld → Type 0) → Shown u → EventLeaves config u step (Err OutOfMemory) Shown
-starved_past config u (frames.Take i p) Shown shown = shown
-starved_past config u (frames.Command i port c) Shown shown = shown
-starved_past config u (frames.Retry i op) Shown shown = shown
-starved_past config u (frames.SeeLoss i p) Shown shown = shown
-starved_past config u (frames.Lose i keep) Shown shown = shown
+  -- memory ran out before anything changed
+  pub take_starved : (i p : ℕ) → is_pair (length crossing.nodes) i p ≡ true → is_cut_off crossing.nodes lost i p ≡ false
+      → EventLeaves config u (frames.Take i p) (Err OutOfMemory) (ShowsLosingBytes config crossing account lost)
+  take_starved i p places lives = (
+    subst (λ (x : LosingFrameWorld). is_told_first (told_take config x i p).refusal ≡ false) (sym shows.is) (take_late config crossing.nodes shows.frames lost shows.shows.traffic.nodes shows.seen i p places lives),
+    shows,
+  )
+
+  pub own_starved : (i : ℕ) (action : Action) → has_port crossing.nodes i (port_of action) ≡ true → is_lost lost i ≡ false
+      → LosingComesTo config u (told_own config u i action) (Err OutOfMemory) (ShowsLosingBytes config crossing account lost)
+  own_starved i action places stays = (
+    subst (λ (x : LosingFrameWorld). is_told_first (told_own config x i action).refusal ≡ false) (sym shows.is) (own_first config crossing.nodes shows.frames lost shows.shows.traffic.nodes shows.seen i action places stays),
+    shows,
+  )

@@ -1,5 +1,5 @@
 -- What steps over bytes come to where nodes may be lost, by their numbers.
-use Rattle.std.proofs.Common.{◌≡◌, inl, inr, ℕ, cond, Option, Result, Ok, Err}
+use Rattle.std.proofs.Common.{◌≡◌, inl, inr, ℕ, cond, Option, None, Result, Ok, Err}
 use Rattle.std.proofs.Common.{refl, sym, ap, subst, true, false, List, []}
 use Rattle.std.specs.Option.{option_map_or}
 use Rattle.pg_world_packets.specs.PgStep.Machines.Losing.{LosingEvent, Lose, nobody_gone}
@@ -20,9 +20,9 @@ use Rattle.pg_world.specs.declared.step.Step.TheVariants as steps
 use Rattle.pg_world_packets.specs.declared.step.Stepped.{Stepped}
 use Rattle.pg_world_packets.specs.declared.step.Stepped.TheVariants.{Happened, Moved, Nothing, Gone}
 use Rattle.pg_world.specs.BytesLosing.{MoveLeaves, WholeComesTo, SightComesTo, LossComesTo, StepLeaves}
-use Rattle.pg_world.specs.BytesLosing.{put_refusal, pull_refusal, gone_refusal, ShowsLosingBytes}
+use Rattle.pg_world.specs.BytesLosing.{bars_sight, put_refusal, pull_refusal, gone_refusal, ShowsLosingBytes}
 use Rattle.pg_world.specs.BytesLosingRuns.{bytes_past_losses, IsBytesEvent, IsBytesLeftOut, HasNumber, IsLossOf}
-use Rattle.pg_world_packets.specs.Losing.{Telling, LosingComesTo, told_of, told_take, told_sight, IsReachedLosing}
+use Rattle.pg_world_packets.specs.Losing.{Telling, is_told_first, LosingComesTo, told_of, told_take, told_sight, IsReachedLosing}
 use Rattle.pg_world_packets.specs.LosingRuns.{LosingStepsTo, IsToldEvent, IsLeftOut, LosingGoesTo, RanLosing}
 use Rattle.std.specs.List.{IsDistinct}
 use Rattle.pg_term.specs.Same.{same_atom}
@@ -51,7 +51,7 @@ module _ (config : Config) (u : LosingFrameWorld) (step : Step) (Shown : LosingF
   moved refusal passes (Ok Nothing) comes = absurd comes
   moved refusal passes (Ok (Happened effect)) comes = absurd comes
   moved refusal passes (Ok Gone) comes = absurd comes
-  moved refusal passes (Err OutOfMemory) (is, shown) = inr (passes 10 (inr refl), shown)
+  moved refusal passes (Err OutOfMemory) (is, shown) = inr (passes 10 (inr (is, refl)), shown)
   moved refusal passes (Err (Refused r)) (is, shown) = inr (passes (refusal_number_of r) (inl (sym (ap (λ o. option_map_or refusal_number_of o 0) is))), shown)
   moved refusal passes (Err (BadMessage m)) comes = absurd comes
   moved refusal passes (Err TooLong) comes = absurd comes
@@ -66,15 +66,15 @@ module _ (config : Config) (u : LosingFrameWorld) (step : Step) (Shown : LosingF
     told_so (Ok Gone) (loss, busy, led) = inl (record { listed = refl; e = tells.event; is = is tells.event (refl, busy); left = led.0; happened = led.1; rest = led.2 })
     told_so (Ok Nothing) (idle, none, shown) = inr (passes 0 (inl (sym (λ j. option_map_or refusal_number_of (none j) (cond (idle j) 0 10)))), shown)
     told_so (Ok (Moved count)) comes = absurd comes
-    told_so (Err OutOfMemory) shown = inr (passes 10 (inr refl), shown)
+    told_so (Err OutOfMemory) (late, shown) = inr (passes 10 (inr (late, refl)), shown)
     told_so (Err (Refused r)) (refused, shown) = inr (passes (refusal_number_of r) (inl (sym (ap (λ o. option_map_or refusal_number_of o (cond tells.is_idle 0 10)) refused))), shown)
     told_so (Err (BadMessage m)) comes = absurd comes
     told_so (Err TooLong) comes = absurd comes
     told_so (Err Damaged) comes = absurd comes
 
     -- nothing where no whole frame had come
-    whole_so : IsBytesLeftOut config u step 0 → (result : Result Stepped NodeFault) → WholeComesTo config u tells result Shown → Steps (numbered result)
-    whole_so none (Ok Nothing) shown = inr (none, shown)
+    whole_so : (is_told_first tells.refusal ≡ false → IsBytesLeftOut config u step 0) → (result : Result Stepped NodeFault) → WholeComesTo config u tells result Shown → Steps (numbered result)
+    whole_so none (Ok Nothing) (late, shown) = inr (none late, shown)
     whole_so none (Ok (Happened effect)) comes = told_so (Ok (Happened effect)) comes
     whole_so none (Ok Gone) comes = told_so (Ok Gone) comes
     whole_so none (Ok (Moved count)) comes = told_so (Ok (Moved count)) comes
@@ -85,16 +85,16 @@ module _ (config : Config) (u : LosingFrameWorld) (step : Step) (Shown : LosingF
     whole_so none (Err Damaged) comes = told_so (Err Damaged) comes
 
     -- bytes on the ring bar it
-    sight_left : IsBytesLeftOut config u step (refusal_number_of NotDrained) → (r : Refusal) → SightComesTo config u tells (Err (Refused r)) Shown → Steps (refusal_number_of r)
+    sight_left : (bars_sight tells.refusal ≡ false → IsBytesLeftOut config u step (refusal_number_of NotDrained)) → (r : Refusal) → SightComesTo config u tells (Err (Refused r)) Shown → Steps (refusal_number_of r)
     sight_left left NotAMessage comes = told_so (Err (Refused NotAMessage)) comes
     sight_left left NoSuchPlace comes = told_so (Err (Refused NoSuchPlace)) comes
     sight_left left NotWaiting comes = told_so (Err (Refused NotWaiting)) comes
     sight_left left NodeLost comes = told_so (Err (Refused NodeLost)) comes
-    sight_left left NotDrained comes = inr (left, comes)
+    sight_left left NotDrained comes = inr (left comes.0, comes.1)
     sight_left left ClockFull comes = told_so (Err (Refused ClockFull)) comes
     sight_left left NotLost comes = told_so (Err (Refused NotLost)) comes
 
-    sight_so : IsBytesLeftOut config u step (refusal_number_of NotDrained) → (result : Result Stepped NodeFault) → SightComesTo config u tells result Shown → Steps (numbered result)
+    sight_so : (bars_sight tells.refusal ≡ false → IsBytesLeftOut config u step (refusal_number_of NotDrained)) → (result : Result Stepped NodeFault) → SightComesTo config u tells result Shown → Steps (numbered result)
     sight_so left (Ok (Happened effect)) comes = told_so (Ok (Happened effect)) comes
     sight_so left (Ok Gone) comes = told_so (Ok Gone) comes
     sight_so left (Ok Nothing) comes = told_so (Ok Nothing) comes
@@ -106,13 +106,13 @@ module _ (config : Config) (u : LosingFrameWorld) (step : Step) (Shown : LosingF
     sight_so left (Err Damaged) comes = told_so (Err Damaged) comes
 
   -- a node is lost
-  loss_so : (i : ℕ) → ((e : LosingEvent Action) → IsLossOf i e → IsBytesEvent config u step e) → ((number : ℕ) → HasNumber (gone_refusal config u i) 10 number → IsBytesLeftOut config u step number)
+  loss_so : (i : ℕ) → ((e : LosingEvent Action) → (gone_refusal config u i ≡ None) × IsLossOf i e → IsBytesEvent config u step e) → ((number : ℕ) → HasNumber (gone_refusal config u i) 10 number → IsBytesLeftOut config u step number)
       → (result : Result Stepped NodeFault) → LossComesTo config u i result Shown → Steps (numbered result)
-  loss_so i is passes (Ok Gone) (keep, led) = inl (record { listed = refl; e = Lose i keep; is = is (Lose i keep) (keep, refl); left = led.0; happened = led.1; rest = led.2 })
+  loss_so i is passes (Ok Gone) (none, keep, led) = inl (record { listed = refl; e = Lose i keep; is = is (Lose i keep) (none, (keep, refl)); left = led.0; happened = led.1; rest = led.2 })
   loss_so i is passes (Ok (Happened effect)) comes = absurd comes
   loss_so i is passes (Ok Nothing) comes = absurd comes
   loss_so i is passes (Ok (Moved count)) comes = absurd comes
-  loss_so i is passes (Err OutOfMemory) shown = inr (passes 10 (inr refl), shown)
+  loss_so i is passes (Err OutOfMemory) (none, shown) = inr (passes 10 (inr (none, refl)), shown)
   loss_so i is passes (Err (Refused r)) (refused, shown) = inr (passes (refusal_number_of r) (inl (sym (ap (λ o. option_map_or refusal_number_of o 10) refused))), shown)
   loss_so i is passes (Err (BadMessage m)) comes = absurd comes
   loss_so i is passes (Err TooLong) comes = absurd comes
@@ -124,10 +124,10 @@ module _ (config : Config) (u : LosingFrameWorld) (Shown : LosingFrameWorld → 
   step_left : (step : Step) (result : Result Stepped NodeFault) → StepLeaves config u step result Shown → LosingStepsTo bytes_past_losses config u step (numbered result) Shown
   step_left (steps.Put x y max) result comes = moved config u (steps.Put x y max) Shown (put_refusal config u x y) (λ number has. has) result comes
   step_left (steps.Pull y x max) result comes = moved config u (steps.Pull y x max) Shown (pull_refusal config u y x) (λ number has. has) result comes
-  step_left (steps.Event (frames.Take i p)) result comes = whole_so config u (steps.Event (frames.Take i p)) Shown (told_take config u i p) (λ e is. is) (λ number left. inr left) (inl refl) result comes
+  step_left (steps.Event (frames.Take i p)) result comes = whole_so config u (steps.Event (frames.Take i p)) Shown (told_take config u i p) (λ e is. is) (λ number left. inr left) (λ late. inl (late, refl)) result comes
   step_left (steps.Event (frames.Command i port c)) result comes = told_so config u (steps.Event (frames.Command i port c)) Shown (told_of config u (frames.Command i port c)) (λ e is. is) (λ number left. left) result comes
   step_left (steps.Event (frames.Retry i op)) result comes = told_so config u (steps.Event (frames.Retry i op)) Shown (told_of config u (frames.Retry i op)) (λ e is. is) (λ number left. left) result comes
-  step_left (steps.Event (frames.SeeLoss i p)) result comes = sight_so config u (steps.Event (frames.SeeLoss i p)) Shown (told_sight config u i p) (λ e is. is) (λ number left. inr left) (inl refl) result comes
+  step_left (steps.Event (frames.SeeLoss i p)) result comes = sight_so config u (steps.Event (frames.SeeLoss i p)) Shown (told_sight config u i p) (λ e is. is) (λ number left. inr left) (λ before. inl (before, refl)) result comes
   step_left (steps.Event (frames.Lose i keep)) result comes = loss_so config u (steps.Event (frames.Lose i keep)) Shown i (λ e is. is) (λ number has. has) result comes
   step_left (steps.Lose i) result comes = loss_so config u (steps.Lose i) Shown i (λ e is. is) (λ number has. has) result comes
 

@@ -5,7 +5,7 @@ use Rattle.pg_world_packets.specs.PgStep.Machines.Places.{is_place, is_pair}
 use Rattle.pg_world_packets.specs.PgStep.Config.{Config}
 use Rattle.pg_world_packets.specs.PgStep.Step.{Issue, Retry}
 use Rattle.pg_world_packets.specs.PgStep.declared.refusal.Refusal.TheVariants.{NoSuchPlace}
-use Rattle.pg_world_packets.specs.PgNodeState.declared.state.fault.NodeFault.TheVariants.{Refused, OutOfMemory}
+use Rattle.pg_world_packets.specs.PgNodeState.declared.state.fault.NodeFault.TheVariants.{Refused}
 use Rattle.pg_world_packets.specs.declared.step.FrameStep.{FrameStep}
 use Rattle.pg_world_packets.specs.declared.step.FrameStep.TheVariants as steps
 use Rattle.pg_world_packets.specs.PgWorldConfig.Seen.{Seen}
@@ -20,11 +20,3 @@ module _ (config : Config) (nodes : List Seen) (w : TimedFrameWorld) (shows : Sh
   unplaced_event (steps.Retry i op) Shown none shown = (acts_nowhere config nodes w shows i (Retry op) none, shown)
   unplaced_event (steps.SeeLoss i p) Shown none shown = (unseen_nowhere config nodes w shows i p none, shown)
   unplaced_event (steps.Lose i keep) Shown none shown = (refl, ap (λ n. is_place n i) (sym shows.size) ∙ none, shown)
-
-  -- memory ran out behind the places
-  pub starved_event : (step : FrameStep) (Shown : TimedFrameWorld → Type 0) → has_places nodes step ≡ true → Shown w → FrameComesTo config w step (Err OutOfMemory) Shown
-  starved_event (steps.Take i p) Shown places shown = shown
-  starved_event (steps.Command i port c) Shown places shown = shown
-  starved_event (steps.Retry i op) Shown places shown = shown
-  starved_event (steps.SeeLoss i p) Shown places shown = (ap (λ n. is_pair n i p) (sym shows.size) ∙ places, shown)
-  starved_event (steps.Lose i keep) Shown places shown = shown

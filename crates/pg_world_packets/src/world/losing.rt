@@ -174,11 +174,11 @@ impl<T: GroupTable + Drop> FrameNodes<T> {
         if keep.len() != self.nodes.len() - 1 {
             return Err(NodeFault::Refused(Refusal::NoSuchPlace));
         }
-        if self.losses.has(node) {
-            return Err(NodeFault::Refused(Refusal::NodeLost));
-        }
         if !self.can_keep(node, keep) {
             return Err(NodeFault::Refused(Refusal::NoSuchPlace));
+        }
+        if self.losses.has(node) {
+            return Err(NodeFault::Refused(Refusal::NodeLost));
         }
         let formed = self.formed_at_loss();
         match self.losses.add(node) {

@@ -26,4 +26,4 @@ returns c =
     let at : slice_get nodes c.args.node ≡ Some (seen_of c.unwrap-state.result.now) = sym c.node.ensures ∙ (λ i. option_map seen_of (option_copied (c.unwrap-state.ensures i))) in
     IfOk-weaker c.waiting.result _ _ (λ ops h op.
     let e = (λ i. option_map_or (λ (node : Seen). waits (live_nodes (whole_in node.names) node.state.state) (node.state.state.stages op) node.state.state) (at i) false) ∙ sym (h.each op) in
-    (λ t. e ∙ (among ops.items op).0 t, λ t. (among ops.items op).1 (sym e ∙ t))) c.waiting.ensures
+    (λ t. e ∙ (among ops.items op).0 t, λ t. (among ops.items op).1 (sym e ∙ t))) c.waiting.ensures.each

@@ -1,4 +1,4 @@
-use Rattle.std.proofs.Common.{◌≡◌, ◌∙◌, ℕ, List, Bool, [], length, true, false, refl, sym, ap, subst}
+use Rattle.std.proofs.Common.{◌≡◌, ◌∙◌, ℕ, List, Bool, [], Err, length, true, false, refl, sym, ap, subst}
 use Rattle.std.specs.Prelude.{IfErr}
 use Rattle.pg_world_packets.specs.PgStep.Machines.Places.{is_pair}
 use Rattle.pg_world_packets.proofs.PgLaws.steps.Lossless.{nobody_timed}
@@ -16,7 +16,9 @@ use Rattle.pg_world_packets.specs.PgWorldAccount.Losses.{lost_in, is_lost}
 use Rattle.pg_world_packets.specs.PgWorldAccount.Histories.{Account}
 use Rattle.pg_world_packets.specs.Worlds.{has_places}
 use Rattle.pg_world_packets.proofs.Barred.{either_stays, either_unseen, take_cut}
-use Rattle.pg_world.proofs.over_bytes.Past.{bytes_with, loss_came, take_past, own_past, unplaced_past, barred_past, starved_past}
+use Rattle.pg_world.proofs.over_bytes.Past.{bytes_with, loss_came, take_past, own_past, unplaced_past}
+use Rattle.pg_world.proofs.over_bytes.Past.{barred_past, take_starved, own_starved}
+use Rattle.pg_world_packets.specs.PgNodeState.declared.state.fault.NodeFault.TheVariants.{OutOfMemory}
 use Rattle.pg_world.proofs.Harmless.{welcome_there, welcome_left}
 use Rattle.pg_world_packets.proofs.Turning.{pair_there}
 use Rattle.pg_world.proofs.over_bytes.Unplaced.{unplaced_event}
@@ -36,8 +38,8 @@ returns-then-is_barred-clause-losing g c = λ config u reached shows.
     barred_past config (crossing_of c.args.self.now) (account_of c.args.self.now.histories) u (lost_in c.args.self.now.losses) shows c.args.event.now
     (sym c.has_places.ensures ∙ c.if-not-has_places.false) (sym c.is_barred.ensures ∙ c.if-is_barred.true)
 
-pub returns-in-Take-clause-came : goal.returns-in-Take-clause-came
-returns-in-Take-clause-came g c = λ config w nobody reached shows.
+pub returns-in-Ok-clause-came : goal.returns-in-Ok-clause-came
+returns-in-Ok-clause-came g c = λ config w nobody reached shows.
     let nodes = (crossing_of c.args.self.now).nodes in
     let places = sym c.has_places.ensures ∙ c.if-not-has_places.false in
     let pair : is_pair _ c.in-Take.node c.in-Take.peer ≡ true = subst (λ (s : FrameStep). has_places nodes s ≡ true) c.in-Take.is places in
@@ -47,8 +49,8 @@ returns-in-Take-clause-came g c = λ config w nobody reached shows.
     subst (λ (s : FrameStep). FrameComesTo config w s c.take.result (ShowsBytes config (crossing_of c.take.new.self) (account_of c.take.new.self.histories))) (sym c.in-Take.is)
     (c.take.ensures.event config [] w refl (ap (λ (f : Node → Bool). f (name_at config c.in-Take.peer)) (nobody_timed config reached.0 w reached.1 c.in-Take.node)) (welcome_there config w c.in-Take.node c.in-Take.peer harmless (pair_there config nodes w c.in-Take.node c.in-Take.peer shows.traffic.nodes pair)) now)
 
-pub returns-in-Take-clause-losing : goal.returns-in-Take-clause-losing
-returns-in-Take-clause-losing g c = λ config u reached shows.
+pub returns-in-Ok-clause-losing : goal.returns-in-Ok-clause-losing
+returns-in-Ok-clause-losing g c = λ config u reached shows.
     let crossing = crossing_of c.args.self.now in
     let nodes = crossing.nodes in
     let lost = lost_in c.args.self.now.losses in
@@ -74,49 +76,47 @@ returns-in-Take-clause-losing g c = λ config u reached shows.
 pub returns-in-Lose-clause-came : goal.returns-in-Lose-clause-came
 returns-in-Lose-clause-came g c = λ config w nobody reached shows.
     let crossing = crossing_of c.args.self.now in
-    let settled : account_of c.settle.new.self ≡ account_of c.args.self.now.histories = c.settle.ensures.account in
-    let before = subst (λ (a : Account). ShowsBytes config crossing a w) (sym settled) shows in
-    let now = subst (λ (a : Account). ShowsBytes config crossing a w) (sym c.lose.ensures.account) (bytes_with config crossing _ w c.lose.result crossing.nodes (lost_in c.args.self.now.losses) before) in
+    let now = subst (λ (a : Account). ShowsBytes config crossing a w) (sym c.lose.ensures.account) (bytes_with config crossing _ w c.lose.result crossing.nodes (lost_in c.args.self.now.losses) shows) in
     let after = subst (λ (x : Crossing). ShowsBytes config x (account_of c.lose.new.self.histories) w) (sym c.lose.ensures.same) now in
     let fault = subst (λ (l : List ℕ). IfErr c.lose.result (IsFaultOf (loss_bar crossing l c.in-Lose.node))) nobody c.lose.ensures.fault in
     subst (λ (s : FrameStep). FrameComesTo config w s c.lose.result (ShowsBytes config (crossing_of c.lose.new.self) (account_of c.lose.new.self.histories))) (sym c.in-Lose.is)
     (loss_came config (length crossing.nodes) c.in-Lose.node (ShowsBytes config (crossing_of c.lose.new.self) (account_of c.lose.new.self.histories) w) c.lose.result shows.traffic.nodes.size fault after)
 
-pub returns-in-Command-clause-came : goal.returns-in-Command-clause-came
-returns-in-Command-clause-came g c = λ config w nobody reached shows.
-    let settled : account_of c.settle.new.self ≡ account_of c.args.self.now.histories = c.settle.ensures.account in
+pub returns-in-Ok-settle-clause-came : goal.returns-in-Ok-settle-clause-came
+returns-in-Ok-settle-clause-came g c = λ config w nobody reached shows.
+    let settled : account_of c.settle-in-Command.new.self ≡ account_of c.args.self.now.histories = c.settle-in-Command.ensures.account in
     let now = subst (λ (a : Account). ShowsBytes config (crossing_of c.args.self.now) a w) (sym settled) shows in
     subst (λ (s : FrameStep). FrameComesTo config w s c.command.result (ShowsBytes config (crossing_of c.command.new.self) (account_of c.command.new.self.histories))) (sym c.in-Command.is)
     (c.command.ensures.event config [] w refl now)
 
-pub returns-in-Command-clause-losing : goal.returns-in-Command-clause-losing
-returns-in-Command-clause-losing g c = λ config u reached shows.
+pub returns-in-Ok-settle-clause-losing : goal.returns-in-Ok-settle-clause-losing
+returns-in-Ok-settle-clause-losing g c = λ config u reached shows.
     let crossing = crossing_of c.args.self.now in
     let nodes = crossing.nodes in
     let lost = lost_in c.args.self.now.losses in
     let places = subst (λ (s : FrameStep). has_places nodes s ≡ true) c.in-Command.is (sym c.has_places.ensures ∙ c.if-not-has_places.false) in
     let stays : is_lost lost c.in-Command.node ≡ false = subst (λ (s : FrameStep). is_barred nodes lost s ≡ false) c.in-Command.is (sym c.is_barred.ensures ∙ c.if-is_barred.false) in
-    let settled : account_of c.settle.new.self ≡ account_of c.args.self.now.histories = c.settle.ensures.account in
+    let settled : account_of c.settle-in-Command.new.self ≡ account_of c.args.self.now.histories = c.settle-in-Command.ensures.account in
     let now = subst (λ (a : Account). ShowsLosingBytes config crossing a lost u) (sym settled) shows in
     subst (λ (s : FrameStep). EventLeaves config u s c.command.result (ShowsLosingBytes config (crossing_of c.command.new.self) (account_of c.command.new.self.histories) (lost_in c.command.new.self.losses))) (sym c.in-Command.is)
     (own_past config crossing (crossing_of c.command.new.self) _ (account_of c.command.new.self.histories) u lost _ now c.command.ensures.lost c.command.result c.in-Command.node (Issue c.in-Command.port c.in-Command.command) places stays
     (c.command.ensures.event config lost now.frames stays now.shows))
 
-pub returns-in-Retry-clause-came : goal.returns-in-Retry-clause-came
-returns-in-Retry-clause-came g c = λ config w nobody reached shows.
-    let settled : account_of c.settle.new.self ≡ account_of c.args.self.now.histories = c.settle.ensures.account in
+pub returns-in-Ok-settle-2-clause-came : goal.returns-in-Ok-settle-2-clause-came
+returns-in-Ok-settle-2-clause-came g c = λ config w nobody reached shows.
+    let settled : account_of c.settle-in-Retry.new.self ≡ account_of c.args.self.now.histories = c.settle-in-Retry.ensures.account in
     let now = subst (λ (a : Account). ShowsBytes config (crossing_of c.args.self.now) a w) (sym settled) shows in
     subst (λ (s : FrameStep). FrameComesTo config w s c.retry.result (ShowsBytes config (crossing_of c.retry.new.self) (account_of c.retry.new.self.histories))) (sym c.in-Retry.is)
     (c.retry.ensures.event config [] w refl now)
 
-pub returns-in-Retry-clause-losing : goal.returns-in-Retry-clause-losing
-returns-in-Retry-clause-losing g c = λ config u reached shows.
+pub returns-in-Ok-settle-2-clause-losing : goal.returns-in-Ok-settle-2-clause-losing
+returns-in-Ok-settle-2-clause-losing g c = λ config u reached shows.
     let crossing = crossing_of c.args.self.now in
     let nodes = crossing.nodes in
     let lost = lost_in c.args.self.now.losses in
     let places = subst (λ (s : FrameStep). has_places nodes s ≡ true) c.in-Retry.is (sym c.has_places.ensures ∙ c.if-not-has_places.false) in
     let stays : is_lost lost c.in-Retry.node ≡ false = subst (λ (s : FrameStep). is_barred nodes lost s ≡ false) c.in-Retry.is (sym c.is_barred.ensures ∙ c.if-is_barred.false) in
-    let settled : account_of c.settle.new.self ≡ account_of c.args.self.now.histories = c.settle.ensures.account in
+    let settled : account_of c.settle-in-Retry.new.self ≡ account_of c.args.self.now.histories = c.settle-in-Retry.ensures.account in
     let now = subst (λ (a : Account). ShowsLosingBytes config crossing a lost u) (sym settled) shows in
     subst (λ (s : FrameStep). EventLeaves config u s c.retry.result (ShowsLosingBytes config (crossing_of c.retry.new.self) (account_of c.retry.new.self.histories) (lost_in c.retry.new.self.losses))) (sym c.in-Retry.is)
     (own_past config crossing (crossing_of c.retry.new.self) _ (account_of c.retry.new.self.histories) u lost _ now c.retry.ensures.lost c.retry.result c.in-Retry.node (Retry c.in-Retry.op) places stays
@@ -124,17 +124,46 @@ returns-in-Retry-clause-losing g c = λ config u reached shows.
 
 pub returns-in-SeeLoss-clause-losing : goal.returns-in-SeeLoss-clause-losing
 returns-in-SeeLoss-clause-losing g c = λ config u reached shows.
-    let settled : account_of c.settle.new.self ≡ account_of c.args.self.now.histories = c.settle.ensures.account in
     subst (λ (s : FrameStep). EventLeaves config u s c.see_loss.result (ShowsLosingBytes config (crossing_of c.see_loss.new.self) (account_of c.see_loss.new.self.histories) (lost_in c.see_loss.new.self.losses))) (sym c.in-SeeLoss.is)
-    (c.see_loss.ensures.losing config u (subst (λ (a : Account). ShowsLosingBytes config (crossing_of c.args.self.now) a (lost_in c.args.self.now.losses) u) (sym settled) shows))
+    (c.see_loss.ensures.losing config u shows)
 
 pub returns-in-Lose-clause-losing : goal.returns-in-Lose-clause-losing
 returns-in-Lose-clause-losing g c = λ config u reached shows.
-    let settled : account_of c.settle.new.self ≡ account_of c.args.self.now.histories = c.settle.ensures.account in
     subst (λ (s : FrameStep). EventLeaves config u s c.lose.result (ShowsLosingBytes config (crossing_of c.lose.new.self) (account_of c.lose.new.self.histories) (lost_in c.lose.new.self.losses))) (sym c.in-Lose.is)
-    (c.lose.ensures.losing config u (subst (λ (a : Account). ShowsLosingBytes config (crossing_of c.args.self.now) a (lost_in c.args.self.now.losses) u) (sym settled) shows))
+    (c.lose.ensures.losing config u shows)
 
 pub returns-in-Err-clause-losing : goal.returns-in-Err-clause-losing
 returns-in-Err-clause-losing g c = λ config u reached shows.
-    let settled : account_of c.settle.new.self ≡ account_of c.args.self.now.histories = c.in-Err.ensures.account in
-    starved_past config u c.args.event.now _ (subst (λ (a : Account). ShowsLosingBytes config (crossing_of c.args.self.now) a (lost_in c.args.self.now.losses) u) (sym settled) shows)
+    let crossing = crossing_of c.args.self.now in
+    let nodes = crossing.nodes in
+    let lost = lost_in c.args.self.now.losses in
+    let places = subst (λ (s : FrameStep). has_places nodes s ≡ true) c.in-Take.is (sym c.has_places.ensures ∙ c.if-not-has_places.false) in
+    let lives = subst (λ (s : FrameStep). is_barred nodes lost s ≡ false) c.in-Take.is (sym c.is_barred.ensures ∙ c.if-is_barred.false) in
+    let settled : account_of c.settle.new.self ≡ account_of c.args.self.now.histories = c.settle.ensures.account in
+    let now = subst (λ (a : Account). ShowsLosingBytes config crossing a lost u) (sym settled) shows in
+    subst (λ (s : FrameStep). EventLeaves config u s (Err OutOfMemory) (ShowsLosingBytes config crossing (account_of c.settle.new.self) lost)) (sym c.in-Take.is)
+    (take_starved config crossing (account_of c.settle.new.self) u lost now c.in-Take.node c.in-Take.peer places lives)
+
+pub returns-in-Err-settle-clause-losing : goal.returns-in-Err-settle-clause-losing
+returns-in-Err-settle-clause-losing g c = λ config u reached shows.
+    let crossing = crossing_of c.args.self.now in
+    let nodes = crossing.nodes in
+    let lost = lost_in c.args.self.now.losses in
+    let places = subst (λ (s : FrameStep). has_places nodes s ≡ true) c.in-Command.is (sym c.has_places.ensures ∙ c.if-not-has_places.false) in
+    let lives = subst (λ (s : FrameStep). is_barred nodes lost s ≡ false) c.in-Command.is (sym c.is_barred.ensures ∙ c.if-is_barred.false) in
+    let settled : account_of c.settle-in-Command.new.self ≡ account_of c.args.self.now.histories = c.settle-in-Command.ensures.account in
+    let now = subst (λ (a : Account). ShowsLosingBytes config crossing a lost u) (sym settled) shows in
+    subst (λ (s : FrameStep). EventLeaves config u s (Err OutOfMemory) (ShowsLosingBytes config crossing (account_of c.settle-in-Command.new.self) lost)) (sym c.in-Command.is)
+    (own_starved config crossing (account_of c.settle-in-Command.new.self) u lost now c.in-Command.node (Issue c.in-Command.port c.in-Command.command) places lives)
+
+pub returns-in-Err-settle-2-clause-losing : goal.returns-in-Err-settle-2-clause-losing
+returns-in-Err-settle-2-clause-losing g c = λ config u reached shows.
+    let crossing = crossing_of c.args.self.now in
+    let nodes = crossing.nodes in
+    let lost = lost_in c.args.self.now.losses in
+    let places = subst (λ (s : FrameStep). has_places nodes s ≡ true) c.in-Retry.is (sym c.has_places.ensures ∙ c.if-not-has_places.false) in
+    let lives = subst (λ (s : FrameStep). is_barred nodes lost s ≡ false) c.in-Retry.is (sym c.is_barred.ensures ∙ c.if-is_barred.false) in
+    let settled : account_of c.settle-in-Retry.new.self ≡ account_of c.args.self.now.histories = c.settle-in-Retry.ensures.account in
+    let now = subst (λ (a : Account). ShowsLosingBytes config crossing a lost u) (sym settled) shows in
+    subst (λ (s : FrameStep). EventLeaves config u s (Err OutOfMemory) (ShowsLosingBytes config crossing (account_of c.settle-in-Retry.new.self) lost)) (sym c.in-Retry.is)
+    (own_starved config crossing (account_of c.settle-in-Retry.new.self) u lost now c.in-Retry.node (Retry c.in-Retry.op) places lives)

@@ -1,11 +1,12 @@
-use Rattle.std.proofs.Common.{◌<◌, ◌≤◌, ◌∙◌, length, ap, sym, arith}
+use Rattle.std.proofs.Common.{◌<◌, ◌≤◌, ◌∙◌, ℕ, List, length, ap, sym, arith, subst}
 use Rattle.std.proofs.lemmas.Bool.{lt-ltb}
 use Rattle.std.proofs.lemmas.List.{length-map}
+use Rattle.pg_world.specs.BytesLosing.{ShowsLosingBytes}
 use Rattle.pg_world.specs.Crossings.{crossing_of, node_of, written_of}
 use Rattle.pg_world_packets.specs.PgWorldAccount.Histories.{account_formed, account_of}
 use Rattle.pg_world_packets.specs.PgWorldAccount.Losses.{lost_in}
 use Rattle.pg_world.proofs.over_bytes.Lost.{lost_bytes}
-use Rattle.pg_world.proofs.over_bytes.Past.{gone_unplaced, gone_before, lost_with}
+use Rattle.pg_world.proofs.over_bytes.Past.{gone_unplaced, gone_none, gone_before, lost_with}
 use Rattle.pg_world_packets.proofs.Peering.{lt_false}
 use Rattle.pg_world.proofs.bytes.ByteNodes.lose.Goals as goal
 
@@ -31,3 +32,11 @@ returns-in-Ok-clause-losing g c = λ config u shows.
 
 pub returns-in-Ok-clause-account : goal.returns-in-Ok-clause-account
 returns-in-Ok-clause-account g c = c.note_formed.ensures ∙ ap (λ b. account_formed b (account_of c.args.self.now.histories)) c.formed_at_loss-formed.ensures
+
+pub returns-in-Err-clause-losing : goal.returns-in-Err-clause-losing
+returns-in-Err-clause-losing g c = λ config u shows.
+    let many = length-map c.args.self.now.nodes.items node_of in
+    let within : c.args.node < length (crossing_of c.args.self.now).nodes = omega (arith, many, c.if-node-len.false, c.len.ensures, c.args.self.now.nodes.ok) in (
+      gone_none config (crossing_of c.args.self.now) (account_of c.args.self.now.histories) u (lost_in c.args.self.now.losses) shows c.args.node (lt-ltb c.args.node _ within) (sym c.has.ensures ∙ c.if-has.false),
+      subst (λ (l : List ℕ). ShowsLosingBytes config (crossing_of c.args.self.now) (account_of c.args.self.now.histories) l u) (sym c.in-Err.ensures.err) shows,
+    )

@@ -14,7 +14,7 @@ use Rattle.pg_world_packets.specs.PgWorldAccount.Histories.{account_of}
 use Rattle.pg_world_packets.specs.Views.{peer_place}
 use Rattle.pg_world_packets.specs.PgNodeState.declared.state.fault.NodeFault.TheVariants.{Refused}
 use Rattle.pg_world.proofs.over_bytes.Drained.{bytes_there, left_there, undrained_told}
-use Rattle.pg_world.proofs.over_bytes.Lost.{sight_not_lost, sight_made, sight_held}
+use Rattle.pg_world.proofs.over_bytes.Lost.{unbarred, sight_not_lost, sight_made, sight_held}
 use Rattle.pg_world.proofs.over_bytes.Seen.{peer_clock, closed_bytes, step_there}
 use Rattle.pg_world.proofs.Linked.{alone, first_there, second_there, node_same, seen_kept}
 use Rattle.pg_world.proofs.Linked.{seen_there, nodes_set, links_here, part_kept}
@@ -59,7 +59,11 @@ returns-then-not-has-clause-losing g c = λ config u shows.
     sight_not_lost config crossing crossing account account u c.args.node c.args.peer lost lost shows c.requires.pair c.requires.lives (sym c.has.ensures ∙ c.if-not-has.true)
 
 pub returns-then-has_bytes-clause-losing : goal.returns-then-has_bytes-clause-losing
-returns-then-has_bytes-clause-losing g c = λ config u shows. shows
+returns-then-has_bytes-clause-losing g c = λ config u shows.
+    let crossing = crossing_of c.args.self.now in
+    let account = account_of c.args.self.now.histories in
+    let lost = lost_in c.args.self.now.losses in
+    (unbarred config crossing crossing account account u c.args.node c.args.peer lost lost shows c.requires.pair c.requires.lives (sym c.has.ensures ∙ c.if-not-has.false), shows)
 
 pub returns-in-Ok-clause-losing : goal.returns-in-Ok-clause-losing
 returns-in-Ok-clause-losing g c = λ config u shows.

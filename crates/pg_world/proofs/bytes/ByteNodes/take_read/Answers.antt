@@ -1,11 +1,12 @@
 use Rattle.std.proofs.Common.{◌≡◌, ◌∙◌, ◌+◌, ℕ, Ok, Err, refl, sym, ap, subst}
 use Rattle.std.specs.Prelude.{slice_set}
+use Rattle.pg_world_packets.specs.PgNodeSends.contracts.framing.FramedOutgoing.TheImpl as frames
 use Rattle.pg_world_packets.specs.PgNodeOpens.Places.{name_at}
 use Rattle.pg_world_packets.specs.PgStep.Step.{step_take}
 use Rattle.pg_node.specs.Bytes.{next_packet, passed}
 use Rattle.pg_node.specs.Links.{Link, at_link}
-use Rattle.pg_node.specs.Nodes.{held_by, links_of, sent_out, ComesInRoom}
-use Rattle.pg_world_packets.specs.PgNodeState.States.{names_of, nodes_of, state_of, answers_of}
+use Rattle.pg_node.specs.Nodes.{held_by, links_of, sent_out}
+use Rattle.pg_world_packets.specs.PgNodeState.States.{names_of, nodes_of, state_of, answers_of, Comes}
 use Rattle.pg_world_packets.specs.PgNodeSends.Sent.{stamped_of}
 use Rattle.pg_world.specs.Crossings.{Crossing, crossing_in, crossing_of, node_of, written_of, ShowsBytesPast}
 use Rattle.pg_world_packets.specs.PgWorldAccount.Histories.{account_of, update_asked_by}
@@ -56,7 +57,7 @@ returns-in-Ok-take_read g c = record {
       (subst (λ k. (j : ℕ) → links_of node2 j ≡ at_link k passed (sent_out (listed_of done.sends) (links_of node)) j) place c.in-Ok-take_read.ensures.sent))
       (grew_taken (account_of c.args.self.now.histories) _ i (update_asked_by packet.message) done.began c.unpack.result (account_of c.make_room.new.self) (account_of c.serve.new.self) c.unpack.ensures
       c.make_room.ensures.account c.serve.ensures.history c.serve.ensures.applied c.serve.ensures.marked c.begin.ensures.history c.begin.ensures.applied c.begin.ensures.marked) c.of-effect.result c.of-effect.ensures
-      (subst (λ k. ComesInRoom (names_of (held_by node)) (step_take (nodes_of (held_by node)) (name_at (names_of (held_by node)) (k + 1)) (stamped_of packet) (state_of (held_by node))) (Ok done) (state_of (held_by node2)) (answers_of (held_by node)) (answers_of (held_by node2)))
+      (subst (λ k. Comes (names_of (held_by node)) (step_take (nodes_of (held_by node)) (name_at (names_of (held_by node)) (k + 1)) (stamped_of packet) (state_of (held_by node))) (Ok done) (state_of (held_by node2)) (answers_of (held_by node)) (answers_of (held_by node2)))
       place c.in-Ok-take_read.ensures.event);
   changes = alone c.args.self.now.nodes.items c.args.self.now.rings.items c.args.node c.take_read.new.self;
   formed = c.begin.ensures.formed ∙ (c.serve.ensures.formed ∙ ap (λ (a : Account). a.formed) c.make_room.ensures.account);
@@ -84,7 +85,7 @@ returns-in-Err-take_read g c = record {
       let seen = seen_kept node node2 c.in-Err-take_read.ensures.stays.names c.in-Err-take_read.ensures.stays.ports c.in-Err-take_read.ensures.stays.state c.in-Err-take_read.ensures.stays.answers in
       let account : account_of c.make_room.new.self ≡ account_of c.args.self.now.histories = c.make_room.ensures.account in
       take_err config lost crossing w shows.traffic _ i p c.requires.pair packet first welcome (node_of node) (seen_there nodes rings i node l at) (state_of (held_by node2)) (answers_of (held_by node2)) fault
-      (subst (λ k. ComesInRoom (names_of (held_by node)) (step_take (nodes_of (held_by node)) (name_at (names_of (held_by node)) (k + 1)) (stamped_of packet) (state_of (held_by node))) (Err fault) (state_of (held_by node2)) (answers_of (held_by node)) (answers_of (held_by node2)))
+      (subst (λ k. Comes {h = frames.ghosts} (names_of (held_by node)) (step_take (nodes_of (held_by node)) (name_at (names_of (held_by node)) (k + 1)) (stamped_of packet) (state_of (held_by node))) (Err fault) (state_of (held_by node2)) (answers_of (held_by node)) (answers_of (held_by node2)))
       place c.in-Err-take_read.ensures.event)
       (λ harms. subst (λ (a : Account). ShowsBytesPast config lost (crossing_in (slice_set nodes i node2) rings) a w) (sym account)
       (subst (λ (x : Crossing). ShowsBytesPast config lost x (account_of c.args.self.now.histories) w)

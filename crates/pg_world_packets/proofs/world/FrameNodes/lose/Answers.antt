@@ -1,11 +1,11 @@
-use Rattle.std.proofs.Common.{◌≡◌, ◌<◌, ◌∙◌, true, false, length, refl, sym, arith}
+use Rattle.std.proofs.Common.{◌≡◌, ◌<◌, ◌∙◌, ℕ, List, true, false, length, refl, sym, ap, arith, subst}
 use Rattle.std.proofs.lemmas.List.{length-map}
-use Rattle.pg_world_packets.specs.Losing.{lost_of}
+use Rattle.pg_world_packets.specs.Losing.{is_told_first, lost_of, ShowsLosing}
 use Rattle.pg_world_config.specs.Seen.{seen_of}
 use Rattle.pg_world_packets.specs.Views.{ways_of}
 use Rattle.pg_world_packets.specs.Worlds.{view_of}
 use Rattle.pg_world_packets.proofs.Dropped.{cut_there, cut_others, cut_whole}
-use Rattle.pg_world_packets.proofs.Dropped.{few_or_many, lost_before, too_many, lost_now}
+use Rattle.pg_world_packets.proofs.Dropped.{few_or_many, lost_before, too_many, none_refuses, lost_now}
 use Rattle.pg_world_packets.proofs.world.FrameNodes.lose.Goals as goal
 
 pub returns-then-keep-len-clause-losing : goal.returns-then-keep-len-clause-losing
@@ -24,8 +24,7 @@ returns-then-has-clause-losing g c = λ config u shows.
     let view = view_of c.args.self.now in
     let lost = lost_of c.args.self.now in
     let count = c.args.self.now.whole.others c.args.node c.requires.place in (
-      lost_before config view view u c.args.node c.args.keep.now lost lost shows c.requires.place count
-          (omega (arith, c.if-keep-len.false, c.len.ensures, c.args.self.now.nodes.ok, length-map c.args.self.now.nodes.items seen_of)) (sym c.has.ensures ∙ c.if-has.true),
+      lost_before config view view u c.args.node c.args.keep.now lost lost shows c.requires.place count (c.can_keep.ensures.0 c.if-not-can_keep.false) (sym c.has.ensures ∙ c.if-has.true),
       shows,
     )
 
@@ -35,10 +34,18 @@ returns-then-not-can_keep-clause-losing g c = λ config u shows.
     let lost = lost_of c.args.self.now in
     let count = c.args.self.now.whole.others c.args.node c.requires.place in (
       too_many config view view u c.args.node c.args.keep.now lost lost shows c.requires.place count
-          (omega (arith, c.if-keep-len.false, c.len.ensures, c.args.self.now.nodes.ok, length-map c.args.self.now.nodes.items seen_of)) (sym c.has.ensures ∙ c.if-has.false)
+          (omega (arith, c.if-keep-len.false, c.len.ensures, c.args.self.now.nodes.ok, length-map c.args.self.now.nodes.items seen_of))
           (λ can. let yes : false ≡ true = sym c.if-not-can_keep.true ∙ c.can_keep.ensures.1 can in absurd (cc)),
       shows,
     )
+
+pub returns-in-Err-clause-losing : goal.returns-in-Err-clause-losing
+returns-in-Err-clause-losing g c = λ config u shows.
+    let view = view_of c.args.self.now in
+    let lost = lost_of c.args.self.now in
+    let count = c.args.self.now.whole.others c.args.node c.requires.place in
+    let none = none_refuses config view view u c.args.node c.args.keep.now lost lost shows c.requires.place count (c.can_keep.ensures.0 c.if-not-can_keep.false) (sym c.has.ensures ∙ c.if-has.false) in
+    (ap is_told_first none, subst (λ (l : List ℕ). ShowsLosing config view l u) (sym c.in-Err.ensures.err) shows)
 
 pub invariant_of-self-2 : goal.invariant_of-self-2
 invariant_of-self-2 g c =

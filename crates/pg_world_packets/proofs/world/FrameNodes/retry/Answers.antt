@@ -1,15 +1,16 @@
 use Rattle.std.proofs.Common.{◌<◌, ◌∙◌, ◌++◌, length, sym, ap, arith, subst}
-use Rattle.std.specs.Prelude.{slice_set}
+use Rattle.std.specs.Prelude.{[], slice_set}
 use Rattle.std.proofs.lemmas.List.{length-map}
 use Rattle.pg_node_state.specs.States.{state_of, answers_of}
 use Rattle.pg_node_state.specs.PgStep.Step.{Retry}
 use Rattle.pg_world_config.specs.Seen.{seen_of}
 use Rattle.pg_world_packets.specs.Views.{ways_of, packets_to, traffic_in, HaveWayRoom, IsWhole}
+use Rattle.pg_world_packets.proofs.Barred.{port_is}
 use Rattle.pg_world_packets.proofs.Ported.{port_there, port_place}
 use Rattle.pg_node_state.specs.PgStep.Machines.Machine.{Do}
 use Rattle.std.specs.Prelude.{None, refl}
 use Rattle.pg_world_packets.specs.Effects.{effect_by}
-use Rattle.pg_world_packets.specs.Worlds.{view_of}
+use Rattle.pg_world_packets.specs.Worlds.{traffic_of, view_of}
 use Rattle.pg_world_packets.proofs.Recording.{shows_all, view_is, grew_own}
 use Rattle.pg_world_packets.proofs.Queued.{own_refused, own_happened}
 use Rattle.pg_world_packets.proofs.Viewing.{is_set, seen_same, view_room, view_refused, seen_here, fit_ways, sent_nodes}
@@ -26,6 +27,9 @@ invariant_of-self g c =
     let outs1 = slice_set outs c.args.node c.make_room.new.self in
     let room = view_room nodes outs c.args.node c.index_mut-outgoing.result.now c.make_room.new.self inside c.index_mut-outgoing.ensures.value c.make_room.ensures.same in
     record { whole = subst IsWhole (sym room) whole }
+
+pub returns-in-Err-clause-event : goal.returns-in-Err-clause-event
+returns-in-Err-clause-event g c = λ config w shows. sym (port_is config (traffic_of c.args.self.now).nodes w [] shows.traffic.nodes c.args.node c.args.op.port) ∙ c.requires.port
 
 pub returns-in-Err-clause-err : goal.returns-in-Err-clause-err
 returns-in-Err-clause-err g c =

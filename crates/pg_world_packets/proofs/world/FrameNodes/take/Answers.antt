@@ -9,11 +9,12 @@ use Rattle.pg_node_state.specs.PgNodeSends.Sent.{stamped_of}
 use Rattle.pg_world_config.specs.Seen.{seen_of}
 use Rattle.pg_world_packets.specs.Views.{ways_of, packets_to, next_packet_of, traffic_in, peer_place, HaveWayRoom, IsWhole}
 use Rattle.pg_world_packets.proofs.Taking.{taker_there, row_there, apart, taker_place, sender_place}
+use Rattle.pg_world_packets.proofs.Turning.{pair_there}
 use Rattle.pg_world_packets.proofs.Taking.{sender_way, passed_whole, passed_here, passed_else}
 use Rattle.pg_node_state.specs.PgStep.Machines.Machine.{Take}
 use Rattle.std.specs.Prelude.{refl}
 use Rattle.pg_world_packets.specs.Effects.{effect_by}
-use Rattle.pg_world_packets.specs.Worlds.{view_of}
+use Rattle.pg_world_packets.specs.Worlds.{traffic_of, view_of}
 use Rattle.pg_world_account.specs.Histories.{account_of, update_asked_by}
 use Rattle.pg_world_packets.proofs.Recording.{shows_all, view_is, grew_taken}
 use Rattle.pg_world_packets.proofs.Queued.{take_nothing, take_refused, take_happened}
@@ -35,6 +36,9 @@ invariant_of-self g c =
     let whole1 = whole_as nodes outs outs1 room whole in
     record { whole = whole1 }
 
+pub returns-in-Err-clause-event : goal.returns-in-Err-clause-event
+returns-in-Err-clause-event g c = λ config w shows. pair_there config (traffic_of c.args.self.now).nodes w c.args.node c.args.peer shows.traffic.nodes c.requires.pair
+
 pub returns-in-Err-clause-err : goal.returns-in-Err-clause-err
 returns-in-Err-clause-err g c =
     let nodes = c.args.self.now.nodes.items in
@@ -48,6 +52,9 @@ returns-in-Err-clause-err g c =
     let room = view_room nodes outs node c.index_mut-outgoing.result.now c.make_room.new.self inside c.index_mut-outgoing.ensures.value c.make_room.ensures.same in
     let whole1 = whole_as nodes outs outs1 room whole in
     view_is _ _ room refl
+
+pub returns-in-Err-make_room-clause-event : goal.returns-in-Err-make_room-clause-event
+returns-in-Err-make_room-clause-event g c = λ config w shows. pair_there config (traffic_of c.args.self.now).nodes w c.args.node c.args.peer shows.traffic.nodes c.requires.pair
 
 pub returns-in-Err-make_room-clause-err : goal.returns-in-Err-make_room-clause-err
 returns-in-Err-make_room-clause-err g c =
