@@ -11,6 +11,7 @@ ghost use Rattle.pg_index.specs.Index.{Numbers, number_of, table_of, HasGroups, 
 ghost use Rattle.pg_index.specs.Grown.{IsGrown};
 ghost use Rattle.pg_index.specs.declared.memberships.Memberships.{Memberships};
 
+use crate::by_place::GroupsByPlace;
 use crate::memberships::Memberships;
 use indexmap::IndexMap;
 use pg_group::{Ended, GroupTable, Scope, Update};
@@ -336,5 +337,25 @@ impl GroupTable for IndexTable {
             memberships,
             alloc: self.alloc,
         })
+    }
+}
+
+impl GroupsByPlace for IndexTable {
+    ghost use Rattle.std.specs.HashMap.{keys};
+
+    // The order of the map, which is that in which they were made where none was deleted.
+    ghost order = { λ table. keys table.numbers };
+
+    /// Its cost is O(1).
+    fn group_count(&self) -> usize {
+        self.numbers.len()
+    }
+
+    /// Its cost is O(1).
+    fn name_at(&self, place: usize) -> &Term {
+        match self.numbers.get_index(place) {
+            Some((name, _)) => name,
+            None => unreachable!(),
+        }
     }
 }

@@ -4,10 +4,12 @@
 //! `specs/Index.antt`.
 #![tactic(auto)]
 
+mod by_place;
 mod groups;
 mod index_table;
 mod listing;
 mod listings;
 mod memberships;
 
+pub use by_place::GroupsByPlace;
 pub use index_table::IndexTable;

@@ -1,3 +1,4 @@
+pub mod Announced
 pub mod Begun
 pub mod Events
 pub mod Linked

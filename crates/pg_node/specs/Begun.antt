@@ -1,5 +1,5 @@
 -- How a node over bytes begins.
-use Rattle.std.specs.Prelude.{◌≡◌, ◌⊎◌, ◌<◌, ℕ, Ok, Err}
+use Rattle.std.specs.Prelude.{◌≡◌, ◌<◌, ℕ, List, Result, Ok, Err}
 use Rattle.pg_node_state.specs.PgGroup.Table.{Table}
 use Rattle.pg_node_state.specs.PgMessageTypes.declared.fault.MessageFault.{MessageFault}
 use Rattle.pg_node_state.specs.PgMessageTypes.declared.packet.Packet.{Packet}
@@ -19,10 +19,6 @@ pub record IsOpened (packet : Packet) (link : Link) : Type 0 where
   pub body : body_of packet ≡ Ok (written (term_of_packet packet))
   pub read : packet_spelled (written (term_of_packet packet)) ≡ Ok packet
 
--- memory ran out, or the packet can't be written by this fault
-abbrev pub CantOpen : Packet → NodeFault → Type 0
-CantOpen packet fault = (fault ≡ OutOfMemory) ⊎ ((told : MessageFault) × (body_of packet ≡ Err told) × (fault ≡ Message told))
-
 -- What a node tells can be written, and its frame goes out to each of so many peers.
 pub record BeginsWith (table : Table) (own : Node) (peers : ℕ) (links : ℕ → Link) (packet : Packet) : Type 0 where
   pub tells : IsAnnouncement table own packet
@@ -33,6 +29,11 @@ pub record BeginsWith (table : Table) (own : Node) (peers : ℕ) (links : ℕ �
 abbrev pub BeginsLinked : Table → Node → ℕ → (ℕ → Link) → Type 0
 BeginsLinked table own peers links = (packet : Packet) × BeginsWith table own peers links packet
 
--- memory ran out, or what tells the groups can't be written by this fault
+-- what is told where a packet does not go out: why it can't be written, whatever memory there is; else that memory ran out
+abbrev pub unsent : Result (List ℕ) MessageFault → NodeFault
+unsent (Ok body) = OutOfMemory
+unsent (Err fault) = Message fault
+
+-- what is told where what tells the groups of a table does not go out
 abbrev pub CantBegin : Table → Node → NodeFault → Type 0
-CantBegin table own fault = (fault ≡ OutOfMemory) ⊎ ((packet : Packet) × IsAnnouncement table own packet × CantOpen packet fault)
+CantBegin table own fault = (packet : Packet) × IsAnnouncement table own packet × (fault ≡ unsent (body_of packet))

@@ -1,3 +1,4 @@
+pub mod Announced
 pub mod Begun
 pub mod Bytes
 pub mod Links

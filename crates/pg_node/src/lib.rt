@@ -9,7 +9,7 @@ mod node;
 mod replica;
 
 pub use node::Node;
-pub use pg_index::IndexTable;
+pub use pg_index::{GroupsByPlace, IndexTable};
 pub use pg_message_reader::{OwnReply, read_own_reply, read_packet};
 pub use pg_node_state::{
     Answer, Command, Deframer, Done, Framed, Goes, GroupTable, Held, MAX_SMALL_LEN, Message,

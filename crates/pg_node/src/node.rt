@@ -4,6 +4,7 @@ ghost use Rattle.std.specs.Prelude.{◌≡◌, ◌+◌, true, length};
 ghost use Rattle.pg_node.specs.Links.{HaveFrameRoom};
 ghost use Rattle.pg_node_state.specs.States.{names_of as names_known};
 
+mod announced;
 mod begun;
 mod events;
 mod forgets;

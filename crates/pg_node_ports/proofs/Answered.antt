@@ -73,7 +73,7 @@ set_here [] k p q here = absurd (cc)
 set_here (r ∷ ports) zero p q here = refl
 set_here (r ∷ ports) (suc k) p q here = set_here ports k p q here
 
-at_place : (ports : List Port) (k : ℕ) (p : Port) → k < length ports → p ≡ get_or ports k p → slice_get ports k ≡ Some p
+pub at_place : (ports : List Port) (k : ℕ) (p : Port) → k < length ports → p ≡ get_or ports k p → slice_get ports k ≡ Some p
 at_place [] k p within e = absurd (omega arith)
 at_place (q ∷ ports) zero p within e = ap Some (sym e)
 at_place (q ∷ ports) (suc k) p within e = at_place ports k p (omega arith) e

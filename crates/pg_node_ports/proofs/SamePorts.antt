@@ -7,7 +7,7 @@ use Rattle.pg_node_opens.specs.PgStep.declared.answer.Answer.{Answer}
 use Rattle.pg_node_ports.specs.declared.port.Port.{Port}
 use Rattle.pg_node_ports.specs.Ports.{port_commands, answers_in, forgotten_in}
 use Rattle.pg_node_ports.specs.Same.{AreSamePorts, IsSamePort}
-use Rattle.pg_node_ports.proofs.Answered.{count_there, answers_there}
+use Rattle.pg_node_ports.proofs.Answered.{count_there, answers_there, at_place, forgotten_here}
 
 -- the first ports of both are the same
 pub record AgreeBelow (ports others : List Port) (n : ℕ) : Type 0 where
@@ -58,6 +58,31 @@ each_answers (p ∷ ports) (q ∷ others) n same l below (suc k) = each_answers 
 pub all_below : (ports others : List Port) (n : ℕ) → length ports ≡ length others → length ports ≤ n → AgreeBelow ports others n
     → (port_commands ports ≡ port_commands others) × (answers_in ports ≡ answers_in others)
 all_below ports others n same l below = (fun_ext (each_count ports others n same l below.counts), fun_ext (each_answers ports others n same l below.answers))
+
+-- ---- how many each has forgotten
+
+module _ (ports others : List Port) (k : ℕ) (p q : Port) (same : length ports ≡ length others) (within : k < length ports) (here : p ≡ get_or ports k p) (there : q ≡ get_or others k q) where
+  mine : forgotten_in ports k ≡ p.forgotten
+  mine = forgotten_here ports k p (at_place ports k p within here)
+
+  theirs : forgotten_in others k ≡ q.forgotten
+  theirs = forgotten_here others k q (at_place others k q (omega (arith, same, within)) there)
+
+  pub forgotten_below : p.forgotten ≡ q.forgotten → ((j : ℕ) → j < k → forgotten_in ports j ≡ forgotten_in others j) → (j : ℕ) → j < k + 1 → forgotten_in ports j ≡ forgotten_in others j
+  forgotten_below h below = one_more (forgotten_in ports) (forgotten_in others) k below (mine ∙ (h ∙ sym theirs))
+
+  pub one_forgotten : forgotten_in ports ≡ forgotten_in others → p.forgotten ≡ q.forgotten
+  one_forgotten h = sym mine ∙ (ap (λ (f : ℕ → ℕ). f k) h ∙ theirs)
+
+each_forgotten : (ports others : List Port) (n : ℕ) → length ports ≡ length others → length ports ≤ n → ((k : ℕ) → k < n → forgotten_in ports k ≡ forgotten_in others k) → (k : ℕ) → forgotten_in ports k ≡ forgotten_in others k
+each_forgotten [] [] n same l below k = refl
+each_forgotten [] (q ∷ others) n same l below k = absurd (omega (arith, same))
+each_forgotten (p ∷ ports) [] n same l below k = absurd (omega (arith, same))
+each_forgotten (p ∷ ports) (q ∷ others) n same l below zero = below zero (omega (arith, l))
+each_forgotten (p ∷ ports) (q ∷ others) n same l below (suc k) = each_forgotten ports others (length ports) (omega (arith, same)) (omega arith) (λ j lj. below (suc j) (omega (arith, l, lj))) k
+
+pub all_forgotten : (ports others : List Port) (n : ℕ) → length ports ≡ length others → length ports ≤ n → ((k : ℕ) → k < n → forgotten_in ports k ≡ forgotten_in others k) → forgotten_in ports ≡ forgotten_in others
+all_forgotten ports others n same l below = fun_ext (each_forgotten ports others n same l below)
 
 -- the same ports by other names
 pub ports_along : (ports ports' others others' : List Port) → ports ≡ ports' → others ≡ others' → AreSamePorts ports others → AreSamePorts ports' others'

@@ -24,4 +24,4 @@ pub use port::{
     uncount,
 };
 pub use queries::query_reply;
-pub use same::same_ports;
+pub use same::{same_forgotten, same_ports};

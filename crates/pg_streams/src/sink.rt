@@ -38,7 +38,7 @@ pub trait Sink {
         ensures err { OnErr result (fails self.old self.new) };
 }
 
-/// Any writer as a sink. No clause says when a write or a flush of it fails, nor what a flush does.
+/// Any writer as a sink. A write or a flush that fails leaves the bytes that it holds; no clause says when one fails, nor what a flush does.
 #[derive(Drop)]
 pub struct AnyWriter<W> {
     /// What is written to.
@@ -48,7 +48,7 @@ pub struct AnyWriter<W> {
 impl<W: Write> Sink for AnyWriter<W> {
     ghost contents = { λ sink. W.contents sink.writer };
 
-    ghost fails = { λ a b. ⊤ };
+    ghost fails = { λ a b. Keeps (W.contents a.writer) (W.contents b.writer) };
 
     ghost flushed = { λ sink. ⊤ };
 

@@ -2,7 +2,7 @@
 
 ghost use Rattle.std.specs.Prelude.{◌≡◌, ◌++◌, ⊤, Option, List, ℕ, Some, IfOk, OnErr, take};
 ghost use Rattle.std.specs.Io.{ReadsAtMost};
-ghost use Rattle.std.specs.Io.KnownBytes.{ReadConsumes};
+ghost use Rattle.std.specs.Io.KnownBytes.{ReadConsumes, Consumes, Keeps};
 
 use std::io;
 use std::io::Read;
@@ -29,7 +29,7 @@ pub trait Source {
         ensures err { OnErr result (fails self.old self.new) };
 }
 
-/// Any reader as a source. No clause says when a read of it fails.
+/// Any reader as a source. What its reads gave is no longer left of it, and a read that fails leaves it all; no clause says when one fails.
 #[derive(Drop)]
 pub struct AnyReader<R> {
     /// What is read.
@@ -39,9 +39,9 @@ pub struct AnyReader<R> {
 impl<R: Read> Source for AnyReader<R> {
     ghost remaining = { λ source. R.remaining source.reader };
 
-    ghost gives = { λ a bytes b. ⊤ };
+    ghost gives = { λ a bytes b. Consumes (R.remaining a.reader) (R.remaining b.reader) bytes };
 
-    ghost fails = { λ a b. ⊤ };
+    ghost fails = { λ a b. Keeps (R.remaining a.reader) (R.remaining b.reader) };
 
     fn read_some(&mut self, piece: &mut [u8]) -> io::Result<usize> {
         self.reader.read(piece)

@@ -17,6 +17,8 @@ macro_rules! with {
 }
 
 #[cfg(test)]
+mod begins;
+#[cfg(test)]
 mod changes;
 #[cfg(test)]
 mod memory;

@@ -80,6 +80,15 @@ fn has_forgotten(node: &mut State, count: usize, kept: usize, forgotten: u64) ->
     node.port_count() == 1 && node.answers(0).len() == kept && node.forgotten(0) == forgotten
 }
 
+// How many answers of its one port were forgotten.
+fn forgotten_at(node: &State) -> u64 {
+    if node.port_count() == 1 {
+        node.forgotten(0)
+    } else {
+        0
+    }
+}
+
 impl Twins {
     fn are_same(&self) -> bool {
         match self.one.same(&self.other) {
@@ -148,11 +157,11 @@ impl Twins {
             && self.are_same()
     }
 
-    // Whether so many answers are kept once so many were forgotten at both, which are the same but while one has forgotten them alone; and
+    // Whether so many answers are kept once so many were forgotten at both, which are the same but while one has forgotten more; and
     // how many were forgotten so far, at a copy too.
     fn forget(&mut self, rt: &impl Abort, count: usize, kept: usize, forgotten: u64) -> bool {
         let is_copied = has_forgotten(&mut self.one, count, kept, forgotten)
-            && (kept == 0 || count == 0 || !self.are_same())
+            && self.are_same() == (forgotten_at(&self.other) == forgotten)
             && has_forgotten(&mut self.other, count, kept, forgotten)
             && self.are_same();
         let mut copy = either(rt, self.one.copy(), self.one.copy());

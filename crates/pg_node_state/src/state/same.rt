@@ -7,18 +7,34 @@ ghost use Rattle.pg_node_ports.specs.PgEnds.Processes.{made_of};
 ghost use Rattle.pg_node_ports.specs.PgNodeOpens.Opens as opens;
 ghost use Rattle.pg_node_state.specs.Same.{AreSameNodes, AreAlike, AreSameBeside};
 ghost use Rattle.pg_node_ports.specs.Same.{AreSamePorts};
+ghost use Rattle.pg_node_state.specs.Issued.{ports_of};
+ghost use Rattle.pg_node_state.specs.States.{forgotten_of};
 
 use crate::state::NodeState;
-use pg_node_ports::{GroupTable, same_groups, same_ports};
+use pg_node_ports::{GroupTable, same_forgotten, same_groups, same_ports};
 use std::alloc::AllocError;
 
 impl<T: GroupTable + Drop> NodeState<T> {
-    /// Whether both are one node to everybody: they are alike, and have the same clock.
+    /// Whether both are one node: they look the same, and have forgotten as many answers of each port.
+    ///
+    /// Errors: `AllocError`.
+    ///
+    /// Cost: that of `looks_same`.
+    pub fn same(&self, other: &NodeState<T>) -> Result<bool, AllocError>
+        ensures { IfOk result (λ same. IsTrue same ↔ AreSameNodes self.now other.now × (forgotten_of self.now ≡ forgotten_of other.now)) }
+    {
+        if !self.same_forgotten(other) {
+            return Ok(false);
+        }
+        self.looks_same(other)
+    }
+
+    /// Whether both are one node to everybody who steps it: they are alike, and have the same clock.
     ///
     /// Errors: `AllocError`.
     ///
     /// Cost: that of `is_alike`.
-    pub fn same(&self, other: &NodeState<T>) -> Result<bool, AllocError>
+    pub fn looks_same(&self, other: &NodeState<T>) -> Result<bool, AllocError>
         ensures { IfOk result (λ same. IsTrue same ↔ AreSameNodes self.now other.now) }
     {
         if self.clock != other.clock {
@@ -30,7 +46,8 @@ impl<T: GroupTable + Drop> NodeState<T> {
     /// Whether both are the same but for their clocks: they know the same nodes by the same names, and have the same
     /// groups with the same members, the same ended processes, holders, merged and lost peers, as many processes and
     /// references made, the same open commands with the same gathered, and as many ports, where as many commands came
-    /// in and the same answers are kept. How many answers were forgotten is not compared.
+    /// in and the same answers are kept. How many answers were forgotten is not
+    /// compared.
     ///
     /// Errors: `AllocError`.
     ///
@@ -43,6 +60,13 @@ impl<T: GroupTable + Drop> NodeState<T> {
         } else {
             Ok(false)
         }
+    }
+
+    /// Whether both have as many ports, and have forgotten as many answers of each.
+    fn same_forgotten(&self, other: &NodeState<T>) -> bool
+        ensures { IsTrue result ↔ (ports_of self.now ≡ ports_of other.now) × (forgotten_of self.now ≡ forgotten_of other.now) }
+    {
+        same_forgotten(&self.ports, &other.ports)
     }
 
     /// Whether both are the same but for their clocks and their groups. It takes no memory.
