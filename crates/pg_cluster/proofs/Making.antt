@@ -16,6 +16,7 @@ use Rattle.pg_cluster_judges.specs.PgNodeRun.Ports.{IsUnused}
 use Rattle.pg_cluster_judges.specs.PgNodeRun.Runs.{notices_of}
 use Rattle.pg_cluster_judges.specs.PgStep.Config.{Config, IsConfig}
 use Rattle.pg_cluster_judges.specs.Apart.{End}
+use Rattle.pg_cluster_judges.proofs.PgWorldPackets.Opened.{can_be_short}
 use Rattle.pg_cluster_judges.proofs.PgWorldPackets.Peering.{known, place_low, place_high}
 use Rattle.pg_cluster_judges.proofs.PgWorldPackets.Turning.{pair_is}
 use Rattle.pg_cluster_judges.specs.PgWorld.BytesStart.{BytesBegin}
@@ -101,7 +102,7 @@ are_made given nodes rows (Err fault) good count begins wired held rowed unlogge
 -- ---- why nothing was made
 
 pub shortage : (ring : ℕ) (given : Config) (fault : StartFault) → CanBegin ring given → IsShortage fault → CantRun ring given fault
-shortage ring given (World OutOfMemory) can short = tt
+shortage ring given (World OutOfMemory) can short = can_be_short ring given can
 shortage ring given NoThread can short = can
 shortage ring given (World fault) can short = absurd short
 

@@ -21,8 +21,8 @@ use crate::promise::NodeRan;
 use crate::runs::make;
 use crate::threads::{start_all, stop_all, stop_one};
 use pg_cluster_judges::{
-    Client, Closed, Config, Gate, NodeFault, Refusal, Stopped, WorldFault, nodes_of_one_run_agree,
-    survivors_of_one_run_agree,
+    Client, Closed, Config, Gate, NodeFault, Refusal, Stopped, fault_or_memory,
+    nodes_of_one_run_agree, survivors_of_one_run_agree,
 };
 use pg_ring::RingOut;
 use rand_core::Rng;
@@ -136,14 +136,14 @@ impl<K: Rng + Drop + Send + 'static> Cluster<K> {
         ensures fault { IfErr result (CantRun config.now.ring config.now.starts.items) }
     {
         let Ok(gate) = Arc::new(alloc, gate) else {
-            return Err(StartFault::World(WorldFault::OutOfMemory));
+            return Err(StartFault::World(fault_or_memory(alloc, config)));
         };
         let made = make(alloc, config, generators)?;
         let kept = match Kept::with_capacity(alloc, made.runs.len(), made.clients.len()) {
             Ok(kept) => kept,
             Err(AllocError) => {
                 drop(made);
-                return Err(StartFault::World(WorldFault::OutOfMemory));
+                return Err(StartFault::World(fault_or_memory(alloc, config)));
             }
         };
         let mut stops = made.stops;

@@ -10,7 +10,7 @@ ghost use Rattle.pg_cluster.specs.Threads.{AreMade, begun_by};
 use crate::cluster::Cluster;
 use crate::fault::StartFault;
 use pg_cluster_judges::{
-    Answer, Client, Closed, Command, Config, Gate, NodeFault, Stopped, WorldFault,
+    Answer, Client, Closed, Command, Config, Gate, NodeFault, Stopped, fault_or_memory,
 };
 use rand_pcg::Pcg32;
 use std::alloc::{AllocError, Global};
@@ -93,10 +93,11 @@ impl Running {
         ensures fault { IfErr result (CantRun config.ring config.starts.items) }
     {
         let Ok(generators) = generators(alloc, config.starts.len(), seed) else {
+            let fault = fault_or_memory(alloc, &config);
             drop(config);
             drop(gate);
             drop(clock);
-            return Err(StartFault::World(WorldFault::OutOfMemory));
+            return Err(StartFault::World(fault));
         };
         match Cluster::start(rt, alloc, &config, generators, gate, clock, limit) {
             Ok((cluster, clients)) => Ok(Running {

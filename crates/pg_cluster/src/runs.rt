@@ -17,7 +17,7 @@ use crate::notices::Teller;
 use crate::wires::{Row, wire_all};
 use pg_cluster_judges::{
     Client, Config, IndexTable, LinkedNode, NOTICE_PLACES, Node, NodeRun, Notice, Port, WorldFault,
-    port_pair, starting_nodes,
+    fault_or_memory, port_pair, starting_nodes,
 };
 use pg_ring::{RingIn, RingOut, SlotIn, ring_pair, slot_pair};
 use rand_core::Rng;
@@ -59,7 +59,7 @@ pub(crate) fn make<K: Rng + Drop>(
     };
     match wire_all(alloc, nodes.len(), config.ring) {
         Ok(rows) => make_all(alloc, nodes, rows, generators),
-        Err(_) => Err(StartFault::World(WorldFault::OutOfMemory)),
+        Err(_) => Err(StartFault::World(fault_or_memory(alloc, config))),
     }
 }
 

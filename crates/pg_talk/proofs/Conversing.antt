@@ -17,11 +17,13 @@ use Rattle.pg_cluster.specs.Clients.{AllPairs}
 use Rattle.pg_cluster.specs.ClientsLaws.{all_same_on}
 use Rattle.pg_cluster.specs.Running.{RunningGoes, clients_in}
 use Rattle.pg_cluster.specs.PgWorldConfig.declared.fault.WorldFault.TheVariants.{OutOfMemory}
+use Rattle.pg_cluster.specs.PgStep.Config.{Config}
+use Rattle.pg_cluster.specs.Fault.{CantRun}
 use Rattle.pg_cluster.specs.declared.fault.StartFault.{StartFault}
 use Rattle.pg_cluster.specs.declared.fault.StartFault.TheVariants.{World}
 use Rattle.pg_cluster.specs.declared.running.Running.{Running}
 use Rattle.pg_node_requests.specs.Members.{node_name}
-use Rattle.pg_talk.specs.Conversations.{AreBare, CantTalk, IsBare, all_polled, saturated}
+use Rattle.pg_talk.specs.Conversations.{AreAsked, AreBare, CantTalk, IsBare, all_polled, saturated}
 use Rattle.pg_talk.specs.declared.conversation.Conversation.{Conversation}
 use Rattle.pg_talk.specs.declared.conversation.Outcome.{Outcome}
 use Rattle.pg_talk.specs.declared.speaker.Speaker.{Speaker}
@@ -64,43 +66,14 @@ bare_push ports starts start all here i none low = elim (eqb_tells i (length sta
       subst (IsBare ports (i + 1)) (sym (get_or-append starts (start ∷ []) none i less)) (all i none less)
 ]
 
--- so many nodes, numbered from this on
-abbrev bares : ℕ → ℕ → ℕ → List Start
-bares ports number zero = []
-bares ports number (suc count) = record { name = node_name number; made = 0; ports = ports; groups = [] } ∷ bares ports (suc number) count
-
-length-bares : (ports number count : ℕ) → length (bares ports number count) ≡ count
-length-bares ports number zero = refl
-length-bares ports number (suc count) = ap suc (length-bares ports (suc number) count)
-
-bare_at : (ports number count i : ℕ) (none : Start) → i < length (bares ports number count) → IsBare ports (number + i) (get_or (bares ports number count) i none)
-bare_at ports number zero i none low = absurd (omega (arith, low))
-bare_at ports number (suc count) zero none low =
-    let start : Start = record { name = node_name number; made = 0; ports = ports; groups = [] } in
-    let here : IsBare ports number start = record { named = refl; ports_are = refl; no_process = refl; no_group = refl } in
-    let e : number ≡ number + 0 = omega arith in
-    subst (λ n. IsBare ports n start) e here
-bare_at ports number (suc count) (suc i) none low =
-    let less : i < length (bares ports (suc number) count) = omega (arith, low) in
-    let e : suc number + i ≡ number + suc i = omega arith in
-    subst (λ n. IsBare ports n (get_or (bares ports (suc number) count) i none)) e (bare_at ports (suc number) count i none less)
-
--- where there is no memory no cluster of the nodes that are asked for is started
-pub cant_without_memory : (asked : Conversation) → CantTalk asked (World OutOfMemory)
-cant_without_memory asked = (
-  bares asked.clients 1 asked.nodes,
-  record {
-    count = length-bares asked.clients 1 asked.nodes;
-    each = λ i none low.
-        let e : 1 + i ≡ i + 1 = omega arith in
-        subst (λ n. IsBare asked.clients n (get_or (bares asked.clients 1 asked.nodes) i none)) e (bare_at asked.clients 1 asked.nodes i none low);
-  },
-  tt,
-)
+-- it is told of the nodes that were asked for
+pub cant_by : (asked : Conversation) (given : Config) (fault : StartFault) → AreAsked asked given → CantRun 65536 given fault → CantTalk asked fault
+cant_by asked given (World OutOfMemory) are cant = tt
+cant_by asked given fault are cant = (given, are, cant)
 
 pub no_memory : (asked : Conversation) (r : Result Outcome StartFault) → IsErrAnd r (λ e. e ≡ World OutOfMemory) → IfErr r (CantTalk asked)
 no_memory asked (Ok outcome) h = tt
-no_memory asked (Err e) h = subst (CantTalk asked) (sym h) (cant_without_memory asked)
+no_memory asked (Err e) h = subst (CantTalk asked) (sym h) tt
 
 -- the atom of a text that has one
 pub atom_is : (text name : List ℕ) → checked_atom text ≡ Ok name → name ≡ text

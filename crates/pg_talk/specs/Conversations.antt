@@ -1,5 +1,5 @@
 -- What a conversation of clients with a cluster came to.
-use Rattle.std.specs.Prelude.{◌≡◌, ℕ, Bool, true, ◌<◌, ◌+◌, ◌*◌, ◌-◌, ◌^◌, min, List, [], ◌∷◌, ◌++◌, get_or, length, map}
+use Rattle.std.specs.Prelude.{◌≡◌, ⊤, ℕ, Bool, true, ◌<◌, ◌+◌, ◌*◌, ◌-◌, ◌^◌, min, List, [], ◌∷◌, ◌++◌, get_or, length, map}
 use Rattle.std.specs.List.{All, sum_by}
 use Rattle.pg_cluster.specs.PgNodeRun.Ports.{polled}
 use Rattle.pg_cluster.specs.PgNodeRun.Runs.{generator_of}
@@ -8,6 +8,8 @@ use Rattle.pg_cluster.specs.PgStep.Config.{Config}
 use Rattle.pg_cluster.specs.PgStep.declared.start.Start.{Start}
 use Rattle.pg_cluster.specs.Fault.{CantRun}
 use Rattle.pg_cluster.specs.declared.fault.StartFault.{StartFault}
+use Rattle.pg_cluster.specs.declared.fault.StartFault.TheVariants.{World}
+use Rattle.pg_cluster.specs.PgWorldConfig.declared.fault.WorldFault.TheVariants.{OutOfMemory}
 use Rattle.rand_pcg.specs.Lcg.{Lcg}
 use Rattle.pg_cluster.specs.PgClusterJudges.Schedule.{NobodyLost}
 use Rattle.pg_cluster.specs.Seeds.{AreSeeded}
@@ -34,8 +36,9 @@ pub record AreAsked (asked : Conversation) (given : Config) : Type 0 where
   pub count : length given ≡ asked.nodes
   pub each : AreBare asked.clients given
 
--- a cluster of nodes that are asked for, with rings of 64 KB, was not started, as this fault tells
+-- memory ran out; or a cluster of the nodes that are asked for, with rings of 64 KB, was not started, as this fault tells
 abbrev pub CantTalk : Conversation → StartFault → Type 0
+CantTalk asked (World OutOfMemory) = ⊤
 CantTalk asked fault = (given : Config) × AreAsked asked given × CantRun 65536 given fault
 
 -- a number of 64 bits at most

@@ -1,5 +1,5 @@
 -- What a world of bytes shows once bytes have moved, or a node has made a turn.
-use Rattle.std.proofs.Common.{◌≡◌, ◌≢◌, ◌≤◌, ◌+◌, ℕ, Bool, true, false, cond, nat_eq, map, get_or, length, List}
+use Rattle.std.proofs.Common.{◌≡◌, ◌≢◌, ◌≤◌, ◌+◌, ℕ, zero, suc, Bool, true, false, cond, nat_eq, map, drop, get_or, length, List}
 use Rattle.std.proofs.Common.{[], ◌∷◌, ◌++◌, refl, sym, ap, ◌∙◌, inl, inr, ◌⊎◌, arith, subst, length-append}
 use Rattle.std.specs.Int.{w32, to_be_bytes}
 use Rattle.std.specs.List.{AllByRecursion}
@@ -12,7 +12,8 @@ use Rattle.pg_world_packets.specs.PgStep.Machines.Machine.{Event, node_of}
 use Rattle.pg_world_packets.specs.PgStep.Machines.Happened.{Takes}
 use Rattle.pg_world_packets.specs.PgStep.Machines.Clocked.{Stamped}
 use Rattle.pg_world_packets.specs.PgFrame.Pieces.{Bytes, AreShort, frames_of, put_out, piece_taken as bytes_taken}
-use Rattle.pg_world_packets.specs.PgStep.Config.{Config}
+use Rattle.pg_world_packets.specs.PgStep.Config.{Config, name_at}
+use Rattle.pg_world_packets.specs.PgStep.Nodes.{Node}
 use Rattle.pg_world_packets.specs.PgStep.Step.{Action}
 use Rattle.pg_world_packets.specs.PgMessageWriter.Frames.{frame_of}
 use Rattle.pg_world_packets.specs.PgNodeSends.Frames.{IsSmallFrame, AreSmallFrames, frames_to}
@@ -30,14 +31,20 @@ use Rattle.pg_world_packets.proofs.Turning.{Passes, pair_is}
 
 -- ---- bytes move
 
+pub drop_none : (count : ℕ) → ◌≡◌ {A = List ℕ} (drop count []) []
+drop_none zero = refl
+drop_none (suc count) = refl
+
 pub moved_shown : (config : Config) (lost : List ℕ) (crossing crossing2 : Crossing) (w : TimedFrameWorld) (x y : ℕ) (change : Bytes → Bytes)
     → ((packets : List Packet) (bytes : Bytes) → IsOnWay (is_lost lost y) (is_lost lost x) packets bytes → IsOnWay (is_lost lost y) (is_lost lost x) packets (change bytes))
+    → ((bytes : Bytes) → bytes.outbox ≡ [] → (change bytes).outbox ≡ [])
     → Moves crossing crossing2 x y change → ShowsPast config lost crossing w → ShowsPast config lost crossing2 w
-moved_shown config lost crossing crossing2 w x y change keeps moves shows = record {
+moved_shown config lost crossing crossing2 w x y change keeps empty moves shows = record {
   nodes = subst (λ (nodes : List Seen). ShowsNodes config nodes w) (sym moves.nodes) shows.nodes;
   ways = λ a b pair. way a b pair (cases_eq a x) (cases_eq b y);
   cross = shows.cross;
   sound = λ a b pair. moves.damaged a b ∙ shows.sound a b pair;
+  silent = λ a b pair seen. silent a b pair (cases_eq a x) (cases_eq b y) (shows.silent a b pair seen);
 }
   where
     there : (a b : ℕ) → is_pair (length config) a b ≡ true → is_pair (length crossing.nodes) a b ≡ true
@@ -53,6 +60,13 @@ moved_shown config lost crossing crossing2 w x y change keeps moves shows = reco
         (here (subst (λ k. is_pair (length config) k y ≡ true) e (subst (λ k. is_pair (length config) a k ≡ true) d pair))))
     way a b pair (inr n) d = subst (IsOnWay (is_lost lost b) (is_lost lost a) (packets_between w a b)) (sym (moves.others a b (there a b pair) (λ both. n both.0))) (shows.ways a b pair)
     way a b pair (inl e) (inr n) = subst (IsOnWay (is_lost lost b) (is_lost lost a) (packets_between w a b)) (sym (moves.others a b (there a b pair) (λ both. n both.1))) (shows.ways a b pair)
+
+    silent : (a b : ℕ) → is_pair (length config) a b ≡ true → (a ≡ x) ⊎ (a ≢ x) → (b ≡ y) ⊎ (b ≢ y) → (link_at crossing a b).outbox ≡ [] → (link_at crossing2 a b).outbox ≡ []
+    silent a b pair (inl e) (inl d) none =
+        subst (λ k. (link_at crossing2 k b).outbox ≡ []) (sym e) (subst (λ k. (link_at crossing2 x k).outbox ≡ []) (sym d)
+        (ap (λ (z : Bytes). z.outbox) moves.here ∙ empty (bytes_at crossing x y) (subst (λ k. (link_at crossing x k).outbox ≡ []) d (subst (λ k. (link_at crossing k b).outbox ≡ []) e none))))
+    silent a b pair (inr n) d none = ap (λ (z : Bytes). z.outbox) (moves.others a b (there a b pair) (λ both. n both.0)) ∙ none
+    silent a b pair (inl e) (inr n) none = ap (λ (z : Bytes). z.outbox) (moves.others a b (there a b pair) (λ both. n both.1)) ∙ none
 
 -- what is seen as before is shown as before
 pub same_shown : (config : Config) (lost : List ℕ) (crossing crossing2 : Crossing) (w : TimedFrameWorld) → crossing2 ≡ crossing → ShowsPast config lost crossing w → ShowsPast config lost crossing2 w
@@ -118,7 +132,8 @@ pub record Acts (crossing crossing2 : Crossing) (e : Event Action) (sends : List
 module _ (config : Config) (lost : List ℕ) (crossing crossing2 : Crossing) (w v : TimedFrameWorld) (e : Event Action) (sends : List (ℕ × Packet)) (shows : ShowsPast config lost crossing w)
     (stays : is_lost lost (node_of e) ≡ false) (acts : Acts crossing crossing2 e sends) (passes : Passes config e sends w v) (small : AreSmallFrames sends) (adds : Adds)
     (takes : (x y : ℕ) → Takes e x y → (first : Packet) (others : List Packet) → packets_between w x y ≡ first ∷ others → IsOnWay (is_lost lost y) (is_lost lost x) others (bytes_taken (bytes_at crossing x y)))
-    (is_taken : (x y : ℕ) → Takes e x y ⊎ (Takes e x y → ⊥)) (by_node : (x y : ℕ) → Takes e x y → y ≡ node_of e) where
+    (is_taken : (x y : ℕ) → Takes e x y ⊎ (Takes e x y → ⊥)) (by_node : (x y : ℕ) → Takes e x y → y ≡ node_of e) (still : (x : ℕ) → (v.node x).state.lost ≡ (w.node x).state.lost)
+    (quiet : (y : ℕ) → is_pair (length config) (node_of e) y ≡ true → (w.node (node_of e)).state.lost (name_at config y) ≡ true → packets_to sends (peer_place (node_of e) y) ≡ []) where
   ring_same : (x k : ℕ) → get_or (get_or crossing2.rings x []) k [] ≡ get_or (get_or crossing.rings x []) k []
   ring_same x k = ap (λ (rs : List (List (List ℕ))). get_or (get_or rs x []) k []) acts.rings
 
@@ -184,8 +199,18 @@ module _ (config : Config) (lost : List ℕ) (crossing crossing2 : Crossing) (w 
     ways = λ x y pair. way x y pair (cases_eq x (node_of e)) (is_taken x y);
     cross = λ x y pair. crossing_now x y pair (cases_eq x (node_of e)) (is_taken x y);
     sound = λ x y pair. damage x y (cases_eq x (node_of e)) ∙ shows.sound x y pair;
+    silent = λ x y pair seen. nothing_out x y pair (cases_eq x (node_of e)) (ap (λ (f : Node → Bool). f (name_at config y)) (sym (still x)) ∙ seen);
   }
     where
+      nothing_out : (x y : ℕ) → is_pair (length config) x y ≡ true → (x ≡ node_of e) ⊎ (x ≢ node_of e) → (w.node x).state.lost (name_at config y) ≡ true → (link_at crossing2 x y).outbox ≡ []
+      nothing_out x y pair (inl d) seen =
+          let own : is_pair (length config) (node_of e) y ≡ true = subst (λ k. is_pair (length config) k y ≡ true) d pair in
+          let known : (w.node (node_of e)).state.lost (name_at config y) ≡ true = subst (λ k. (w.node k).state.lost (name_at config y) ≡ true) d seen in
+          subst (λ k. (link_at crossing2 k y).outbox ≡ []) (sym d)
+          (acts.out (peer_place (node_of e) y) ∙ ((λ j. shows.silent (node_of e) y own known j ++ frames_to sends (peer_place (node_of e) y))
+          ∙ (frames_sent sends (peer_place (node_of e) y) ∙ ap (λ ps. frames_of written_of (map packet_as ps)) (quiet y own known))))
+      nothing_out x y pair (inr n) seen = ap (λ (l : Link). l.outbox) (acts.elsewhere x n (peer_place x y)) ∙ shows.silent x y pair seen
+
       way : (x y : ℕ) → is_pair (length config) x y ≡ true → (x ≡ node_of e) ⊎ (x ≢ node_of e) → Takes e x y ⊎ (Takes e x y → ⊥) → IsOnWay (is_lost lost y) (is_lost lost x) (packets_between v x y) (bytes_at crossing2 x y)
       way x y pair (inl d) t = subst (λ k. IsOnWay (is_lost lost y) (is_lost lost k) (packets_between v k y) (bytes_at crossing2 k y)) (sym d) (own_way y (subst (λ k. is_pair (length config) k y ≡ true) d pair))
       way x y pair (inr n) (inl t) = taken_way x y n t

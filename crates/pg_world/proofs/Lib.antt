@@ -1,9 +1,11 @@
+mod Changed
 pub mod Crossed
 mod Cutting
 mod Harmless
 mod Linked
 mod Passing
 mod Past
+mod Silent
 mod over_bytes
 pub use Rattle.pg_world_packets.proofs.PgFrame
 pub use Rattle.pg_world_packets.proofs as PgWorldPackets

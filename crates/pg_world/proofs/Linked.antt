@@ -13,15 +13,16 @@ use Rattle.pg_world_packets.specs.PgGroup.declared.table.GroupTable.{Ghosts}
 use Rattle.pg_world_packets.specs.PgRing.MemRing.{RingBytes, Grows, Loses, HasRoomFor, HasUnread}
 use Rattle.pg_world_packets.specs.PgMessageTypes.declared.packet.Packet.{Packet}
 use Rattle.pg_world_packets.specs.PgStep.Machines.Places.{is_pair}
-use Rattle.pg_world_packets.specs.PgStep.Machines.Machine.{Take, Do}
+use Rattle.pg_world_packets.specs.PgStep.Machines.Machine.{Event, Take, Do, node_of as place_of}
 use Rattle.pg_world_packets.specs.PgFrame.Pieces.{ring_put, pull}
 use Rattle.pg_world_packets.specs.PgStep.Step.{Action}
 use Rattle.pg_node.specs.declared.node.Node.{Node}
 use Rattle.pg_world_packets.specs.PgNodeState.declared.state.fault.NodeFault.{NodeFault}
 use Rattle.pg_world_packets.specs.PgNodeState.declared.state.fault.NodeFault.TheVariants.{OutOfMemory}
-use Rattle.pg_node.specs.Bytes.{passed}
+use Rattle.pg_node.specs.Bytes.{closed, passed}
 use Rattle.pg_node.specs.Links.{Link, idle_link, at_link, with_fed, without_front}
 use Rattle.pg_node.specs.Nodes.{held_by, links_of, sent_out}
+use Rattle.pg_world_packets.specs.PgNodeSends.Frames.{frames_to}
 use Rattle.pg_world_packets.specs.PgNodeState.Issued.{ports_of}
 use Rattle.pg_world_packets.specs.PgNodeState.States.{names_of, state_of, answers_of}
 use Rattle.pg_world.specs.declared.rings.Rings.{Rings}
@@ -31,7 +32,7 @@ use Rattle.pg_world.specs.Crossings.{Crossing, bytes_of, bytes_at, node_of, cros
 use Rattle.pg_world_packets.specs.PgWorldConfig.Seen.{Seen, seen_of}
 use Rattle.pg_world_packets.specs.Views.{peer_place}
 use Rattle.pg_world_packets.specs.Worlds.{has_port}
-use Rattle.pg_world.specs.Changes.{Moves, put_count, pull_count, ChangesAlone, links_at}
+use Rattle.pg_world.specs.Changes.{Moves, put_count, pull_count, ChangesAlone, SendsOn, links_at}
 use Rattle.pg_world.proofs.Crossed.{Acts}
 use Rattle.pg_world_packets.proofs.Ported.{test_of}
 use Rattle.pg_world_packets.proofs.Peering.{place_within, peers_differ}
@@ -343,8 +344,19 @@ module _ {T : Type 0} {g : Ghosts T} (nodes : List (Node T g)) (rings : List Rin
     rings = refl;
   }
 
-pub unchanged : (i : ℕ) (crossing : Crossing) → ChangesAlone i crossing crossing
-unchanged i crossing = record { nodes = λ x n. refl; links = λ x n. refl; rings = refl }
+  -- it sends
+  pub sends_on : (node2 : Node T g) (e : Event Action) (sends : List (ℕ × Packet)) → i ≡ place_of e → Acts (crossing_in nodes rings) (crossing_in (slice_set nodes i node2) rings) e sends
+      → SendsOn i (crossing_in nodes rings) (crossing_in (slice_set nodes i node2) rings)
+  sends_on node2 e sends is acts = record {
+    alone = alone node2;
+    more = frames_to sends;
+    behind = λ k. subst (λ x. (links_at (crossing_in (slice_set nodes i node2) rings) x k).outbox ≡ (links_at (crossing_in nodes rings) x k).outbox ++ frames_to sends k) (sym is) (acts.out k);
+  }
+
+  -- it closes its link to a peer
+  pub closes : (k : ℕ) (node node2 : Node T g) → i < length nodes → node ≡ get_or nodes i node → links_of node2 ≡ at_link k closed (links_of node)
+      → links_at (crossing_in (slice_set nodes i node2) rings) i ≡ at_link k closed (links_at (crossing_in nodes rings) i)
+  closes k node node2 l at links = links_now nodes rings rings i node2 l ∙ (links ∙ ap (at_link k closed) (sym (links_here nodes rings i node l at)))
 
 -- ---- what stays
 

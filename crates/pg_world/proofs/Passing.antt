@@ -1,5 +1,5 @@
 -- A packet that a node takes off the bytes that came.
-use Rattle.std.proofs.Common.{◌≡◌, ◌≢◌, ◌+◌, ℕ, Bool, true, false, ◌||◌, cond, nat_eq, map, length, List, []}
+use Rattle.std.proofs.Common.{◌≡◌, ◌≢◌, ◌+◌, ℕ, Bool, true, false, not, ◌||◌, cond, nat_eq, map, length, List, []}
 use Rattle.std.proofs.Common.{◌∷◌, Option, Some, None, Result, Ok, Err, refl, sym, ap, ◌∙◌, inl, inr, ◌⊎◌, subst}
 use Rattle.std.specs.Prelude.{slice_get, slice_set}
 use Rattle.std.specs.List.{AllByRecursion}
@@ -13,7 +13,7 @@ use Rattle.pg_world_packets.specs.PgMessageTypes.declared.message.Message.{Messa
 use Rattle.pg_world_packets.specs.PgMessageTypes.declared.packet.Packet.{Packet}
 use Rattle.pg_world_packets.specs.PgMessageTypes.Reading.{packet_spelled}
 use Rattle.pg_world_packets.specs.PgStep.Machines.Places.{is_pair}
-use Rattle.pg_world_packets.specs.PgStep.Machines.Machine.{Event, Take, Do}
+use Rattle.pg_world_packets.specs.PgStep.Machines.Machine.{Event, Take, Do, happens}
 use Rattle.pg_world_packets.specs.PgStep.Machines.Clocked.{Timed, Stamped}
 use Rattle.pg_world_packets.specs.PgFrame.Pieces.{piece_taken as bytes_taken}
 use Rattle.pg_world_packets.specs.PgNodeOpens.Places.{whole_in, name_at as place_name}
@@ -21,7 +21,8 @@ use Rattle.pg_world_packets.specs.PgStep.declared.answer.Answer.{Answer}
 use Rattle.pg_world_packets.specs.PgStep.declared.refusal.Refusal.{Refusal}
 use Rattle.pg_world_packets.specs.PgStep.declared.refusal.Refusal.TheVariants.{NotAMessage, NoSuchPlace, NotWaiting}
 use Rattle.pg_world_packets.specs.PgStep.declared.refusal.Refusal.TheVariants.{NodeLost, NotDrained, ClockFull, NotLost}
-use Rattle.pg_world_packets.specs.PgStep.Config.{Config}
+use Rattle.pg_world_packets.specs.PgStep.Config.{Config, name_at}
+use Rattle.pg_world_packets.specs.PgStep.FrameMachine.{frame_machine}
 use Rattle.pg_world_packets.specs.PgStep.State.{State}
 use Rattle.pg_world_packets.specs.PgStep.Step.{Action, TimedTurn, step_take, step_act}
 use Rattle.pg_world_packets.specs.PgNodeSends.contracts.framing.FramedOutgoing.TheImpl as frames
@@ -47,9 +48,12 @@ use Rattle.pg_world_packets.specs.PgWorldAccount.Histories.{update_asked_by}
 use Rattle.pg_world_packets.specs.PgWorldConfig.Seen.{Seen}
 use Rattle.pg_world_packets.specs.Views.{peer_place}
 use Rattle.pg_world_packets.specs.PgWorldAccount.Histories.{Account}
-use Rattle.pg_world_packets.specs.Worlds.{TimedFrameWorld, ComesTo}
+use Rattle.pg_world_packets.specs.Worlds.{TimedFrameWorld, ShowsNode, ComesTo}
 use Rattle.pg_world.proofs.Crossed.{Acts, all_short, event_shown}
 use Rattle.pg_world.proofs.Past.{Adds, ReadsFirst, ReadsLawful}
+use Rattle.pg_world.proofs.Silent.{acts_silent, takes_silent}
+use Rattle.pg_world_packets.proofs.PgStep.Machines.Steps.{happened}
+use Rattle.pg_world_packets.proofs.Lossy.{lost_kept}
 use Rattle.pg_world_packets.proofs.Recording.{Grew, updates_after}
 use Rattle.pg_world_packets.proofs.Turning.{Left, pair_turned, pair_there, own_left}
 use Rattle.pg_world_packets.proofs.Turning.{own_refused, taken_refused, taken_told, take_left}
@@ -146,9 +150,10 @@ module _ (config : Config) (lost : List ℕ) (crossing : Crossing) (w : TimedFra
 -- ---- what an event leaves
 
 -- what came of an event, from what it comes to with the world that it leaves
-happened_as : (config : Config) (w : TimedFrameWorld) (e : Event Action) (did effect : Effect) → effect ≡ did → (One Other : TimedFrameWorld → Type 0) → ((v : TimedFrameWorld) → One v → Other v)
+happened_as : (config : Config) (w : TimedFrameWorld) (e : Event Action) (did effect : Effect) → effect ≡ did → (One Other : TimedFrameWorld → Type 0)
+    → ((v : TimedFrameWorld) → happens (frame_machine config) w e ≡ Some v → One v → Other v)
     → ComesTo config w e (Ok (Happened did)) One → EventComesTo config w e (Ok (Happened effect)) Other
-happened_as config w e did effect same One Other f (made, (v, happened, one)) = (made ∙ ap Some (sym same), (v, happened, f v one))
+happened_as config w e did effect same One Other f (made, (v, is, one)) = (made ∙ ap Some (sym same), (v, is, f v is one))
 
 module _ (config : Config) (lost : List ℕ) (crossing crossing2 : Crossing) (account account2 : Account) (w : TimedFrameWorld) (shows : ShowsBytesPast config lost crossing account w) (adds : Adds) where
   -- something of its own
@@ -160,10 +165,15 @@ module _ (config : Config) (lost : List ℕ) (crossing crossing2 : Crossing) (ac
     own_shown comes = happened_as config w (Do i action) (effect_by done) effect did _ _ whole
         (own_left config crossing.nodes w i action node shows.traffic.nodes here crossing2.nodes after done set names ports fits comes)
       where
-        whole : (v : TimedFrameWorld) → Left config crossing2.nodes (Do i action) (listed_of done.sends) None done.began w v → ShowsBytesPast config lost crossing2 account2 v
-        whole v left = record {
+        its : ShowsNode config w i node
+        its = shows.traffic.nodes.each i node here
+
+        whole : (v : TimedFrameWorld) → happens (frame_machine config) w (Do i action) ≡ Some v → Left config crossing2.nodes (Do i action) (listed_of done.sends) None done.began w v → ShowsBytesPast config lost crossing2 account2 v
+        whole v is left = record {
           traffic = event_shown config lost crossing crossing2 w v (Do i action) (listed_of done.sends) shows.traffic stays acts left.ways small adds
-              (λ x y t. absurd t) (λ x y. inr (λ t. t)) (λ x y t. absurd t) left.nodes;
+              (λ x y t. absurd t) (λ x y. inr (λ t. t)) (λ x y t. absurd t) (lost_kept config lost w v (Do i action) (happened (frame_machine config) w v (Do i action) is))
+              (λ y to seen. acts_silent config shows.traffic.nodes.apart i y to node.names its.names node.state after.state (ap (λ (s : Timed State). s.state.lost (name_at config y)) (sym its.state) ∙ seen)
+              done fits node.answers after.answers node.ports action comes) left.nodes;
           updates = updates_after account account2 w v i None done.began shows.updates grew left.records;
         }
 
@@ -189,10 +199,15 @@ module _ (config : Config) (lost : List ℕ) (crossing crossing2 : Crossing) (ac
               go (inr n) d = inr (λ both. n both.0)
               go (inl e) (inr n) = inr (λ both. n both.1)
 
-          whole : (v : TimedFrameWorld) → Left config crossing2.nodes (Take i p) (listed_of done.sends) (update_asked_by packet.message) done.began w v → ShowsBytesPast config lost crossing2 account2 v
-          whole v left = record {
+          its : ShowsNode config w i node
+          its = shows.traffic.nodes.each i node here
+
+          whole : (v : TimedFrameWorld) → happens (frame_machine config) w (Take i p) ≡ Some v → Left config crossing2.nodes (Take i p) (listed_of done.sends) (update_asked_by packet.message) done.began w v → ShowsBytesPast config lost crossing2 account2 v
+          whole v is left = record {
             traffic = event_shown config lost crossing crossing2 w v (Take i p) (listed_of done.sends) shows.traffic stays acts left.ways small adds
-                takes is_taken (λ x y t. sym t.1) left.nodes;
+                takes is_taken (λ x y t. sym t.1) (lost_kept config lost w v (Take i p) (happened (frame_machine config) w v (Take i p) is))
+                (λ y to seen. takes_silent config shows.traffic.nodes.apart i y to node.names its.names node.state after.state (ap (λ (s : Timed State). s.state.lost (name_at config y)) (sym its.state) ∙ seen)
+                done fits node.answers after.answers p (pair_there config crossing.nodes w i p shows.traffic.nodes pair) (stamped_of packet) comes) left.nodes;
             updates = updates_after account account2 w v i (update_asked_by packet.message) done.began shows.updates grew left.records;
           }
 
@@ -239,6 +254,21 @@ module _ (config : Config) (lost : List ℕ) (crossing : Crossing) (w : TimedFra
     take_err FrameTooLong comes shown = refused_by FrameTooLong comes
     take_err Damaged comes shown = refused_by Damaged comes
 
+    -- so no fault of what was read damages the link
+    pub take_harmless : (fault : NodeFault) → Comes {h = frames.ghosts} node.names (step_take (whole_in node.names) (place_name node.names (peer_place i p + 1)) (stamped_of packet) node.state) (Err fault) s node.answers after
+        → not (damages fault) ≡ true
+    take_harmless OutOfMemory comes = refl
+    take_harmless (Refused NotAMessage) comes = absurd (never comes)
+    take_harmless (Refused NoSuchPlace) comes = refl
+    take_harmless (Refused NotWaiting) comes = refl
+    take_harmless (Refused NodeLost) comes = refl
+    take_harmless (Refused NotDrained) comes = refl
+    take_harmless (Refused ClockFull) comes = refl
+    take_harmless (Refused NotLost) comes = refl
+    take_harmless (BadMessage fault) comes = absurd (refused_by (BadMessage fault) comes)
+    take_harmless FrameTooLong comes = absurd (refused_by FrameTooLong comes)
+    take_harmless Damaged comes = refl
+
 -- ---- what is read
 
 pub tells_ok : (told : Result (Option Packet) NodeFault) (some : Option Packet) → ReadsNext told (Ok some) → told ≡ Ok some
@@ -267,3 +297,10 @@ only_memory None fault h = absurd (cc)
 -- what came of a packet that could not be read
 pub unread_err : (config : Config) (w : TimedFrameWorld) (e : Event Action) (fault : NodeFault) (Shown : TimedFrameWorld → Type 0) → fault ≡ OutOfMemory → Shown w → EventComesTo config w e (Err fault) Shown
 unread_err config w e fault Shown is shown = subst (λ f. EventComesTo config w e (Err f) Shown) (sym is) shown
+
+-- where a packet is on the way from a node whose loss was not seen, no more than memory is missing
+pub unread_memory : (config : Config) (lost : List ℕ) (crossing : Crossing) (w : TimedFrameWorld) (i p : ℕ) → ShowsPast config lost crossing w → is_pair (length crossing.nodes) i p ≡ true → is_lost lost i ≡ false
+    → ReadsFirst → ReadsLawful → (seen : Bool) (link : Link) → seen ≡ false → link ≡ link_at crossing i p → (fault : NodeFault) → ReadsNext (read_next seen link) (Err fault) → fault ≡ OutOfMemory
+unread_memory config lost crossing w i p shows pair stays law lawful seen link unseen same fault told =
+    let read = readable config lost crossing w i p shows pair stays law lawful in
+    only_memory read.0 fault (subst (λ r. ReadsNext r (Err fault)) (ap next_packet same ∙ read.1) (subst (λ b. ReadsNext (read_next b link) (Err fault)) unseen told))

@@ -32,17 +32,17 @@ put_bar crossing lost x y = first_that_holds ((not (is_pair (length crossing.nod
 abbrev pub pull_bar : Crossing → List ℕ → ℕ → ℕ → Option Refusal
 pull_bar crossing lost y x = first_that_holds ((not (is_pair (length crossing.nodes) x y), NoSuchPlace) ∷ (is_cut_off crossing.nodes lost y x, NodeLost) ∷ [])
 
--- why a loss is not seen, but for a whole frame of the lost node that has come, and a full clock: bytes of it are on the ring
+-- bytes of a peer are on the ring, or a whole frame of it has come
+abbrev pub is_undrained : Crossing → ℕ → ℕ → Bool
+is_undrained crossing i p = has_bytes (bytes_at crossing p i).ring || not (is_drained (link_at crossing i p))
+
+-- why a loss is not seen, but for a full clock
 abbrev pub sight_bar : Crossing → List ℕ → ℕ → ℕ → Option Refusal
 sight_bar crossing lost i p = first_that_holds (
     (not (is_pair (length crossing.nodes) i p), NoSuchPlace)
     ∷ (is_cut_off crossing.nodes lost i p, NodeLost)
     ∷ (not (is_lost lost p), NotLost)
-    ∷ (has_bytes (bytes_at crossing p i).ring, NotDrained) ∷ [])
-
--- bytes of a peer are on the ring, or a whole frame of it has come
-abbrev pub is_undrained : Crossing → ℕ → ℕ → Bool
-is_undrained crossing i p = has_bytes (bytes_at crossing p i).ring || not (is_drained (link_at crossing i p))
+    ∷ (is_undrained crossing i p, NotDrained) ∷ [])
 
 -- a loss is told as not drained there alone
 abbrev pub TellsUndrained : Crossing → FrameStep → Result Stepped NodeFault → Type 0

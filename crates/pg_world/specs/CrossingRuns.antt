@@ -9,6 +9,7 @@ use Rattle.pg_world_packets.specs.PgNodeState.NodeFault.{node_number_of}
 use Rattle.pg_world_packets.specs.PgNodeState.declared.state.fault.NodeFault.{NodeFault}
 use Rattle.pg_world.specs.declared.step.Step.{Step}
 use Rattle.pg_world_packets.specs.declared.step.Stepped.{Stepped}
+use Rattle.pg_world.specs.Bars.{RefusesBarred, StepTellsUndrained, bar_of}
 use Rattle.pg_world.specs.BytesLosing.{ShowsLosingBytes, StepLeaves}
 use Rattle.pg_world_packets.specs.Losing.{IsReachedLosing}
 use Rattle.pg_world.specs.BytesStart.{OpensBytes}
@@ -16,6 +17,7 @@ use Rattle.pg_world.specs.Changes.{StepChanges}
 use Rattle.pg_world.specs.Crossings.{Crossing}
 use Rattle.pg_world_packets.specs.Starts.{Orders}
 use Rattle.pg_world_packets.specs.PgWorldAccount.Histories.{Account}
+use Rattle.pg_world_packets.specs.PgWorldAccount.Losses.{is_lost}
 
 -- the number of what a step did
 abbrev pub number_of : Result Stepped NodeFault → ℕ
@@ -29,11 +31,16 @@ pub record IsShown (config : Config) (crossing : Crossing) (u : LosingFrameWorld
   pub reached : IsReachedLosing config u
   pub shows : ShowsLosingBytes config crossing account lost u
 
--- A step with this number did what it tells: it changed what it has to change, and in the world u, which is shown, came of it what has to
--- come. What it left is shown, and the rest follows from there. The rings have room for so many bytes.
+-- A step with this number did what it tells: it was refused by what bars it, it changed what it has to change, and in the world u, which is
+-- shown, came of it what has to come. What it left is shown, and the rest follows from there. The rings have room for so many bytes.
 pub record Crosses (config : Config) (room : ℕ) (old : Crossing) (u : LosingFrameWorld) (step : Step) (number : ℕ) (Rest : Crossing → LosingFrameWorld → Type 0) : Type 0 where
   pub result : Result Stepped NodeFault
   pub listed : number ≡ number_of result
+  -- the nodes that are lost, and what bars the step there
+  pub lost : List ℕ
+  pub gone : u.gone ≡ is_lost lost
+  pub barred : RefusesBarred (bar_of old lost step) result
+  pub undrained : StepTellsUndrained old step result
   pub new : Crossing
   pub changes : StepChanges room old new step result
   pub leaves : StepLeaves config u step result (λ v. IsShown config new v × Rest new v)

@@ -108,12 +108,13 @@ IsOnWay false true packets bytes = AreCut written_of packets bytes
 IsOnWay false false packets bytes = ArePackets written_of packets bytes
 
 -- The nodes of a frame world are as they are seen, and what is on the way there is what the bytes on the way are, all of which
--- can cross, where these nodes are lost. No link is damaged.
+-- can cross, where these nodes are lost. No link is damaged, and nothing goes out from a node to one whose loss it has seen.
 pub record ShowsPast (config : Config) (lost : List ℕ) (crossing : Crossing) (w : TimedFrameWorld) : Type 0 where
   pub nodes : ShowsNodes config crossing.nodes w
   pub ways : (x y : ℕ) → is_pair (length config) x y ≡ true → IsOnWay (is_lost lost y) (is_lost lost x) (packets_between w x y) (bytes_at crossing x y)
   pub cross : (x y : ℕ) → is_pair (length config) x y ≡ true → AllByRecursion CanCross (packets_between w x y)
   pub sound : (x y : ℕ) → is_pair (length config) x y ≡ true → (link_at crossing x y).damaged ≡ false
+  pub silent : (x y : ℕ) → is_pair (length config) x y ≡ true → (w.node x).state.lost (name_at config y) ≡ true → (link_at crossing x y).outbox ≡ []
 
 -- the same with its updates
 pub record ShowsBytesPast (config : Config) (lost : List ℕ) (crossing : Crossing) (account : Account) (w : TimedFrameWorld) : Type 0 where

@@ -72,7 +72,7 @@ impl<T: GroupTable + Drop> World<T> {
     ghost use Rattle.pg_world.specs.BytesLosing.{ShowsLosingBytes, StepLeaves};
     ghost use Rattle.pg_world_packets.specs.Losing.{IsReachedLosing};
     ghost use Rattle.pg_world.specs.ByteWorlds.{account_of, crossing_of, given_of, lost_of, room_of};
-    ghost use Rattle.pg_node.specs.Nodes.{held_by, links_of};
+    ghost use Rattle.pg_node.specs.Nodes.{has_lost, held_by, links_of};
     ghost use Rattle.pg_world_packets.specs.PgNodeState.States.{names_of};
     ghost use Rattle.pg_world.specs.Changes.{StepChanges};
     ghost use Rattle.pg_world.specs.Crossings.{node_of, ShowsCrossing, ShowsBytes, StepComesTo};
@@ -85,13 +85,15 @@ impl<T: GroupTable + Drop> World<T> {
     ghost use Rattle.pg_world_packets.specs.Pending.{AgreeOn, pending_of, sees_free};
     ghost use Rattle.pg_world_packets.specs.Worlds.{TimedFrameWorld};
 
-    /// The node at a place, with its links, of which none is damaged.
+    /// The node at a place, with its links, of which none is damaged. To a peer whose loss it has seen nothing goes out any more.
     ///
     /// Cost: no memory.
     pub fn node(&self, place: usize) -> Option<&Node<T>>
         ensures node { option_map node_of (option_copied result) ≡ slice_get (crossing_of self.now).nodes place }
         ensures links { option_map links_of (option_copied result) ≡ slice_get (crossing_of self.now).links place }
         ensures sound { IfSome result (λ node. (peer : ℕ) → peer + 1 < length (names_of (held_by node.now)) → (links_of node.now peer).damaged ≡ false) }
+        ensures silent { IfSome result (λ node. (peer : ℕ) → peer + 1 < length (names_of (held_by node.now)) → has_lost (held_by node.now) peer ≡ true
+            → (links_of node.now peer).outbox ≡ []) }
     {
         self.bytes.node(place)
     }
@@ -208,10 +210,10 @@ impl<T: GroupTable + Drop> World<T> {
     /// happens is the event of the frame machine there, and the world shows what it leaves; bytes that move leave the
     /// frame world as it is.
     ///
-    /// Errors, by which the frame world stays, the first that holds: `Refused` by `NoSuchPlace` where a node, a port
-    /// or a peer is not there, or a node and its peer are one; those of `NodeState::take`, `command` and `retry`, of
-    /// which `NotAMessage` never comes; `OutOfMemory` may come in the place of each, but not of `NoSuchPlace`, `NodeLost`,
-    /// `NotLost` or `NotDrained`. No link is ever damaged.
+    /// Errors, which change nothing, the first that holds: `Refused` by `NoSuchPlace` where a node, a port or a peer
+    /// is not there, or a node and its peer are one; those of `NodeState::take`, once the whole frame has come, and of
+    /// `command` and `retry`, of which `NotAMessage` never comes; `OutOfMemory` may come in the place of each, but not of
+    /// `NoSuchPlace`, `NodeLost`, `NotLost` or `NotDrained`. No link is ever damaged.
     ///
     /// Where nodes are lost, the same holds of whatever world with losses the world shows, as events lead to it from
     /// the start: a step is the event of the machine with losses. A step of a node that is lost, and a put from it,

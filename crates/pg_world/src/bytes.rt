@@ -62,7 +62,8 @@ impl<T: GroupTable + Drop> ByteNodes<T> {
     ghost use Rattle.pg_world_packets.specs.Worlds.{has_port, has_places, TimedFrameWorld};
     ghost use Rattle.pg_world_packets.specs.PgWorldAccount.Histories.{no_account};
     ghost use Rattle.pg_world.specs.Changes.{Moves, put_count, pull_count, MoveChanges};
-    ghost use Rattle.pg_world.specs.Changes.{EventChanges, FrameChanges, StepChanges};
+    ghost use Rattle.pg_world.specs.Changes.{TakeChanges, OwnChanges, FrameChanges, StepChanges};
+    ghost use Rattle.pg_world.specs.Changes.{is_harmless, spares, spares_links};
     ghost use Rattle.pg_world_packets.specs.PgFrame.Pieces.{ring_put, pull};
     ghost use Rattle.pg_world.specs.Crossings.{crossing_of, node_of, room_of, idle_crossing, link_at};
     ghost use Rattle.pg_world.specs.Crossings.{bytes_at, IsWelcome, ShowsPast, ShowsBytes};
@@ -107,10 +108,10 @@ impl<T: GroupTable + Drop> ByteNodes<T> {
     /// an event that happens is the event of the frame machine there, and the world shows what it leaves; bytes that
     /// move leave the frame world as it is.
     ///
-    /// Errors, by which the frame world stays, the first that holds: `Refused` by `NoSuchPlace` where a node, a port
-    /// or a peer is not there, or a node and its peer are one; those of `NodeState::take`, `command` and `retry`, of
-    /// which `NotAMessage` never comes; `OutOfMemory` may come in the place of each, but not of `NoSuchPlace`, `NodeLost`,
-    /// `NotLost` or `NotDrained`. No link is ever damaged.
+    /// Errors, which change nothing, the first that holds: `Refused` by `NoSuchPlace` where a node, a port or a peer
+    /// is not there, or a node and its peer are one; those of `NodeState::take`, once the whole frame has come, and of
+    /// `command` and `retry`, of which `NotAMessage` never comes; `OutOfMemory` may come in the place of each, but not of
+    /// `NoSuchPlace`, `NodeLost`, `NotLost` or `NotDrained`. No link is ever damaged: none of the faults does that.
     ///
     /// Where nodes are lost, the same holds of whatever world with losses the world shows, as events lead to it from
     /// the start: a step is the event of the machine with losses. A step of a node that is lost, and a put from it,
@@ -124,7 +125,9 @@ impl<T: GroupTable + Drop> ByteNodes<T> {
         ensures losing { (config : Config) (u : LosingFrameWorld) → IsReachedLosing config u
             → ShowsLosingBytes config (crossing_of self.old) (account_of self.old.histories) (lost_in self.old.losses) u
             → StepLeaves config u step.now result (ShowsLosingBytes config (crossing_of self.new) (account_of self.new.histories) (lost_in self.new.losses)) }
-        ensures changes { StepChanges (room_of self.old) (crossing_of self.old) (crossing_of self.new) step.now result }
+        ensures harmless { (config : Config) (u : LosingFrameWorld) → IsReachedLosing config u
+            → ShowsLosingBytes config (crossing_of self.old) (account_of self.old.histories) (lost_in self.old.losses) u → spares_links step.now result ≡ true }
+        ensures changes { spares_links step.now result ≡ true → StepChanges (room_of self.old) (crossing_of self.old) (crossing_of self.new) step.now result }
         ensures barred { RefusesBarred (bar_of (crossing_of self.old) (lost_in self.old.losses) step.now) result }
         ensures undrained { StepTellsUndrained (crossing_of self.old) step.now result }
         ensures lost { lost_in self.new.losses ≡ bytes_lost_after step.now result (lost_in self.old.losses) }
@@ -229,7 +232,9 @@ impl<T: GroupTable + Drop> ByteNodes<T> {
         ensures losing { (config : Config) (u : LosingFrameWorld) → IsReachedLosing config u
             → ShowsLosingBytes config (crossing_of self.old) (account_of self.old.histories) (lost_in self.old.losses) u
             → EventLeaves config u event.now result (ShowsLosingBytes config (crossing_of self.new) (account_of self.new.histories) (lost_in self.new.losses)) }
-        ensures changes { FrameChanges (crossing_of self.old) (crossing_of self.new) event.now result }
+        ensures harmless { (config : Config) (u : LosingFrameWorld) → IsReachedLosing config u
+            → ShowsLosingBytes config (crossing_of self.old) (account_of self.old.histories) (lost_in self.old.losses) u → spares event.now result ≡ true }
+        ensures changes { spares event.now result ≡ true → FrameChanges (crossing_of self.old) (crossing_of self.new) event.now result }
         ensures barred { RefusesBarred (event_bar (crossing_of self.old) (lost_in self.old.losses) event.now) result }
         ensures undrained { TellsUndrained (crossing_of self.old) event.now result }
         ensures lost { lost_in self.new.losses ≡ lost_after event.now result (lost_in self.old.losses) }
@@ -309,7 +314,9 @@ impl<T: GroupTable + Drop> ByteNodes<T> {
         ensures event { (config : Config) (lost : List ℕ) (w : TimedFrameWorld) → is_lost lost node ≡ false → (w.node node).state.lost (name_at config peer) ≡ false → IsWelcome config w node peer
             → ShowsBytesPast config lost (crossing_of self.old) (account_of self.old.histories) w
             → EventComesTo config w (Take node peer) result (ShowsBytesPast config lost (crossing_of self.new) (account_of self.new.histories)) }
-        ensures changes { EventChanges (crossing_of self.old) (crossing_of self.new) (Take node peer) result }
+        ensures harmless { (config : Config) (lost : List ℕ) (w : TimedFrameWorld) → is_lost lost node ≡ false → (w.node node).state.lost (name_at config peer) ≡ false → IsWelcome config w node peer
+            → ShowsBytesPast config lost (crossing_of self.old) (account_of self.old.histories) w → is_harmless result ≡ true }
+        ensures changes { is_harmless result ≡ true → TakeChanges (crossing_of self.old) (crossing_of self.new) node peer result }
         ensures formed { self.new.histories.formed ≡ self.old.histories.formed }
         ensures lost { lost_in self.new.losses ≡ lost_in self.old.losses }
         ensures room { room_of self.new ≡ room_of self.old }
@@ -341,7 +348,9 @@ impl<T: GroupTable + Drop> ByteNodes<T> {
         ensures event { (config : Config) (lost : List ℕ) (w : TimedFrameWorld) → is_lost lost node ≡ false → IsWelcome config w node peer
             → ShowsBytesPast config lost (crossing_of self.old) (account_of self.old.histories) w
             → EventComesTo config w (Take node peer) result (ShowsBytesPast config lost (crossing_of self.new) (account_of self.new.histories)) }
-        ensures changes { EventChanges (crossing_of self.old) (crossing_of self.new) (Take node peer) result }
+        ensures harmless { (config : Config) (lost : List ℕ) (w : TimedFrameWorld) → is_lost lost node ≡ false → IsWelcome config w node peer
+            → ShowsBytesPast config lost (crossing_of self.old) (account_of self.old.histories) w → is_harmless result ≡ true }
+        ensures changes { is_harmless result ≡ true → TakeChanges (crossing_of self.old) (crossing_of self.new) node peer result }
         ensures formed { self.new.histories.formed ≡ self.old.histories.formed }
         ensures lost { lost_in self.new.losses ≡ lost_in self.old.losses }
         ensures room { room_of self.new ≡ room_of self.old }
@@ -361,7 +370,9 @@ impl<T: GroupTable + Drop> ByteNodes<T> {
         ensures event { (config : Config) (lost : List ℕ) (w : TimedFrameWorld) → is_lost lost node ≡ false → IsWelcome config w node peer
             → ShowsBytesPast config lost (crossing_of self.old) (account_of self.old.histories) w
             → EventComesTo config w (Take node peer) result (ShowsBytesPast config lost (crossing_of self.new) (account_of self.new.histories)) }
-        ensures changes { EventChanges (crossing_of self.old) (crossing_of self.new) (Take node peer) result }
+        ensures harmless { (config : Config) (lost : List ℕ) (w : TimedFrameWorld) → is_lost lost node ≡ false → IsWelcome config w node peer
+            → ShowsBytesPast config lost (crossing_of self.old) (account_of self.old.histories) w → is_harmless result ≡ true }
+        ensures changes { is_harmless result ≡ true → TakeChanges (crossing_of self.old) (crossing_of self.new) node peer result }
         ensures formed { self.new.histories.formed ≡ self.old.histories.formed }
         ensures lost { lost_in self.new.losses ≡ lost_in self.old.losses }
         ensures room { room_of self.new ≡ room_of self.old }
@@ -392,7 +403,7 @@ impl<T: GroupTable + Drop> ByteNodes<T> {
         ensures event { (config : Config) (lost : List ℕ) (w : TimedFrameWorld) → is_lost lost node ≡ false
             → ShowsBytesPast config lost (crossing_of self.old) (account_of self.old.histories) w
             → EventComesTo config w (Do node (Issue port command.now)) result (ShowsBytesPast config lost (crossing_of self.new) (account_of self.new.histories)) }
-        ensures changes { EventChanges (crossing_of self.old) (crossing_of self.new) (Do node (Issue port command.now)) result }
+        ensures changes { OwnChanges (crossing_of self.old) (crossing_of self.new) node result }
         ensures formed { self.new.histories.formed ≡ self.old.histories.formed }
         ensures lost { lost_in self.new.losses ≡ lost_in self.old.losses }
         ensures room { room_of self.new ≡ room_of self.old }
@@ -416,7 +427,7 @@ impl<T: GroupTable + Drop> ByteNodes<T> {
         ensures event { (config : Config) (lost : List ℕ) (w : TimedFrameWorld) → is_lost lost node ≡ false
             → ShowsBytesPast config lost (crossing_of self.old) (account_of self.old.histories) w
             → EventComesTo config w (Do node (Retry op)) result (ShowsBytesPast config lost (crossing_of self.new) (account_of self.new.histories)) }
-        ensures changes { EventChanges (crossing_of self.old) (crossing_of self.new) (Do node (Retry op)) result }
+        ensures changes { OwnChanges (crossing_of self.old) (crossing_of self.new) node result }
         ensures formed { self.new.histories.formed ≡ self.old.histories.formed }
         ensures lost { lost_in self.new.losses ≡ lost_in self.old.losses }
         ensures room { room_of self.new ≡ room_of self.old }

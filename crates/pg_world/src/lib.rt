@@ -20,7 +20,7 @@ pub use pg_world_packets::{
     GroupTable, IndexTable, MAX_NODES, MAX_PORTS, Message, MessageFault, OpId, Packet, RefFault,
     RefSource, Refusal, Reply, Request, Said, Scope, Start, Stepped, Update, WorldFault,
     configs_are_decided, decode, each_world_past_losses, encode, encode_into,
-    ended_processes_were_finished, ended_processes_were_finished_past_losses,
+    ended_processes_were_finished, ended_processes_were_finished_past_losses, fault_or_memory,
     first_packets_were_welcome, frame_into, long_groups_do_not_fit, losing_nodes_keep_time,
     no_loss_is_seen, nodes_keep_time, nodes_that_heard_the_lost_agree, one_history,
     orders_keep_tables, packet_len, pending_ends_are_listed, pieces_continue, refusals_are_exact,

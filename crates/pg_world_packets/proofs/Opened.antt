@@ -1,5 +1,5 @@
 -- What nodes tell as they begin: its names can be sent, and it fits, or a world can't begin.
-use Rattle.std.proofs.Common.{◌≡◌, ◌≤◌, ◌<◌, ◌-◌, ◌^◌, ℕ, zero, suc, Bool, true, false, cond, ◌||◌}
+use Rattle.std.proofs.Common.{◌≡◌, ◌≢◌, ◌≤◌, ◌<◌, ◌-◌, ◌^◌, ℕ, zero, suc, Bool, true, false, cond, ◌||◌}
 use Rattle.std.proofs.Common.{◌&&◌, nat_le, inl, inr, map, get_or, length, List, [], ◌∷◌, Option}
 use Rattle.std.proofs.Common.{Some, None, Result, Ok, Err, refl, sym, ap, ◌∙◌, subst, arith}
 use Rattle.std.specs.Prelude.{slice_get, option_map, IfOk, IfErr, OnOk, is_some}
@@ -26,11 +26,11 @@ use Rattle.pg_world_config.specs.declared.fault.WorldFault.TheVariants.{BadConfi
 use Rattle.pg_world_config.specs.declared.fault.WorldFault.TheVariants.{BadCapacity, TooLong, OutOfMemory}
 use Rattle.pg_world_config.specs.Configs.{is_config, is_capacity, are_names, have_names, refusal_of, IsAsTold}
 use Rattle.pg_world_packets.specs.Openings.{AreReady, SomeIsTooLong, are_few, have_few, TellsNames}
-use Rattle.pg_world_packets.specs.Openings.{FitsOpening, IsTooLong, AllFit, SomeCantOpen, CantBegin, CantStart}
+use Rattle.pg_world_packets.specs.Openings.{FitsOpening, IsTooLong, AllFit, SomeCantOpen, CanBegin, CantBegin, CantStart}
 use Rattle.pg_world_config.specs.Firsts.{firsts, seen_first}
 use Rattle.pg_world_packets.specs.Starts.{AllOpen}
 use Rattle.pg_world_config.specs.Seen.{Seen, seen_of}
-use Rattle.pg_world_config.proofs.Deciding.{both, left, right, passes, names_passed}
+use Rattle.pg_world_config.proofs.Deciding.{both, left, right, passes, passed, names_passed}
 use Rattle.pg_world_packets.proofs.Ordered.{first_told}
 use Rattle.pg_world_config.proofs.Starting.{firsts_are, firsts_length}
 
@@ -159,16 +159,20 @@ too_many config e = let found = some_many config e in (found.0, found.1, inr fou
 
 -- ---- why a world can't begin
 
-cant_either : (ring : ℕ) (config : Config) (fault : WorldFault) → refusal_of ring config ≡ None → CantStart config fault → CantBegin ring config fault
-cant_either ring config OutOfMemory none cant = tt
-cant_either ring config TooLong none cant = (none, cant)
-cant_either ring config BadConfig none cant = absurd cant
-cant_either ring config NameTooLarge none cant = absurd cant
-cant_either ring config BadCapacity none cant = absurd cant
+cant_either : (ring : ℕ) (config : Config) (fault : WorldFault) → refusal_of ring config ≡ None → have_few config ≡ true → CantStart config fault → CantBegin ring config fault
+cant_either ring config OutOfMemory none few cant = (none, few)
+cant_either ring config TooLong none few cant = (none, cant)
+cant_either ring config BadConfig none few cant = absurd cant
+cant_either ring config NameTooLarge none few cant = absurd cant
+cant_either ring config BadCapacity none few cant = absurd cant
 
-pub cant_begin : {X : Type 0} (ring : ℕ) (config : Config) (result : Result X WorldFault) → refusal_of ring config ≡ None → IfErr result (CantStart config) → IfErr result (CantBegin ring config)
-cant_begin ring config (Ok x) none cant = tt
-cant_begin ring config (Err fault) none cant = cant_either ring config fault none cant
+pub cant_begin : {X : Type 0} (ring : ℕ) (config : Config) (result : Result X WorldFault) → refusal_of ring config ≡ None → have_few config ≡ true → IfErr result (CantStart config) → IfErr result (CantBegin ring config)
+cant_begin ring config (Ok x) none few cant = tt
+cant_begin ring config (Err fault) none few cant = cant_either ring config fault none few cant
+
+-- where it can begin, memory alone can be short
+pub can_be_short : (ring : ℕ) (given : Config) → CanBegin ring given → CantBegin ring given OutOfMemory
+can_be_short ring given can = (passed ring given (can.good, can.capacity), can.few)
 
 pub of_ok : {X : Type 0} {P : Type 0} (result : Result X WorldFault) → P → IfOk result (λ x. P)
 of_ok (Ok x) p = p
@@ -183,16 +187,16 @@ never_long false c d e = absurd cc
 same_fault : {X : Type 0} (a b : WorldFault) → ◌≡◌ {A = Result X WorldFault} (Err a) (Err b) → a ≡ b
 same_fault a b e = cc
 
-pub judged : {X : Type 0} (ring : ℕ) (config : Config) (fault : WorldFault) (result : Result X WorldFault) → result ≡ Err fault → IsAsTold (refusal_of ring config) result → CantBegin ring config fault
-judged {X} ring config fault (Ok x) e told = absurd cc
-judged {X} ring config fault (Err other) e told = subst (CantBegin ring config) (same_fault {X = X} other fault e) (of_told other told)
+pub judged : {X : Type 0} (ring : ℕ) (config : Config) (fault : WorldFault) (result : Result X WorldFault) → result ≡ Err fault → IsAsTold (refusal_of ring config) result → result ≢ Err OutOfMemory → CantBegin ring config fault
+judged {X} ring config fault (Ok x) e told never = absurd cc
+judged {X} ring config fault (Err other) e told never = subst (CantBegin ring config) (same_fault {X = X} other fault e) (of_told other told (λ short. never (ap Err short)))
   where
-    of_told : (f : WorldFault) → IsAsTold {X = X} (refusal_of ring config) (Err f) → CantBegin ring config f
-    of_told OutOfMemory t = tt
-    of_told TooLong t = absurd (never_long (is_config config) (have_names config) (is_capacity ring) t)
-    of_told BadConfig t = t
-    of_told NameTooLarge t = t
-    of_told BadCapacity t = t
+    of_told : (f : WorldFault) → IsAsTold {X = X} (refusal_of ring config) (Err f) → f ≢ OutOfMemory → CantBegin ring config f
+    of_told OutOfMemory t other = absurd (other refl)
+    of_told TooLong t other = absurd (never_long (is_config config) (have_names config) (is_capacity ring) t)
+    of_told BadConfig t other = t
+    of_told NameTooLarge t other = t
+    of_told BadCapacity t other = t
 
 -- a configuration that has no fault, in a slice
 module _ (ring : ℕ) (config slice : Config) (same : slice ≡ config) (none : refusal_of ring config ≡ None) where
@@ -214,8 +218,8 @@ module _ (ring : ℕ) (config slice : Config) (same : slice ≡ config) (none : 
   pub good_fits : {X : Type 0} (result : Result X WorldFault) → IfOk result (λ x. AllFit slice) → IfOk result (λ x. AllFit config)
   good_fits {X} result fits = subst (λ (c : Config). IfOk result (λ (x : X). AllFit c)) same fits
 
-  pub good_fault : {X : Type 0} (result : Result X WorldFault) → IfErr result (CantStart slice) → IfErr result (CantBegin ring config)
-  good_fault result cant = cant_begin ring config result none (subst (λ (c : Config). IfErr result (CantStart c)) same cant)
+  pub good_fault : {X : Type 0} (result : Result X WorldFault) → have_few config ≡ true → IfErr result (CantStart slice) → IfErr result (CantBegin ring config)
+  good_fault result few cant = cant_begin ring config result none few (subst (λ (c : Config). IfErr result (CantStart c)) same cant)
 
   pub ready_so : {X : Type 0} (result : Result X WorldFault) → OnOk result (have_few slice ≡ true) → OnOk result (AreReady config)
   ready_so (Ok x) few = subst AreReady same (record { nodes = good.few; apart = good_apart; made = good_made; once = good_once; few = λ i. few_at slice i few; named = good_names })

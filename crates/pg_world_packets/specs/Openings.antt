@@ -83,10 +83,10 @@ pub record CanBegin (ring : ℕ) (given : Config) : Type 0 where
 abbrev pub SomeIsTooLong : Config → Type 0
 SomeIsTooLong config = (i : ℕ) × (i < length config) × (IsTooLong (seen_first config i) ⊎ (are_few (groups_at config i) ≡ false))
 
--- Why a world of a configuration with such rings can't begin: memory ran out; the configuration has no fault, but what a node tells
--- is too long; or this is the first fault of the configuration.
+-- Why a world of a configuration with such rings can't begin: it has no fault and no group of more than 2^32 members, and memory ran
+-- out; it has no fault, but what a node tells is too long; or this is its first fault.
 abbrev pub CantBegin : ℕ → Config → WorldFault → Type 0
-CantBegin ring config OutOfMemory = Unit {0}
+CantBegin ring config OutOfMemory = (refusal_of ring config ≡ None) × (have_few config ≡ true)
 CantBegin ring config TooLong = (refusal_of ring config ≡ None) × SomeIsTooLong config
 CantBegin ring config fault = refusal_of ring config ≡ Some fault
 

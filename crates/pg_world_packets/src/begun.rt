@@ -1,6 +1,6 @@
 //! How a world begins.
 
-ghost use Rattle.std.specs.Prelude.{◌≡◌, [], true, false, None, IfOk, IfErr, OnOk};
+ghost use Rattle.std.specs.Prelude.{◌≡◌, [], true, false, None, IfOk, IfErr, OnOk, length};
 ghost use Rattle.pg_ring.specs.Capacity.{IsCapacity};
 ghost use Rattle.pg_node_state.specs.PgStep.Config.{IsConfig};
 ghost use Rattle.pg_world_config.specs.Configs.{refusal_of};
@@ -11,7 +11,7 @@ use pg_index::IndexTable;
 use pg_node_state::Start;
 use pg_term::{Items, Pid, Term};
 use pg_world_config::{Config, WorldFault, nodes_of};
-use std::alloc::Global;
+use std::alloc::{AllocError, Global};
 
 impl FrameNodes<IndexTable> {
     ghost use Rattle.pg_world_packets.specs.Openings.{AreReady, AllFit, CantBegin, CantStart};
@@ -23,7 +23,8 @@ impl FrameNodes<IndexTable> {
     /// other.
     ///
     /// Errors, the first that holds: those of `Config::check`; `TooLong`, where what a node announces takes more than a
-    /// frame, as a group of more than 2^32 members does; `OutOfMemory` in the place of each.
+    /// frame, as a group of more than 2^32 members does; `OutOfMemory`, which may come in the place of that `TooLong`
+    /// where no group has so many members, and of no fault of `Config::check`.
     ///
     /// Cost: that of `Config::check`, of the groups of each node, once in its table and once for each peer, and for
     /// each node that of all names.
@@ -77,6 +78,34 @@ pub fn ready(alloc: Global, config: &Config) -> Result<(), WorldFault>
     match config.check(alloc) {
         Ok(()) => few_enough(config.starts.as_slice()),
         Err(fault) => Err(fault),
+    }
+}
+
+/// Why no world of a configuration begins where room could not be made: what `ready` tells, whatever memory there is, else
+/// `OutOfMemory`.
+///
+/// Cost: that of `ready`.
+pub fn fault_or_memory(alloc: Global, config: &Config) -> WorldFault
+    ensures { CantBeginWith config.now.ring config.now.starts.items result }
+{
+    match ready(alloc, config) {
+        Ok(()) => WorldFault::OutOfMemory,
+        Err(fault) => fault,
+    }
+}
+
+/// A place for the number of each of so many steps of a world that is to begin.
+///
+/// Errors: those of `fault_or_memory`.
+///
+/// Cost: a byte for each step.
+pub fn places_for(alloc: Global, config: &Config, steps: usize) -> Result<Vec<u8>, WorldFault>
+    ensures len { IfOk result (λ numbers. length numbers.items ≡ steps) }
+    ensures fault { IfErr result (CantBeginWith config.now.ring config.now.starts.items) }
+{
+    match Vec::from_elem(alloc, 0, steps) {
+        Ok(numbers) => Ok(numbers),
+        Err(AllocError) => Err(fault_or_memory(alloc, config)),
     }
 }
 

@@ -38,7 +38,8 @@ impl FrameWorld<IndexTable> {
     /// other.
     ///
     /// Errors, the first that holds: those of `Config::check`; `TooLong`, where what a node announces takes more than a
-    /// frame, as a group of more than 2^32 members does; `OutOfMemory` in the place of each.
+    /// frame, as a group of more than 2^32 members does; `OutOfMemory`, which may come in the place of that `TooLong`
+    /// where no group has so many members, and of no fault of `Config::check`.
     ///
     /// Cost: that of `Config::check`, of the groups of each node, once in its table and once for each peer, and for
     /// each node that of all names.

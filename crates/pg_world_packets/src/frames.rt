@@ -10,6 +10,7 @@ ghost use Rattle.pg_world_packets.specs.Openings.{AllFit, CantBegin};
 ghost use Rattle.pg_world_packets.specs.Runs.{Ran, LosesNone as NoneIsLost, over_packets};
 ghost use Rattle.pg_world_packets.specs.Worlds.{ShowsWorld as shows_frames};
 
+use crate::begun::places_for;
 use crate::frame_world::FrameWorld;
 use crate::step::FrameStep;
 use pg_index::IndexTable;
@@ -99,7 +100,7 @@ pub fn run_frames(
 {
     one_history();
     each_world_past_losses();
-    let mut numbers = Vec::from_elem(alloc, 0, steps.len())?;
+    let mut numbers = places_for(alloc, config, steps.len())?;
     match FrameWorld::new(alloc, config) {
         Ok(begun) => {
             let mut world = begun;

@@ -16,7 +16,7 @@ mod way;
 mod ways;
 mod world;
 
-pub use begun::ready;
+pub use begun::{fault_or_memory, places_for, ready};
 pub use effect::Effect;
 pub use frame_world::FrameWorld;
 pub use frames::run_frames;

@@ -123,7 +123,7 @@ fn shows_one(
     ensures { IfOk result (λ yes. IsTrue yes ↔ (slice_get (view_of_world world.now).traffic.nodes place ≡ Some (node_of node.now))) }
 {
     match world.node(place) {
-        Some(other) => node.state().same(other),
+        Some(other) => node.state().looks_same(other),
         None => Ok(false),
     }
 }

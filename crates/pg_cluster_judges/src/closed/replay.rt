@@ -10,8 +10,8 @@ ghost use Rattle.pg_cluster_judges.specs.Schedule.{seen_step, steps_at, steps_be
 use crate::closed::schedule::{add_with_loss, first_losses};
 use pg_node_run::LogEntry;
 use pg_world::{
-    Config, FrameStep, FrameWorld, IndexTable, WorldFault, each_world_past_losses, one_history,
-    run_frames,
+    Config, FrameStep, FrameWorld, IndexTable, WorldFault, each_world_past_losses, fault_or_memory,
+    one_history, run_frames,
 };
 use std::alloc::{AllocError, Global};
 
@@ -40,7 +40,7 @@ pub(crate) fn replay_all(
 {
     match first_losses(alloc, logs, lost, order) {
         Ok(first) => replay_behind(alloc, config, logs, lost, order, first.as_slice()),
-        Err(AllocError) => Err(WorldFault::OutOfMemory),
+        Err(AllocError) => Err(fault_or_memory(alloc, config)),
     }
 }
 
@@ -61,7 +61,7 @@ fn replay_behind(
         Ok(()) => Ok(replay),
         Err(AllocError) => {
             drop(replay);
-            Err(WorldFault::OutOfMemory)
+            Err(fault_or_memory(alloc, config))
         }
     }
 }

@@ -12,6 +12,7 @@ use Rattle.pg_world_packets.specs.PgStep.LossLaws.{LosingFrameWorld}
 use Rattle.pg_world_packets.specs.PgNodeState.declared.state.fault.NodeFault.{NodeFault}
 use Rattle.pg_world.specs.declared.step.Step.{Step}
 use Rattle.pg_world_packets.specs.declared.step.Stepped.{Stepped}
+use Rattle.pg_world.specs.Bars.{RefusesBarred, StepTellsUndrained, bar_of}
 use Rattle.pg_world.specs.BytesLosing.{ShowsLosingBytes, StepLeaves}
 use Rattle.pg_world_packets.specs.Losing.{IsReachedLosing}
 use Rattle.pg_world.specs.BytesStart.{BytesBegin, OpensBytes}
@@ -28,12 +29,17 @@ reached_near config u v reached (Here same any) = losing_reached_on config u v [
 reached_near config u v reached (Next e happened any) = losing_reached_on config u v (e ∷ []) reached (v, happened, refl)
 
 -- one step
-pub crosses_so : (config : Config) (room : ℕ) (old new : Crossing) (account : Account) (lost : List ℕ) (u : LosingFrameWorld) (step : Step) (result : Result Stepped NodeFault) (number : ℕ) → IsReachedLosing config u
-    → number ≡ number_of result → StepChanges room old new step result → StepLeaves config u step result (ShowsLosingBytes config new account lost)
+pub crosses_so : (config : Config) (room : ℕ) (old new : Crossing) (before account : Account) (were lost : List ℕ) (u : LosingFrameWorld) (step : Step) (result : Result Stepped NodeFault) (number : ℕ) → IsReachedLosing config u
+    → ShowsLosingBytes config old before were u → number ≡ number_of result → RefusesBarred (bar_of old were step) result → StepTellsUndrained old step result
+    → StepChanges room old new step result → StepLeaves config u step result (ShowsLosingBytes config new account lost)
     → Crosses config room old u step number (AreLeft config new account lost)
-crosses_so config room old new account lost u step result number reached listed changes leaves = record {
+crosses_so config room old new before account were lost u step result number reached shows listed barred undrained changes leaves = record {
   result = result;
   listed = listed;
+  lost = were;
+  gone = ap (λ (x : LosingFrameWorld). x.gone) shows.is;
+  barred = barred;
+  undrained = undrained;
   new = new;
   changes = changes;
   leaves = leaves_on config u Any (Unit {0}) (ShowsLosingBytes config new account lost) (λ v. IsShown config new v × AreLeft config new account lost new v)
@@ -52,6 +58,10 @@ module _ (config : Config) (room : ℕ) (step : Step) (number : ℕ) (Last Then 
   chain_more (s ∷ ss) (n ∷ ns) old u crosses = record {
     result = crosses.result;
     listed = crosses.listed;
+    lost = crosses.lost;
+    gone = crosses.gone;
+    barred = crosses.barred;
+    undrained = crosses.undrained;
     new = crosses.new;
     changes = crosses.changes;
     leaves = leaves_on config u Any (Unit {0}) (λ v. IsShown config crosses.new v × CrossesAll config room crosses.new v ss ns Last)

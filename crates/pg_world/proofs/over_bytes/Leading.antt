@@ -12,10 +12,11 @@ use Rattle.std.proofs.lemmas.Option.{get_or_from_slice_get, slice_get_within}
 use Rattle.pg_term.specs.declared.term.Term.{Term}
 use Rattle.pg_world_packets.specs.PgStep.Machines.Losing.{Lose, LosingEvent, nobody_gone}
 use Rattle.pg_world_packets.specs.PgStep.Machines.Losing.{Step as Happens}
-use Rattle.pg_world_packets.specs.PgStep.Machines.Machine.{Do, Event, Take, start_of}
+use Rattle.pg_world_packets.specs.PgStep.Machines.Machine.{Do, Take, start_of}
 use Rattle.pg_world_packets.specs.PgStep.declared.refusal.Refusal.{Refusal}
 use Rattle.pg_world_packets.specs.PgStep.declared.refusal.Refusal.TheVariants.{NotDrained}
-use Rattle.pg_world_packets.specs.PgStep.Config.{Config}
+use Rattle.pg_world_packets.specs.PgNodeOpens.Places.{name_at as place_name}
+use Rattle.pg_world_packets.specs.PgStep.Config.{Config, name_at}
 use Rattle.pg_world_packets.specs.PgStep.FrameMachine.{frame_machine, losing_frame_machine}
 use Rattle.pg_world_packets.specs.PgStep.LossLaws.{LosingFrameWorld}
 use Rattle.pg_world_packets.specs.PgStep.Step.{Action, Issue, Retry}
@@ -35,12 +36,12 @@ use Rattle.pg_world.specs.BytesLosing.{LossComesTo, EventLeaves, StepLeaves, put
 use Rattle.pg_world_packets.specs.Losing.{IsReachedLosing}
 use Rattle.pg_world.specs.BytesLosingRuns.{bytes_past_losses, IsBytesEvent, IsFrameEvent, IsLossOf}
 use Rattle.pg_world.specs.BytesStart.{BytesBegin}
-use Rattle.pg_world.specs.Crossings.{Crossing, ShowsPast, node_of, no_links}
+use Rattle.pg_world.specs.Crossings.{Crossing, ShowsPast, link_at, node_of, no_links}
 use Rattle.pg_node.specs.Links.{Link}
 use Rattle.pg_world_packets.specs.PgStep.Machines.Places.{is_pair}
 use Rattle.pg_world_packets.specs.Views.{peer_place, place_of_peer}
 use Rattle.pg_world_packets.proofs.Counted.{place_there}
-use Rattle.pg_world_packets.proofs.Peering.{known, own_place, same_place}
+use Rattle.pg_world_packets.proofs.Peering.{known, named, own_place, peer_name, same_place}
 use Rattle.pg_world_packets.proofs.Turning.{is_pair_so}
 use Rattle.pg_world_packets.specs.Losing.{Telling, formed_after, formed_with, losing_of, told_take, told_own, told_sight}
 use Rattle.pg_world_packets.specs.LosingRuns.{LosingGoesTo, IsToldEvent}
@@ -360,34 +361,43 @@ bytes_missed given crossing account lost i name within lives entries told past =
 pub bytes_formed : (given : Config) (crossing : Crossing) (account : Account) (lost : List ℕ) (formed : Bool) → formed ≡ account.formed → BytesHavePast given crossing account lost → BytesFormedFirst given crossing account lost formed
 bytes_formed given crossing account lost formed told past = record { past = past; is = (λ e. past.at_losses.0 (sym told ∙ e), λ all. told ∙ past.at_losses.1 all) }
 
--- no link of a node is damaged
-pub bytes_sound : (given : Config) (crossing : Crossing) (account : Account) (lost : List ℕ) (i : ℕ) (node : Seen) (links : ℕ → Link) → BytesHavePast given crossing account lost
-    → slice_get crossing.nodes i ≡ Some node → slice_get crossing.links i ≡ Some links → (k : ℕ) → k + 1 < length node.names → (links k).damaged ≡ false
-bytes_sound given crossing account lost i node links past at linked k few = sym (ap (λ (ls : ℕ → Link). (ls k).damaged) links_are) ∙ (ap (λ j. (get_or crossing.links i no_links j).damaged) (sym back) ∙ shows.sound i y pair)
-  where
-    config : Config
-    config = past.config
+-- the link of a node to the peer at a place
+module _ (given : Config) (crossing : Crossing) (account : Account) (lost : List ℕ) (i : ℕ) (node : Seen) (links : ℕ → Link) (past : BytesHavePast given crossing account lost)
+    (at : slice_get crossing.nodes i ≡ Some node) (linked : slice_get crossing.links i ≡ Some links) (k : ℕ) (few : k + 1 < length node.names) where
+  abbrev its_config : Config
+  its_config = past.config
 
-    shows : ShowsPast config lost crossing past.is.shows.frames
-    shows = past.is.shows.shows.traffic
+  abbrev its_shows : ShowsPast its_config lost crossing past.is.shows.frames
+  its_shows = past.is.shows.shows.traffic
 
-    links_are : get_or crossing.links i no_links ≡ links
-    links_are = get_or_from_slice_get crossing.links i links no_links linked
+  within : i < length its_config
+  within = let l = slice_get_within crossing.nodes i node at in omega (arith, l, its_shows.nodes.size)
 
-    within : i < length config
-    within = let l = slice_get_within crossing.nodes i node at in omega (arith, l, shows.nodes.size)
+  abbrev y : ℕ
+  y = place_of_peer i k
 
-    y : ℕ
-    y = place_of_peer i k
+  knows : length node.names ≡ length its_config
+  knows = ap length (its_shows.nodes.each i node at).names ∙ known its_config i within
 
-    knows : length node.names ≡ length config
-    knows = ap length (shows.nodes.each i node at).names ∙ known config i within
+  pair : is_pair (length its_config) i y ≡ true
+  pair = is_pair_so (length its_config) i y within (place_there i (length its_config) within node.names knows k few) (own_place i k)
 
-    pair : is_pair (length config) i y ≡ true
-    pair = is_pair_so (length config) i y within (place_there i (length config) within node.names knows k few) (own_place i k)
+  back : peer_place i y ≡ k
+  back = sym (eqb-true k (peer_place i y) (sym (same_place i y k (own_place i k)) ∙ eq-eqb y y refl))
 
-    back : peer_place i y ≡ k
-    back = sym (eqb-true k (peer_place i y) (sym (same_place i y k (own_place i k)) ∙ eq-eqb y y refl))
+  link_is : links k ≡ link_at crossing i y
+  link_is = sym (ap (λ (ls : ℕ → Link). ls k) (get_or_from_slice_get crossing.links i links no_links linked)) ∙ ap (get_or crossing.links i no_links) (sym back)
+
+  -- it is not damaged
+  pub bytes_sound : (links k).damaged ≡ false
+  bytes_sound = ap (λ (l : Link). l.damaged) link_is ∙ its_shows.sound i y pair
+
+  -- nothing goes out there once the loss of the peer was seen
+  pub bytes_silent : node.state.state.lost (place_name node.names (k + 1)) ≡ true → (links k).outbox ≡ []
+  bytes_silent seen =
+      let its = its_shows.nodes.each i node at in
+      let name : place_name node.names (k + 1) ≡ name_at its_config y = ap (λ ns. place_name ns (k + 1)) its.names ∙ (peer_name its_config i within k ∙ sym (named its_config i within y)) in
+      ap (λ (l : Link). l.outbox) link_is ∙ its_shows.silent i y pair ((λ j. (its.state j).state.lost (sym name j)) ∙ seen)
 
 -- what is so of each node that is there with its links
 pub each_there : {T : Type 0} {g : Ghosts T} (r : Option (Bor (Node T g))) (crossing : Crossing) (i : ℕ) (P : Node T g → Type 0)

@@ -46,6 +46,7 @@ use Rattle.pg_world_packets.specs.PgWorldAccount.Histories.{Account}
 use Rattle.pg_world_packets.specs.Worlds.{TimedFrameWorld, ShowsNodes}
 use Rattle.pg_world.proofs.over_bytes.Past.{gone_none, sight_from}
 use Rattle.pg_world.proofs.Crossed.{all_short}
+use Rattle.pg_world.proofs.Silent.{seen_before}
 use Rattle.pg_world_packets.proofs.Peering.{named, peer_name, there_and_back}
 use Rattle.pg_world_packets.proofs.Seeing.{there, turned, stays, unseen, not_lost, sight_refused, sight_seen}
 use Rattle.pg_world_packets.proofs.Sighted.{sight, sight_clock, sighted, same_wire}
@@ -174,9 +175,10 @@ module _ (config : Config) (crossing crossing2 : Crossing) (account account2 : A
     pub sight_made : (after : Seen) (done : FramedDone) → crossing2.nodes ≡ slice_set crossing.nodes i after → after.names ≡ node.names → after.ports ≡ node.ports → account2 ≡ account
         → ((x y : ℕ) → is_pair (length config) x y ≡ true → is_lost lost y ≡ false → bytes_at crossing2 x y ≡ bytes_at crossing x y)
         → ((x y : ℕ) → (link_at crossing2 x y).damaged ≡ (link_at crossing x y).damaged)
+        → ((x y : ℕ) → ((x ≡ i) × (y ≡ p)) ⊎ ((link_at crossing x y).outbox ≡ []) → (link_at crossing2 x y).outbox ≡ [])
         → Comes node.names (step_lose peer last link node.state) (Ok done) after.state node.answers after.answers
         → (effect : Effect) → effect ≡ no_effect → SightComesTo config u (told_sight config u i p) (Ok (Happened effect)) (ShowsLosingBytes config crossing2 account2 lost2)
-    sight_made after done set names ports kept bytes damage comes effect none =
+    sight_made after done set names ports kept bytes damage empty comes effect none =
         subst (λ e. SightComesTo config u (told_sight config u i p) (Ok (Happened e)) (ShowsLosingBytes config crossing2 account2 lost2)) (sym none)
         (go (is_drained link) refl (λ b is. subst (λ r. Comes node.names r (Ok done) after.state node.answers after.answers) (step_is b is) comes))
       where
@@ -191,6 +193,10 @@ module _ (config : Config) (crossing crossing2 : Crossing) (account account2 : A
             pick false is was = subst (λ (ps : List Packet). IsOnWay (is_lost lost y) (is_lost lost x) ps (bytes_at crossing2 x y)) (sym (same_packets x y))
                 (subst (IsOnWay (is_lost lost y) (is_lost lost x) (packets_between w x y)) (sym (bytes x y there_too is)) was)
 
+        before : (x y : ℕ) → is_pair (length config) x y ≡ true → ((x ≡ i) × (y ≡ p)) ⊎ ((w.node x).state.lost (name_at config y) ≡ true) → ((x ≡ i) × (y ≡ p)) ⊎ ((link_at crossing x y).outbox ≡ [])
+        before x y there_too (inl both) = inl both
+        before x y there_too (inr saw) = inr (shows.shows.traffic.silent x y there_too saw)
+
         made : Happens node.names turn done after.state node.answers after.answers → ShowsLosingBytes config crossing2 account2 lost2 (losing_of config v lost)
         made happened = record {
           frames = v;
@@ -200,6 +206,7 @@ module _ (config : Config) (crossing crossing2 : Crossing) (account account2 : A
               ways = way;
               cross = λ x y there_too. subst (λ (ps : List Packet). AllByRecursion CanCross ps) (sym (same_packets x y)) (shows.shows.traffic.cross x y there_too);
               sound = λ x y there_too. damage x y ∙ shows.shows.traffic.sound x y there_too;
+              silent = λ x y there_too saw. empty x y (before x y there_too (seen_before config w lost i p here its.apart x y there_too saw));
             };
             updates = updates_sighted config w lost i p here crossing.nodes crossing2.nodes account account2 node after done its shows.shows.updates at set names ports happened kept;
           };
@@ -314,6 +321,7 @@ module _ (config : Config) (crossing : Crossing) (account : Account) (u : Losing
             ways = λ x y pair. subst (λ (l : List ℕ). IsOnWay (is_lost l y) (is_lost l x) (packets_between cut x y) (bytes_at crossing x y)) (sym more) (way x y pair);
             cross = crosses;
             sound = shows.shows.traffic.sound;
+            silent = shows.shows.traffic.silent;
           };
           updates = updates_cut config old lost i kept nowhere account shows.shows.updates;
         };

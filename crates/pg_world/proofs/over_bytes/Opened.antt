@@ -31,7 +31,7 @@ use Rattle.pg_world_packets.specs.PgStep.Config.{Config, names_of, groups_at}
 use Rattle.pg_world_packets.specs.PgStep.FrameMachine.{frame_machine}
 use Rattle.pg_node.specs.declared.node.Node.{Node}
 use Rattle.pg_world_packets.specs.PgNodeState.declared.state.fault.NodeFault.{NodeFault}
-use Rattle.pg_node.specs.Begun.{BeginsWith, CantBegin, IsOpened}
+use Rattle.pg_node.specs.Begun.{BeginsWith, CantBegin, IsOpened, unsent}
 use Rattle.pg_world_packets.specs.PgMessageWriter.Frames.{frame_of}
 use Rattle.pg_node.specs.Links.{Link}
 use Rattle.pg_node.specs.Nodes.{held_by, links_of}
@@ -63,15 +63,17 @@ use Rattle.pg_world_packets.proofs.Turning.{pair_is, pair_turned}
 
 -- a node that can't begin, as a world tells it
 pub cant_open_so : (node : Seen) (fault : NodeFault) → TellsNames node.state.state.table → CantBegin node.state.state.table (name_at node.names 0) fault → CantOpen node (opening_fault_of fault)
-cant_open_so node fault named (inl e) = subst (λ f. CantOpen node (opening_fault_of f)) (sym e) tt
-cant_open_so node fault named (inr (packet, is, inl e)) = subst (λ f. CantOpen node (opening_fault_of f)) (sym e) tt
-cant_open_so node fault named (inr (packet, is, inr (told, body, e))) = subst (λ f. CantOpen node (opening_fault_of f)) (sym e) (packet, is, has_none packet told said stamp (sym (ap length_of body)))
+cant_open_so node fault named (packet, is, e) = go (body_of packet) refl e
   where
     said : is_sayable packet.message ≡ true
     said = said_all node.state.state.table (name_at node.names 0) packet named is
 
     stamp : packet.stamp ≤ max_stamp
     stamp = subst (λ (p : Packet). p.stamp ≤ max_stamp) (sym is.2) (omega arith)
+
+    go : (body : Result (List ℕ) MessageFault) → body_of packet ≡ body → fault ≡ unsent body → CantOpen node (opening_fault_of fault)
+    go (Ok bytes) same f = subst (λ f. CantOpen node (opening_fault_of f)) (sym f) tt
+    go (Err told) same f = subst (λ f. CantOpen node (opening_fault_of f)) (sym f) (packet, is, has_none packet told said stamp (sym (ap length_of same)))
 
 pub named_first : (config : Config) (i : ℕ) → AreReady config → TellsNames (seen_first config i).state.state.table
 named_first config i ready = tells_names (groups_at config i) (names_at config i ready.named)
@@ -232,7 +234,7 @@ module _ (given : Config) (nodes : List Seen) (links : List (ℕ → Link)) (are
     config,
     started.1,
     record {
-      traffic = record { nodes = started.2.traffic.nodes; ways = ways; cross = cross; sound = sound };
+      traffic = record { nodes = started.2.traffic.nodes; ways = ways; cross = cross; sound = sound; silent = λ x y pair seen. let no : false ≡ true = seen in absurd (cc) };
       updates = started.2.updates;
     },
   )

@@ -1,7 +1,8 @@
 -- A node over bytes that would see the loss of a peer: what it is given, and which bytes stay.
-use Rattle.std.proofs.Common.{◌≡◌, ◌≢◌, ℕ, ◌+◌, ◌<◌, true, false, get_or}
-use Rattle.std.proofs.Common.{length, List, Result, refl, sym, ap, ◌∙◌, subst}
+use Rattle.std.proofs.Common.{◌≡◌, ◌≢◌, ◌⊎◌, inl, inr, ℕ, ◌+◌, ◌<◌, true, false, get_or}
+use Rattle.std.proofs.Common.{length, List, [], Result, refl, sym, ap, ◌∙◌, subst}
 use Rattle.std.specs.Prelude.{slice_set}
+use Rattle.std.proofs.lemmas.Bool.{cases_eq}
 use Rattle.pg_world_packets.specs.PgGroup.declared.table.GroupTable.{Ghosts}
 use Rattle.pg_world_packets.specs.PgStep.Machines.Places.{is_pair}
 use Rattle.pg_world_packets.specs.PgStep.Machines.Clocked.{Timed}
@@ -20,7 +21,8 @@ use Rattle.pg_world.specs.Crossings.{crossing_in, node_of, link_at, bytes_at}
 use Rattle.pg_world_packets.specs.PgWorldAccount.Losses.{is_lost}
 use Rattle.pg_world_packets.specs.Views.{peer_place, place_of_peer}
 use Rattle.pg_world_packets.specs.Worlds.{TimedFrameWorld, ShowsNodes}
-use Rattle.pg_world.proofs.Linked.{seen_there, changed_else, part_kept}
+use Rattle.pg_world.specs.Changes.{links_at}
+use Rattle.pg_world.proofs.Linked.{seen_there, changed_here, changed_else, part_kept}
 use Rattle.pg_world_packets.proofs.Peering.{there_and_back}
 use Rattle.pg_world_packets.proofs.Turning.{pair_is}
 
@@ -48,6 +50,17 @@ module _ {T : Type 0} {g : Ghosts T} (nodes : List (Node T g)) (rings : List Rin
           let same : y ≡ p = sym (there_and_back i y (subst (λ k. y ≢ k) d n)) ∙ (ap (place_of_peer i) (subst (λ k. peer_place k y ≡ peer_place i p) d e) ∙ there_and_back i p apart) in
           let no : false ≡ true = sym stays ∙ (ap (is_lost lost) same ∙ gone) in
           absurd (cc)
+
+  -- nothing goes out where nothing did, or to the lost peer
+  pub closed_empty : (x y : ℕ) → ((x ≡ i) × (y ≡ p)) ⊎ ((link_at (crossing_in nodes rings) x y).outbox ≡ []) → (link_at (crossing_in (slice_set nodes i after) rings) x y).outbox ≡ []
+  closed_empty x y (inl (d, e)) = subst (λ k. (link_at (crossing_in (slice_set nodes i after) rings) k y).outbox ≡ []) (sym d) (subst (λ k. (link_at (crossing_in (slice_set nodes i after) rings) i k).outbox ≡ []) (sym e)
+      (ap (λ (k : Link). k.outbox) (changed_here nodes rings rings i (peer_place i p) node after closed l at links)))
+  closed_empty x y (inr none) = go (cases_eq x i) (cases_eq (peer_place x y) (peer_place i p))
+    where
+      go : (x ≡ i) ⊎ (x ≢ i) → (peer_place x y ≡ peer_place i p) ⊎ (peer_place x y ≢ peer_place i p) → (link_at (crossing_in (slice_set nodes i after) rings) x y).outbox ≡ []
+      go (inl d) (inl e) = ap (λ (k : Link). k.outbox) ((λ j. links_at (crossing_in (slice_set nodes i after) rings) (d j) (e j)) ∙ changed_here nodes rings rings i (peer_place i p) node after closed l at links)
+      go (inr n) e = ap (λ (k : Link). k.outbox) (changed_else nodes rings rings i (peer_place i p) node after closed l at links x (peer_place x y) (λ both. n both.0)) ∙ none
+      go (inl d) (inr n) = ap (λ (k : Link). k.outbox) (changed_else nodes rings rings i (peer_place i p) node after closed l at links x (peer_place x y) (λ both. n both.1)) ∙ none
 
   pub closed_bytes : (size x y : ℕ) → is_pair size x y ≡ true → is_lost lost y ≡ false → bytes_at (crossing_in (slice_set nodes i after) rings) x y ≡ bytes_at (crossing_in nodes rings) x y
   closed_bytes size x y pair stays = λ j. record {

@@ -1,7 +1,7 @@
 -- What comes of an event over bytes that names a place that is not there, or for which memory ran out.
-use Rattle.std.proofs.Common.{◌≡◌, true, false, Err, refl, sym, ap, ◌∙◌}
+use Rattle.std.proofs.Common.{◌≡◌, false, Err, refl, sym, ap, ◌∙◌}
 use Rattle.std.specs.Prelude.{List}
-use Rattle.pg_world_packets.specs.PgStep.Machines.Places.{is_place, is_pair}
+use Rattle.pg_world_packets.specs.PgStep.Machines.Places.{is_place}
 use Rattle.pg_world_packets.specs.PgStep.Config.{Config}
 use Rattle.pg_world_packets.specs.PgStep.Step.{Issue, Retry}
 use Rattle.pg_world_packets.specs.PgStep.declared.refusal.Refusal.TheVariants.{NoSuchPlace}

@@ -93,7 +93,7 @@ impl<T: GroupTable + Drop> ByteNodes<T> {
     pub(crate) fn see_loss(&mut self, node: usize, peer: usize) -> Result<Stepped, NodeFault>
         requires pair { is_pair (length (crossing_of self.old).nodes) node peer ≡ true }
         requires lives { is_cut_off (crossing_of self.old).nodes (lost_in self.old.losses) node peer ≡ false }
-        ensures changes { SightChanges (crossing_of self.old) (crossing_of self.new) node result }
+        ensures changes { SightChanges (crossing_of self.old) (crossing_of self.new) node peer result }
         ensures account { account_of self.new.histories ≡ account_of self.old.histories }
         ensures none { is_lost (lost_in self.old.losses) peer ≡ false → result ≡ Err (Refused NotLost) }
         ensures barred { RefusesBarred (sight_bar (crossing_of self.old) (lost_in self.old.losses) node peer) result }

@@ -17,7 +17,7 @@ ghost use Rattle.pg_world.specs.BytesRuns.{NobodyLost as NoneIsLost, over_bytes}
 use crate::byte_world::World;
 use crate::step::Step;
 use pg_world_packets::{
-    Config, GroupTable, IndexTable, WorldFault, each_world_past_losses, one_history,
+    Config, GroupTable, IndexTable, WorldFault, each_world_past_losses, one_history, places_for,
 };
 use std::alloc::Global;
 
@@ -38,8 +38,8 @@ impl<T: GroupTable + Drop> World<T> {
     ghost use Rattle.pg_world_packets.specs.Worlds.{TimedFrameWorld};
 
     /// Makes steps, one after another, and writes the number of each in its place: 0 where it happened, bytes moved,
-    /// or no whole packet had come; else that of its fault. A step that is refused changes nothing of what the world
-    /// shows, and the others follow.
+    /// or no whole packet had come; else that of its fault. A step that is refused changes nothing, and the others
+    /// follow.
     ///
     /// The events that led to the world lead on by those of the steps that happened, and of all of them holds what
     /// `step` says.
@@ -105,7 +105,7 @@ impl<T: GroupTable + Drop> World<T> {
 /// machine with losses, and everything holds that `LossesSurvived` says of the world to which they lead.
 ///
 /// Each step did what its number says: it moved as many bytes as it has to move, or its event happened, or nothing
-/// changed.
+/// changed. What bars it is its number, whatever memory there is.
 ///
 /// Errors: those of `World::new`.
 ///
@@ -130,7 +130,7 @@ pub fn run(
 {
     one_history();
     each_world_past_losses();
-    let mut numbers = Vec::from_elem(alloc, 0, steps.len())?;
+    let mut numbers = places_for(alloc, config, steps.len())?;
     match World::new(alloc, config) {
         Ok(begun) => {
             let mut world = begun;

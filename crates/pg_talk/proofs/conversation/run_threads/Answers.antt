@@ -3,7 +3,7 @@ use Rattle.std.proofs.lemmas.Result.{err_from_is_err_and}
 use Rattle.pg_cluster.specs.Fault.{CantRun}
 use Rattle.pg_cluster.specs.Running.{clients_in, losses_in, threads_in}
 use Rattle.pg_talk.specs.Conversations.{CantTalk}
-use Rattle.pg_talk.proofs.Conversing.{cant_without_memory, no_memory}
+use Rattle.pg_talk.proofs.Conversing.{cant_by, no_memory}
 use Rattle.pg_talk.proofs.conversation.run_threads.Goals as goal
 
 pub returns-clause-took : goal.returns-clause-took
@@ -41,14 +41,14 @@ returns-in_err-theirs-clause-fault g c = no_memory c.args.asked c.from_residual-
 pub returns-in_err-config-clause-fault : goal.returns-in_err-config-clause-fault
 returns-in_err-config-clause-fault g c =
     let p = err_from_is_err_and c.from_residual-in_err-config.result c.from_residual-in_err-config.ensures.1 in
-    rw (p.1, p.2, c.in_err-config.ensures.fault) (cant_without_memory c.args.asked)
+    rw (p.1, p.2, c.in_err-config.ensures.fault) tt
 
 pub returns-in_err-running-clause-fault : goal.returns-in_err-running-clause-fault
 returns-in_err-running-clause-fault g c =
     let p = err_from_is_err_and c.from_residual-in_err-running.result c.from_residual-in_err-running.ensures.1 in
     let starts = c.in_ok-config.config.starts.items in
     let fault = c.in_err-running.field-0.0 in
-    let told : CantTalk c.args.asked fault = (starts, c.in_ok-config.ensures.asked, subst (λ ring. CantRun ring starts fault) c.in_ok-config.ensures.ring c.in_err-running.ensures.fault) in
+    let told : CantTalk c.args.asked fault = cant_by c.args.asked starts fault c.in_ok-config.ensures.asked (subst (λ ring. CantRun ring starts fault) c.in_ok-config.ensures.ring c.in_err-running.ensures.fault) in
     rw (p.1, p.2) told
 
 pub returns-in_err-agree-clause-fault : goal.returns-in_err-agree-clause-fault

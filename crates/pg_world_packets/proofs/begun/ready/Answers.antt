@@ -1,5 +1,5 @@
 use Rattle.pg_world_config.proofs.Deciding.{passes}
-use Rattle.pg_world_packets.proofs.Opened.{on_ok, ready_so, few_so, few_fault}
+use Rattle.pg_world_packets.proofs.Opened.{on_ok, ready_so, few_so, few_fault, judged}
 use Rattle.pg_world_packets.proofs.begun.ready.Goals as goal
 
 pub returns-in-Ok-clause-good : goal.returns-in-Ok-clause-good
@@ -16,3 +16,6 @@ returns-in-Ok-clause-fault c = few_fault c.args.config.now.ring c.args.config.no
 
 pub returns-in-Ok-clause-few : goal.returns-in-Ok-clause-few
 returns-in-Ok-clause-few c = few_so c.args.config.now.starts.items c.as_slice.result.now c.as_slice.ensures.value c.few_enough.result c.few_enough.ensures.few
+
+pub returns-in-Err-clause-fault : goal.returns-in-Err-clause-fault
+returns-in-Err-clause-fault c = judged c.args.config.now.ring c.args.config.now.starts.items c.in-Err.fault c.check.result (search) c.check.ensures.told c.check.ensures.never

@@ -8,6 +8,7 @@ use Rattle.pg_cluster_judges.specs.PgNodeRun.Ports.{ArePort, IsSilent}
 use Rattle.pg_cluster.specs.Clients.{IsOpenClient, ports_begun}
 use Rattle.pg_cluster.specs.Room.{HasClosingRoom}
 use Rattle.pg_cluster.specs.Threads.{AreMade, HaveRings}
+use Rattle.pg_cluster.proofs.Making.{shortage}
 use Rattle.pg_cluster.proofs.Paired.{pairs_left, pairs_so}
 use Rattle.pg_cluster.proofs.Rooms.{room_first}
 use Rattle.pg_cluster.proofs.Telling.{says_none}
@@ -80,3 +81,6 @@ returns-in-Ok-start_all-clause-rings g c =
 pub returns-in-Ok-start_all-clause-generators : goal.returns-in-Ok-start_all-clause-generators
 returns-in-Ok-start_all-clause-generators g c =
     ap (map generator_of) (started_runs c.in_ok-made.made.runs.items c.args.limit (threads_in c.in-Ok-start_all.members.items) c.in-Ok-start_all.ensures.started) ∙ c.in_ok-made.ensures.generators
+
+pub returns-clause-fault : goal.returns-clause-fault
+returns-clause-fault g c = shortage c.args.config.now.ring c.args.config.now.starts.items c.in-Err-start_all.fault c.in_ok-made.ensures.can c.in-Err-start_all.ensures.fault

@@ -34,3 +34,8 @@ returns-clause-grows g c =
     (λ past. bytes_step_grows (given_of world) (crossing_of world) (nodes.crossing_of new) (account_of world) (kept.account_of new.histories) (lost_of world) (lost_in new.losses) c.args.step.now c.step.result
     (bytes_go_on (given_of world) c.each_world_past_losses.ensures (crossing_of world) (account_of world) (lost_of world) c.args.step.now c.step.result
     (nodes.crossing_of new) (kept.account_of new.histories) (lost_in new.losses) c.step.ensures.losing c.step.ensures.formed past))
+
+pub returns-clause-changes : goal.returns-clause-changes
+returns-clause-changes g c =
+    let world = c.args.self.now in
+    c.step.ensures.changes (∥∥₁_elim world.past (hlevel props) (λ past. c.step.ensures.harmless past.config past.u (past.events, past.is.reached) past.is.shows))

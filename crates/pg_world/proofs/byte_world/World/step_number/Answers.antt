@@ -53,12 +53,14 @@ pub returns-in-Ok-clause-crosses : goal.returns-in-Ok-clause-crosses
 returns-in-Ok-clause-crosses g c = λ config u reached shows.
     let old = c.args.self.now in
     let new = c.step.new.self in
-    crosses_so config (room_of old) (crossing_of old) (crossing_of new) (account_of new) (lost_of new) u c.args.step.now c.step.result 0 reached (sym (ap number_of c.in-Ok.is)) c.step.ensures.changes
+    crosses_so config (room_of old) (crossing_of old) (crossing_of new) (account_of old) (account_of new) (lost_of old) (lost_of new) u c.args.step.now c.step.result 0 reached shows (sym (ap number_of c.in-Ok.is))
+    c.step.ensures.barred c.step.ensures.undrained c.step.ensures.changes
     (c.step.ensures.losing config u reached shows)
 
 pub returns-in-Err-clause-crosses : goal.returns-in-Err-clause-crosses
 returns-in-Err-clause-crosses g c = λ config u reached shows.
     let old = c.args.self.now in
     let new = c.step.new.self in
-    crosses_so config (room_of old) (crossing_of old) (crossing_of new) (account_of new) (lost_of new) u c.args.step.now c.step.result c.number.result reached (c.number.ensures ∙ sym (ap number_of c.in-Err.is)) c.step.ensures.changes
+    crosses_so config (room_of old) (crossing_of old) (crossing_of new) (account_of old) (account_of new) (lost_of old) (lost_of new) u c.args.step.now c.step.result c.number.result reached shows (c.number.ensures ∙ sym (ap number_of c.in-Err.is))
+    c.step.ensures.barred c.step.ensures.undrained c.step.ensures.changes
     (c.step.ensures.losing config u reached shows)

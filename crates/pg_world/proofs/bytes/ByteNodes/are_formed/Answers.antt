@@ -1,4 +1,4 @@
-use Rattle.std.proofs.Common.{◌≡◌, ◌<◌, ◌+◌, ◌&&◌, ◌∷◌, ℕ, suc, List, Bool, true, drop, get_or, length, map, sym, ap, subst, ◌∙◌, arith, drop-cons}
+use Rattle.std.proofs.Common.{◌≡◌, ◌<◌, ◌+◌, ◌&&◌, ◌∷◌, ℕ, suc, List, drop, get_or, length, map, sym, ap, subst, ◌∙◌, arith, drop-cons}
 use Rattle.std.specs.List.{list_all}
 use Rattle.pg_world_packets.specs.PgGroup.declared.table.GroupTable.{Ghosts}
 use Rattle.pg_node.specs.declared.node.Node.{Node}

@@ -19,6 +19,9 @@ use Rattle.pg_world_packets.proofs.Barred.{either_stays, either_unseen, take_cut
 use Rattle.pg_world.proofs.over_bytes.Past.{bytes_with, loss_came, take_past, own_past, unplaced_past}
 use Rattle.pg_world.proofs.over_bytes.Past.{barred_past, take_starved, own_starved}
 use Rattle.pg_world_packets.specs.PgNodeState.declared.state.fault.NodeFault.TheVariants.{OutOfMemory}
+use Rattle.pg_world.specs.Changes.{FrameChanges, spares}
+use Rattle.pg_world_packets.specs.PgStep.declared.refusal.Refusal.TheVariants.{NoSuchPlace, NodeLost}
+use Rattle.pg_world.proofs.Changed.{barred_changes}
 use Rattle.pg_world.proofs.Harmless.{welcome_there, welcome_left}
 use Rattle.pg_world_packets.proofs.Turning.{pair_there}
 use Rattle.pg_world.proofs.over_bytes.Unplaced.{unplaced_event}
@@ -167,3 +170,36 @@ returns-in-Err-settle-2-clause-losing g c = λ config u reached shows.
     let now = subst (λ (a : Account). ShowsLosingBytes config crossing a lost u) (sym settled) shows in
     subst (λ (s : FrameStep). EventLeaves config u s (Err OutOfMemory) (ShowsLosingBytes config crossing (account_of c.settle-in-Retry.new.self) lost)) (sym c.in-Retry.is)
     (own_starved config crossing (account_of c.settle-in-Retry.new.self) u lost now c.in-Retry.node (Retry c.in-Retry.op) places lives)
+
+-- ---- what changes
+
+pub returns-then-not-has_places-clause-changes : goal.returns-then-not-has_places-clause-changes
+returns-then-not-has_places-clause-changes g c = λ safe. barred_changes (crossing_of c.args.self.now) c.args.event.now NoSuchPlace refl
+
+pub returns-then-is_barred-clause-changes : goal.returns-then-is_barred-clause-changes
+returns-then-is_barred-clause-changes g c = λ safe. barred_changes (crossing_of c.args.self.now) c.args.event.now NodeLost refl
+
+pub returns-in-Ok-clause-changes : goal.returns-in-Ok-clause-changes
+returns-in-Ok-clause-changes g c = λ safe.
+    subst (λ (s : FrameStep). FrameChanges (crossing_of c.args.self.now) (crossing_of c.take.new.self) s c.take.result) (sym c.in-Take.is)
+    (c.take.ensures.changes (subst (λ (s : FrameStep). spares s c.take.result ≡ true) c.in-Take.is safe))
+
+pub returns-in-Ok-clause-harmless : goal.returns-in-Ok-clause-harmless
+returns-in-Ok-clause-harmless g c = λ config u reached shows.
+    let crossing = crossing_of c.args.self.now in
+    let nodes = crossing.nodes in
+    let lost = lost_in c.args.self.now.losses in
+    let i = c.in-Take.node in
+    let p = c.in-Take.peer in
+    let pair : is_pair _ i p ≡ true = subst (λ (s : FrameStep). has_places nodes s ≡ true) c.in-Take.is (sym c.has_places.ensures ∙ c.if-not-has_places.false) in
+    let lives : is_cut_off nodes lost i p ≡ false = subst (λ (s : FrameStep). is_barred nodes lost s ≡ false) c.in-Take.is (sym c.is_barred.ensures ∙ c.if-is_barred.false) in
+    let settled : account_of c.settle.new.self ≡ account_of c.args.self.now.histories = c.settle.ensures.account in
+    let now = subst (λ (a : Account). ShowsLosingBytes config crossing a lost u) (sym settled) shows in
+    let w = now.frames in
+    let its = now.shows.traffic.nodes in
+    let cut = take_cut config nodes w lost its now.seen i p pair lives in
+    let stays = either_stays config nodes w lost its now.seen (is_lost lost i) _ cut in
+    let unseen = either_unseen config nodes w lost its now.seen (is_lost lost i) _ cut in
+    let led = subst (LosingReaches config reached.0) now.is reached.1 in
+    let welcome = welcome_left config w lost i p (λ packet rest begins. c.no_packet_is_refused.ensures config (losing_of config w lost) reached.0 i p packet rest its.apart led (pair_there config nodes w i p its pair) stays unseen begins) in
+    subst (λ (s : FrameStep). spares s c.take.result ≡ true) (sym c.in-Take.is) (c.take.ensures.harmless config lost w stays unseen welcome now.shows)

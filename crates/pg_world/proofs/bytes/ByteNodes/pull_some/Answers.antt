@@ -32,7 +32,7 @@ returns-in-Ok g c = record {
         refl,
         record {
           traffic = moved_shown config lost _ _ w x y (pull (length piece)) (way_pulled (length piece) (λ packets bytes are. c.moving_keeps_packets.ensures.pull written_of packets bytes (length piece) are)
-              (λ packets bytes are. c.loss_cuts_packets.ensures.pull written_of packets bytes (length piece) are) (is_lost lost y) (is_lost lost x))
+              (λ packets bytes are. c.loss_cuts_packets.ensures.pull written_of packets bytes (length piece) are) (is_lost lost y) (is_lost lost x)) (λ bytes none. none)
               (pull_moves nodes rings x y c.requires.pair c.args.self.now.rows row _ ring c.pull.new.inlet c.index_mut-row.ensures.value lk there (ap (λ k. slice_set row.rings.items k c.pull.new.inlet) place)
               node c.pull.new.self c.index_mut-node.ensures.value piece c.in-Ok.ensures.state
               (subst (λ k. links_of c.pull.new.self ≡ at_link k (λ l. with_fed l piece) (links_of node)) c.peer_place-2.ensures c.in-Ok.ensures.fed.3) c.in-Ok.ensures.fed.2) shows.traffic;

@@ -1,11 +1,12 @@
 use Rattle.std.proofs.Common.{refl, sym, subst}
+use Rattle.pg_world_packets.specs.PgStep.Machines.Machine.{Do}
 use Rattle.pg_world_packets.specs.PgStep.Step.{Retry}
 use Rattle.pg_node.specs.Nodes.{held_by}
 use Rattle.pg_world_packets.specs.PgNodeState.States.{state_of, answers_of}
 use Rattle.pg_world.specs.Crossings.{Crossing, crossing_of, node_of, written_of, ShowsBytesPast}
 use Rattle.pg_world_packets.specs.PgWorldAccount.Histories.{account_of}
 use Rattle.pg_world_packets.specs.PgNodeSends.Framed.{listed_of}
-use Rattle.pg_world.proofs.Linked.{alone, port_place, seen_there, nodes_set, seen_kept, own_acts, node_same, nodes_kept}
+use Rattle.pg_world.proofs.Linked.{port_place, seen_there, nodes_set, seen_kept, own_acts, node_same, sends_on}
 use Rattle.pg_world.proofs.Passing.{own_shown, own_err}
 use Rattle.pg_world_packets.proofs.Recording.{grew_own}
 use Rattle.pg_world.proofs.bytes.ByteNodes.retry.Goals as goal
@@ -24,7 +25,15 @@ returns-in-Ok g c = record {
       i stays (Retry c.args.op) (node_of node) (node_of node2) c.in-Ok.done (seen_there nodes rings i node l at) (nodes_set nodes rings i node2) c.in-Ok.ensures.stays.names c.in-Ok.ensures.stays.ports c.in-Ok.ensures.fits c.in-Ok.ensures.small
       (own_acts nodes rings i node node2 (listed_of c.in-Ok.done.sends) l at (Retry c.args.op) c.in-Ok.ensures.sent)
       (grew_own (account_of c.args.self.now.histories) _ i c.in-Ok.done.began c.unpack.result c.unpack.ensures c.begin.ensures.history c.begin.ensures.applied c.begin.ensures.marked) c.of-effect.result c.of-effect.ensures c.in-Ok.ensures.event;
-  changes = alone c.args.self.now.nodes.items c.args.self.now.rings.items c.args.node c.retry.new.self;
+  changes =
+      let nodes = c.args.self.now.nodes.items in
+      let rings = c.args.self.now.rings.items in
+      let i = c.args.node in
+      let node = c.index_mut-state.result.now in
+      let node2 = c.retry.new.self in
+      let l = port_place nodes i c.args.op.port c.requires.port in
+      sends_on nodes rings i node2 (Do i (Retry c.args.op)) (listed_of c.in-Ok.done.sends) refl
+      (own_acts nodes rings i node node2 (listed_of c.in-Ok.done.sends) l c.index_mut-state.ensures.value (Retry c.args.op) c.in-Ok.ensures.sent);
   formed = c.begin.ensures.formed;
   lost = refl;
   room = refl;
@@ -46,12 +55,13 @@ returns-in-Err g c = record {
       (subst (λ (crossing : Crossing). ShowsBytesPast config lost crossing (account_of c.args.self.now.histories) w) (sym same) shows);
   changes =
       let nodes = c.args.self.now.nodes.items in
+      let rings = c.args.self.now.rings.items in
       let i = c.args.node in
       let node = c.index_mut-state.result.now in
       let node2 = c.retry.new.self in
       let l = port_place nodes i c.args.op.port c.requires.port in
       let seen = seen_kept node node2 c.in-Err.ensures.stays.names c.in-Err.ensures.stays.ports c.in-Err.ensures.stays.state c.in-Err.ensures.stays.answers in
-      (nodes_kept nodes i node node2 l c.index_mut-state.ensures.value seen, alone nodes c.args.self.now.rings.items i node2);
+      node_same nodes rings i node node2 l c.index_mut-state.ensures.value seen c.in-Err.ensures.kept;
   formed = refl;
   lost = refl;
   room = refl;

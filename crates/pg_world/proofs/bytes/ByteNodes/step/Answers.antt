@@ -11,6 +11,7 @@ use Rattle.pg_world_packets.specs.Losing.{SeenAreLost}
 use Rattle.pg_world_packets.specs.PgWorldAccount.Losses.{lost_in}
 use Rattle.pg_world.specs.Bars.{IsFaultOf, loss_bar, put_bar, pull_bar}
 use Rattle.pg_world.specs.BytesLosing.{MoveLeaves}
+use Rattle.pg_world.specs.Changes.{spares_links}
 use Rattle.pg_world.proofs.over_bytes.Past.{bytes_with, loss_came, move_came, put_in, pull_in}
 use Rattle.pg_world.proofs.bytes.ByteNodes.step.Goals as goal
 
@@ -55,6 +56,9 @@ pub returns-in-Event-clause-losing : goal.returns-in-Event-clause-losing
 returns-in-Event-clause-losing g c = λ config u reached shows.
     subst (λ (s : Step). StepLeaves config u s c.event.result (ShowsLosingBytes config (crossing_of c.event.new.self) (account_of c.event.new.self.histories) (lost_in c.event.new.self.losses))) (sym c.in-Event.is)
     (c.event.ensures.losing config u reached shows)
+
+pub returns-in-Event-clause-harmless : goal.returns-in-Event-clause-harmless
+returns-in-Event-clause-harmless g c = λ config u reached shows. subst (λ (s : Step). spares_links s c.event.result ≡ true) (sym c.in-Event.is) (c.event.ensures.harmless config u reached shows)
 
 pub returns-in-Lose-clause-came : goal.returns-in-Lose-clause-came
 returns-in-Lose-clause-came g c = λ config w nobody reached shows.

@@ -2,8 +2,9 @@ use Rattle.std.proofs.Common.{◌≡◌, ◌∙◌, ◌+◌, ℕ, Ok, Err, refl,
 use Rattle.std.specs.Prelude.{slice_set}
 use Rattle.pg_world_packets.specs.PgNodeSends.contracts.framing.FramedOutgoing.TheImpl as frames
 use Rattle.pg_world_packets.specs.PgNodeOpens.Places.{name_at}
+use Rattle.pg_world_packets.specs.PgStep.Machines.Machine.{Take}
 use Rattle.pg_world_packets.specs.PgStep.Step.{step_take}
-use Rattle.pg_node.specs.Bytes.{next_packet, passed}
+use Rattle.pg_node.specs.Bytes.{damages, next_packet, passed}
 use Rattle.pg_node.specs.Links.{Link, at_link}
 use Rattle.pg_node.specs.Nodes.{held_by, links_of, sent_out}
 use Rattle.pg_world_packets.specs.PgNodeState.States.{names_of, nodes_of, state_of, answers_of, Comes}
@@ -13,9 +14,10 @@ use Rattle.pg_world_packets.specs.PgWorldAccount.Histories.{account_of, update_a
 use Rattle.pg_world_packets.specs.Views.{peer_place}
 use Rattle.pg_world_packets.specs.PgWorldAccount.Histories.{Account}
 use Rattle.pg_world_packets.specs.PgNodeSends.Framed.{listed_of}
-use Rattle.pg_world.proofs.Linked.{alone, first_there, seen_there, links_here, nodes_set}
-use Rattle.pg_world.proofs.Linked.{seen_kept, take_acts, node_same, nodes_kept}
-use Rattle.pg_world.proofs.Passing.{first_read, taken_shown, take_err, unmarked}
+use Rattle.pg_world.proofs.Changed.{held_changes, spared}
+use Rattle.pg_world.proofs.Linked.{first_there, seen_there, links_here, nodes_set}
+use Rattle.pg_world.proofs.Linked.{seen_kept, take_acts, node_same, sends_on}
+use Rattle.pg_world.proofs.Passing.{first_read, taken_shown, take_err, take_harmless, unmarked}
 use Rattle.pg_world.proofs.Past.{reads_first}
 use Rattle.pg_world_packets.proofs.Recording.{grew_taken}
 use Rattle.pg_world_packets.proofs.Turning.{pair_is}
@@ -59,7 +61,21 @@ returns-in-Ok-take_read g c = record {
       c.make_room.ensures.account c.serve.ensures.history c.serve.ensures.applied c.serve.ensures.marked c.begin.ensures.history c.begin.ensures.applied c.begin.ensures.marked) c.of-effect.result c.of-effect.ensures
       (subst (λ k. Comes (names_of (held_by node)) (step_take (nodes_of (held_by node)) (name_at (names_of (held_by node)) (k + 1)) (stamped_of packet) (state_of (held_by node))) (Ok done) (state_of (held_by node2)) (answers_of (held_by node)) (answers_of (held_by node2)))
       place c.in-Ok-take_read.ensures.event);
-  changes = alone c.args.self.now.nodes.items c.args.self.now.rings.items c.args.node c.take_read.new.self;
+  harmless = λ config lost w stays welcome shows. refl;
+  changes = λ safe. (
+      let nodes = c.args.self.now.nodes.items in
+      let rings = c.args.self.now.rings.items in
+      let i = c.args.node in
+      let p = c.args.peer in
+      let node = c.index_mut-taker.result.now in
+      let node2 = c.take_read.new.self in
+      let l = first_there nodes rings i p c.requires.pair c.args.self.now.rows in
+      let sends = listed_of c.in-Ok-take_read.done.sends in (
+        (c.args.packet.now, c.requires.front),
+        sends_on nodes rings i node2 (Take i p) sends refl
+            (take_acts nodes rings i node node2 sends l c.index_mut-taker.ensures.value p (pair_is _ i p c.requires.pair).2
+            (subst (λ k. (j : ℕ) → links_of node2 j ≡ at_link k passed (sent_out sends (links_of node)) j) c.peer_place.ensures c.in-Ok-take_read.ensures.sent)),
+      ));
   formed = c.begin.ensures.formed ∙ (c.serve.ensures.formed ∙ ap (λ (a : Account). a.formed) c.make_room.ensures.account);
   lost = refl;
   room = refl;
@@ -90,15 +106,35 @@ returns-in-Err-take_read g c = record {
       (λ harms. subst (λ (a : Account). ShowsBytesPast config lost (crossing_in (slice_set nodes i node2) rings) a w) (sym account)
       (subst (λ (x : Crossing). ShowsBytesPast config lost x (account_of c.args.self.now.histories) w)
       (sym (node_same nodes rings i node node2 l at seen (c.in-Err-take_read.ensures.marked ∙ unmarked (links_of node) c.peer_place.result fault harms))) shows));
-  changes =
+  harmless = λ config lost w stays welcome shows.
+      let nodes = c.args.self.now.nodes.items in
+      let rings = c.args.self.now.rings.items in
+      let crossing = crossing_of c.args.self.now in
+      let i = c.args.node in
+      let p = c.args.peer in
+      let packet = c.args.packet.now in
+      let node = c.index_mut-taker.result.now in
+      let node2 = c.take_read.new.self in
+      let at = c.index_mut-taker.ensures.value in
+      let l = first_there nodes rings i p c.requires.pair c.args.self.now.rows in
+      let fault = c.in-Err-take_read.fault in
+      let first = first_read config lost crossing w i p shows.traffic c.requires.pair stays
+      (reads_first (λ packets bytes body. c.front_is_first_packet.ensures.first written_of packets bytes body) (λ packets bytes body. c.front_is_first_of_cut.ensures.first written_of packets bytes body)) packet c.requires.front in
+      take_harmless config lost crossing w shows.traffic (λ v. Unit {0}) i p c.requires.pair packet first welcome (node_of node) (seen_there nodes rings i node l at) (state_of (held_by node2)) (answers_of (held_by node2)) fault
+      (subst (λ k. Comes {h = frames.ghosts} (names_of (held_by node)) (step_take (nodes_of (held_by node)) (name_at (names_of (held_by node)) (k + 1)) (stamped_of packet) (state_of (held_by node))) (Err fault) (state_of (held_by node2)) (answers_of (held_by node)) (answers_of (held_by node2)))
+      c.peer_place.ensures c.in-Err-take_read.ensures.event);
+  changes = λ safe.
       let nodes = c.args.self.now.nodes.items in
       let rings = c.args.self.now.rings.items in
       let i = c.args.node in
       let node = c.index_mut-taker.result.now in
       let node2 = c.take_read.new.self in
       let l = first_there nodes rings i c.args.peer c.requires.pair c.args.self.now.rows in
+      let fault = c.in-Err-take_read.fault in
       let seen = seen_kept node node2 c.in-Err-take_read.ensures.stays.names c.in-Err-take_read.ensures.stays.ports c.in-Err-take_read.ensures.stays.state c.in-Err-take_read.ensures.stays.answers in
-      (nodes_kept nodes i node node2 l c.index_mut-taker.ensures.value seen, alone nodes rings i node2);
+      held_changes (crossing_of c.args.self.now) _ i c.args.peer
+      (node_same nodes rings i node node2 l c.index_mut-taker.ensures.value seen (c.in-Err-take_read.ensures.marked ∙ unmarked (links_of node) c.peer_place.result fault (spared (damages fault) safe)))
+      fault (c.args.packet.now, c.requires.front);
   formed = ap (λ (a : Account). a.formed) c.make_room.ensures.account;
   lost = refl;
   room = refl;

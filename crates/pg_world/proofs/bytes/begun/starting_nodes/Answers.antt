@@ -11,7 +11,7 @@ pub returns-in-Ok-clause-good : goal.returns-in-Ok-clause-good
 returns-in-Ok-clause-good c = of_ok c.opened_nodes.result c.in-Ok.ensures.good
 
 pub returns-in-Ok-clause-fault : goal.returns-in-Ok-clause-fault
-returns-in-Ok-clause-fault c = good_fault c.args.config.now.ring c.args.config.now.starts.items c.as_slice.result.now c.as_slice.ensures.value c.in-Ok.ensures.none c.opened_nodes.result c.opened_nodes.ensures.fault
+returns-in-Ok-clause-fault c = good_fault c.args.config.now.ring c.args.config.now.starts.items c.as_slice.result.now c.as_slice.ensures.value c.in-Ok.ensures.none c.opened_nodes.result c.in-Ok.ensures.few c.opened_nodes.ensures.fault
 
 pub returns-in-Ok-clause-count : goal.returns-in-Ok-clause-count
 returns-in-Ok-clause-count c = rw c.as_slice.ensures.value at (made_count c.as_slice.result.now c.opened_nodes.result c.opened_nodes.ensures.nodes)

@@ -13,7 +13,7 @@ pub returns-in-Ok-clause-fits : goal.returns-in-Ok-clause-fits
 returns-in-Ok-clause-fits c = good_fits c.args.config.now.ring c.args.config.now.starts.items c.as_slice.result.now c.as_slice.ensures.value c.in-Ok.ensures.none c.begun.result c.begun.ensures.fits
 
 pub returns-in-Ok-clause-fault : goal.returns-in-Ok-clause-fault
-returns-in-Ok-clause-fault c = good_fault c.args.config.now.ring c.args.config.now.starts.items c.as_slice.result.now c.as_slice.ensures.value c.in-Ok.ensures.none c.begun.result c.begun.ensures.fault
+returns-in-Ok-clause-fault c = good_fault c.args.config.now.ring c.args.config.now.starts.items c.as_slice.result.now c.as_slice.ensures.value c.in-Ok.ensures.none c.begun.result c.in-Ok.ensures.few c.begun.ensures.fault
 
 pub returns-in-Ok-clause-opens : goal.returns-in-Ok-clause-opens
 returns-in-Ok-clause-opens c = rw c.as_slice.ensures.value at c.begun.ensures.opens
