@@ -260,8 +260,12 @@ fn starting(
     }
 }
 
-/// The groups that a term `[{Name, [Pid, ..]}, ..]` lists.
-fn groups_of(alloc: Global, term: Term) -> Result<Option<Items<(Term, Items<Pid>)>>, AllocError>
+/// The groups that a term `[{Name, [Pid, ..]}, ..]` lists, if it does.
+///
+/// Errors: `AllocError`.
+///
+/// Cost: memory for the groups and their members; the names are moved.
+pub fn groups_of(alloc: Global, term: Term) -> Result<Option<Items<(Term, Items<Pid>)>>, AllocError>
     ensures { IfOk result (λ groups. groups ≡ groups_of term) }
 {
     let Some(terms) = items(term) else {

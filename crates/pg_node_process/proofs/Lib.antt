@@ -1,0 +1,10 @@
+pub mod Apart
+pub mod Brought
+pub mod Few
+pub mod Fits
+pub mod Framed
+pub mod Heard
+pub mod Logged
+pub mod Passed
+pub mod Turns
+pub mod Ways

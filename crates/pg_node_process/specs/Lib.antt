@@ -1,0 +1,12 @@
+pub mod Bodies
+pub mod Configs
+pub mod Desks
+pub mod Groups
+pub mod Logs
+pub mod Outputs
+pub mod Parcels
+pub mod Passing
+pub mod Pieces
+pub mod Retries
+pub mod Rooms
+pub mod Whom
