@@ -77,6 +77,8 @@ def refused():
     with Cluster(PROGRAM, ["a", "b"]) as cluster:
         a, b = cluster.at("a"), cluster.at("b")
         pid = a.make()
+        # An answered change shows that the node is formed: before that it ends no process.
+        assert a.create("g") == "ok"
         assert fails(Refused, a.finish, Pid("a", 77, 0, 1)).args == (26,)
         assert fails(BadRequest, a.ask, "no_command").args == (3,)
         assert fails(BadRequest, cluster.ask, Atom("hello")).args == (4,)
@@ -87,7 +89,7 @@ def refused():
         assert fails(BadRequest, mixed[1].result, 60).args == (7,) and fails(BadRequest, mixed[3].result, 60).args == (9,)
         assert cluster.ask((Atom("lose"), Atom("b"))) == ("lost", "b")
         assert fails(NodeLost, b.make).args == ("b",)
-        assert a.create("g") == "ok" and a.join("g", pid) == "ok" and a.get_members("g") == [pid]
+        assert a.join("g", pid) == "ok" and a.get_members("g") == [pid]
 
 
 def full():
