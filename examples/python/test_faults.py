@@ -80,13 +80,13 @@ def refused():
         # An answered change shows that the node is formed: before that it ends no process.
         assert a.create("g") == "ok"
         assert fails(Refused, a.finish, Pid("a", 77, 0, 1)).args == (26,)
-        assert fails(BadRequest, a.ask, "no_command").args == (3,)
-        assert fails(BadRequest, cluster.ask, Atom("hello")).args == (4,)
-        assert fails(BadRequest, cluster.ask, (Atom("a"), 9, Atom("make"))).args == (5,)
+        assert fails(BadRequest, a.ask, "no_command").args == (4,)
+        assert fails(BadRequest, cluster.ask, Atom("hello")).args == (5,)
+        assert fails(BadRequest, cluster.ask, (Atom("a"), 9, Atom("make"))).args == (6,)
         # A bad request has no number of its port: those behind it are answered to who asked.
         mixed = [cluster.send((Atom("a"), 1, command)) for command in [Atom("make"), Atom("none"), Atom("which_groups"), Atom("none"), Atom("make")]]
-        assert mixed[0].result(60).node == "a" and mixed[2].result(60) == [] and mixed[4].result(60).node == "a"
-        assert fails(BadRequest, mixed[1].result, 60).args == (7,) and fails(BadRequest, mixed[3].result, 60).args == (9,)
+        assert mixed[0].result(60).node == "a" and mixed[2].result(60) == ["g"] and mixed[4].result(60).node == "a"
+        assert fails(BadRequest, mixed[1].result, 60).args == (8,) and fails(BadRequest, mixed[3].result, 60).args == (10,)
         assert cluster.ask((Atom("lose"), Atom("b"))) == ("lost", "b")
         assert fails(NodeLost, b.make).args == ("b",)
         assert a.join("g", pid) == "ok" and a.get_members("g") == [pid]
