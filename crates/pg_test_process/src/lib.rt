@@ -8,6 +8,8 @@ mod brought;
 #[cfg(test)]
 mod configs;
 #[cfg(test)]
+mod heard;
+#[cfg(test)]
 mod logged;
 #[cfg(test)]
 mod passed;

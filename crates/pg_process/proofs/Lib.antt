@@ -1,0 +1,14 @@
+pub mod Acted
+pub mod Begun
+pub mod Chained
+pub mod Feeding
+pub mod Lasting
+pub mod Looping
+pub mod Placed
+pub mod Replied
+pub mod Sayings
+pub mod Settling
+pub mod Situated
+pub mod Taken
+pub mod Unseen
+pub mod Waiting

@@ -1,0 +1,77 @@
+-- How a process begins.
+use Rattle.std.specs.Prelude.{◌≡◌, ◌≢◌, ◌∷◌, ℕ, List, [], true, false, length, Ok, Err, ⊤}
+use Rattle.pg_step.specs.PgExchange.GroupList.{GroupList}
+use Rattle.pg_step.specs.Config.{first_table}
+use Rattle.pg_step.specs.Machines.Clocked.{Timed}
+use Rattle.pg_step.specs.State.{State, new_state}
+use Rattle.pg_step.specs.declared.answer.Answer.{Answer}
+use Rattle.pg_node.specs.Begun.{BeginsLinked}
+use Rattle.pg_node.specs.Begun.{CantBegin as CantTell}
+use Rattle.pg_node.specs.Links.{Link}
+use Rattle.pg_node.specs.PgGroup.Table.{Table}
+use Rattle.pg_node.specs.PgNodeState.declared.state.fault.NodeFault.TheVariants as node
+use Rattle.pg_node_process.specs.declared.config.ProcessConfig.{ProcessConfig}
+use Rattle.pg_node_process.specs.declared.groups.GroupsFault.TheVariants as groups_faults
+use Rattle.pg_node_process.specs.Configs.{is_config}
+use Rattle.pg_node_process.specs.Desks.{nothing_came}
+use Rattle.pg_node_process.specs.Groups.{brought}
+use Rattle.pg_node_process.specs.Retries.{at_first}
+use Rattle.pg_process.specs.declared.fault.BeginFault.{BeginFault}
+use Rattle.pg_process.specs.declared.fault.BeginFault.TheVariants.{BadConfig, Groups, Message, OutOfMemory}
+use Rattle.pg_process.specs.declared.process.Process.{Process}
+use Rattle.pg_process.specs.Situations.{Situation, setting_of, situation_of}
+
+-- A process begins: its table has these groups, and the frame that announces them goes out to each peer. One body came, which brought the groups, and nothing is said or
+-- logged.
+pub record Begins (config : ProcessConfig) (groups : GroupList) (process : Process) : Type 0 where
+  pub setting : setting_of process ≡ record { names = config.own ∷ config.peers.items; ports = config.ports }
+  pub state : (situation_of process).node.state ≡ record { clock = 0; state = new_state (first_table groups) config.made }
+  pub answers : (situation_of process).node.answers ≡ (λ port. [])
+  pub links : BeginsLinked (first_table groups) config.own (length config.peers.items) (situation_of process).links
+  pub ports : (situation_of process).ports ≡ (λ port. nothing_came)
+  pub courtesies : (situation_of process).courtesies ≡ (λ port. at_first)
+  pub came : process.came ≡ 1
+  pub told : process.told.formed ≡ false
+  pub outlet : process.outlet.gathered.items ≡ []
+  pub journal : process.journal.gathered.items ≡ []
+
+-- it begins with the groups that its host brings
+pub record BeginsBy (config : ProcessConfig) (bytes : List ℕ) (process : Process) : Type 0 where
+  pub valid : is_config config ≡ true
+  pub groups : GroupList
+  pub brings : brought config.own config.made bytes ≡ Ok groups
+  pub begins : Begins config groups process
+
+-- why groups are not those of a node of this name that has made so many processes
+abbrev pub IsUnbrought : List ℕ → ℕ → List ℕ → BeginFault → Type 0
+IsUnbrought own made bytes BadConfig = ⊥
+IsUnbrought own made bytes (Groups fault) = (fault ≢ groups_faults.OutOfMemory) × (brought own made bytes ≡ Err fault)
+IsUnbrought own made bytes (Message fault) = ⊥
+IsUnbrought own made bytes OutOfMemory = ⊤
+
+-- why a node of this name can't begin with a table
+abbrev pub CantStart : Table → List ℕ → BeginFault → Type 0
+CantStart table own BadConfig = ⊥
+CantStart table own (Groups fault) = ⊥
+CantStart table own (Message fault) = CantTell table own (node.Message fault)
+CantStart table own OutOfMemory = ⊤
+
+-- Why a process can't begin: its config is not valid, which is told whatever memory there is; what the host brings is not its groups; or what
+-- announces these can't be written. Else memory ran out.
+abbrev pub CantBegin : ProcessConfig → List ℕ → BeginFault → Type 0
+CantBegin config bytes BadConfig = is_config config ≡ false
+CantBegin config bytes (Groups fault) = (is_config config ≡ true) × (fault ≢ groups_faults.OutOfMemory) × (brought config.own config.made bytes ≡ Err fault)
+CantBegin config bytes (Message fault) =
+    (is_config config ≡ true) × ((groups : GroupList) × (brought config.own config.made bytes ≡ Ok groups) × CantTell (first_table groups) config.own (node.Message fault))
+CantBegin config bytes OutOfMemory = is_config config ≡ true
+
+-- what is kept by a process to whose node nothing came but that body
+abbrev pub first_situation : Timed State → (ℕ → List Answer) → (ℕ → Link) → Situation
+first_situation state answers links = record {
+  node = record { state = state; answers = answers };
+  links = links;
+  ports = λ port. nothing_came;
+  courtesies = λ port. at_first;
+  came = 1;
+  told = record { formed = false };
+}

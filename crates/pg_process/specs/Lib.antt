@@ -1,0 +1,11 @@
+pub mod Beginnings
+pub mod Chains
+pub mod Changes
+pub mod Deeds
+pub mod Faults
+pub mod Hearing
+pub mod Locks
+pub mod Parties
+pub mod Settled
+pub mod Situations
+pub mod Takings
