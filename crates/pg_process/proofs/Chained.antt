@@ -17,14 +17,15 @@ use Rattle.pg_process.specs.Changes.{HandsOver, Retries, StopsHanding, StopsTryi
 use Rattle.pg_process.specs.Deeds.{Declined, Deed, Handed, Looked, Read, Tried, logged}
 use Rattle.pg_node_process.specs.Bodies.{body_of}
 use Rattle.pg_node_process.specs.Whom.{Whom}
-use Rattle.pg_process.specs.Hearing.{Hears, HearsUntil, Heeds, deeds_of, heeded, whom_of}
+use Rattle.pg_process.specs.Hearing.{Hears, HearsUntil, Heeds, deeds_of, heeded, is_tick, whom_of}
 use Rattle.pg_process.specs.Situations.{Setting, Situation, setting_of, situation_of}
+use Rattle.pg_process.specs.Turns.{Attends, HearsInTurn}
 
-all_then : {A : Type 0} (P : A → Type 0) (xs ys : List A) → AllByRecursion P xs → AllByRecursion P ys → AllByRecursion P (xs ++ ys)
+pub all_then : {A : Type 0} (P : A → Type 0) (xs ys : List A) → AllByRecursion P xs → AllByRecursion P ys → AllByRecursion P (xs ++ ys)
 all_then P [] ys p q = q
 all_then P (x ∷ xs) ys p q = (p.0, all_then P xs ys p.1 q)
 
-do_then : (set : Setting) (a b c : Situation) (xs ys : List Step) → AllDo set a xs b → AllDo set b ys c → AllDo set a (xs ++ ys) c
+pub do_then : (set : Setting) (a b c : Situation) (xs ys : List Step) → AllDo set a xs b → AllDo set b ys c → AllDo set a (xs ++ ys) c
 do_then set a b c [] ys p q = subst (λ (s : Situation). AllDo set s ys c) p q
 do_then set a b c (x ∷ xs) ys p q = (p.0, p.1, do_then set p.0 b c xs ys p.2 q)
 
@@ -182,11 +183,11 @@ itself a = record { same = refl; gathered = refl; journal = refl; setting = refl
 
 -- ---- a body is heard
 
-deeds_then : (xs ys : List Step) → deeds_of (xs ++ ys) ≡ deeds_of xs ++ deeds_of ys
+pub deeds_then : (xs ys : List Step) → deeds_of (xs ++ ys) ≡ deeds_of xs ++ deeds_of ys
 deeds_then [] ys = refl
 deeds_then (x ∷ xs) ys = ap (λ (ds : List Deed). x.deed ∷ ds) (deeds_then xs ys)
 
-work_deeds : (steps : List Step) → AreWork steps → AllByRecursion IsWork (deeds_of steps)
+pub work_deeds : (steps : List Step) → AreWork steps → AllByRecursion IsWork (deeds_of steps)
 work_deeds [] work = tt
 work_deeds (x ∷ xs) work = (work.0, work_deeds xs work.1)
 
@@ -221,6 +222,15 @@ unheeded body fault a b c noted ends = record {
   deeds = sym (append-nil (Read body ∷ heeded (body_of (whom_of a) body) body));
   follows = tt;
   ends = ends_on (step_of (Read body) a b noted ∷ []) [] fault a b c (makes_goes (Read body) a b noted) ends;
+}
+
+pub turns_by : (body : List ℕ) (tick : Bool) (a b c d : Process) → whom_of b ≡ whom_of a → Makes (Read body) a b → Heeds body b c → tick ≡ is_tick (body_of (whom_of b) body) → Attends tick c d → HearsInTurn body a d
+turns_by body tick a b c d whom noted heeds is attends = record {
+  steps = step_of (Read body) a b noted ∷ heeds.steps;
+  deeds = ap (λ (ds : List Deed). Read body ∷ ds) (heeds.deeds ∙ ap (λ (w : Whom). heeded (body_of w body) body) whom);
+  heeds = c;
+  goes = goes_on (step_of (Read body) a b noted ∷ []) heeds.steps a b c (makes_goes (Read body) a b noted) heeds.goes;
+  attends = subst (λ (t : Bool). Attends t c d) (is ∙ ap (λ (w : Whom). is_tick (body_of w body)) whom) attends;
 }
 
 pub unfinished : (body : List ℕ) (fault : ProcessFault) (a b c d : Process) → whom_of b ≡ whom_of a → Makes (Read body) a b → Heeds body b c → WorksUntil fault c d → HearsUntil body fault a d

@@ -1,7 +1,7 @@
 -- Things of a list, by their places, where one of them changes.
-use Rattle.std.proofs.Common.{◌≡◌, ◌<◌, ◌∙◌, ℕ, zero, suc, Bool, true, false, cond, nat_eq, List, [], ◌∷◌, get_or, length, refl, sym, ap, arith}
+use Rattle.std.proofs.Common.{◌≡◌, ◌≢◌, ◌<◌, ◌∙◌, ℕ, zero, suc, Bool, true, false, cond, nat_eq, List, [], ◌∷◌, get_or, length, refl, sym, ap, arith}
 use Rattle.std.specs.Prelude.{slice_set}
-use Rattle.std.proofs.lemmas.Bool.{eq-eqb}
+use Rattle.std.proofs.lemmas.Bool.{eq-eqb, ne_eqb}
 use Rattle.std.proofs.Math.Dec.{eqb-zero-suc, eqb-suc-zero, eqb-suc-suc}
 use Rattle.std.proofs.Math.Path.{fun_ext}
 use Rattle.pg_node.specs.PgGroup.Functions.{upd}
@@ -49,6 +49,11 @@ module _ {B : Type 0} (things : ℕ → B) (k : ℕ) (change : B → B) where
   pub placed_here : at_place k change things k ≡ change (things k)
   unfolding upd
   placed_here = ap (λ b. cond b (change (things k)) (things k)) (eq-eqb k k refl)
+
+  -- any other
+  pub placed_else : (other : ℕ) → other ≢ k → at_place k change things other ≡ things other
+  unfolding upd
+  placed_else other n = ap (λ b. cond b (change (things k)) (things other)) (ne_eqb k other (λ e. n (sym e)))
 
   -- it changes twice
   pub placed_twice : (again : B → B) → at_place k again (at_place k change things) ≡ at_place k (λ x. again (change x)) things

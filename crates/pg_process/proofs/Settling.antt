@@ -7,13 +7,17 @@ use Rattle.pg_node.specs.Nodes.{held_by, links_of}
 use Rattle.pg_node.specs.PgGroup.Functions.{upd}
 use Rattle.pg_node.specs.PgNodeState.States.{answers_of}
 use Rattle.pg_node.specs.PgStep.declared.answer.Answer.{Answer}
+use Rattle.pg_node_process.specs.declared.retries.Courtesy.{Courtesy}
+use Rattle.pg_node_process.specs.Desks.{Port}
+use Rattle.pg_node_process.specs.Retries.{gives_way}
+use Rattle.pg_node_run.specs.Acts.{Standing}
 use Rattle.pg_node_run.proofs.Moving.{link_else, link_there}
 use Rattle.pg_process.specs.declared.fault.ProcessFault.{ProcessFault}
 use Rattle.pg_process.specs.declared.process.Process.{Process}
 use Rattle.pg_process.specs.Chains.{Makes, Rests, Works}
 use Rattle.pg_process.specs.Deeds.{Answered, Formed, Sent}
-use Rattle.pg_process.specs.Locks.{is_formed}
-use Rattle.pg_process.specs.Settled.{IsSettled, IsToldFormed, NoneComes, NoneUnsaid, NoneWaits, OnlyLinks, OnlySends, OnlyTold}
+use Rattle.pg_process.specs.Locks.{IsDenied, is_formed}
+use Rattle.pg_process.specs.Settled.{AllToldDenied, IsSettled, IsToldFormed, NoneComes, NoneKeeps, NoneUnsaid, NoneWaits, OnlyDenied, OnlyLinks, OnlySends, OnlyTold}
 use Rattle.pg_process.specs.Situations.{Setting, Situation, setting_of, situation_of}
 use Rattle.pg_process.specs.Takings.{HasNone}
 use Rattle.pg_process.proofs.Lasting.{none_lasts}
@@ -118,13 +122,51 @@ none_next peer a b before works none other less = go (cases_eq other peer)
 stays_taken : (a b : Process) → Works a b → NoneComes a → NoneComes b
 stays_taken a b works none = λ peer less. none_lasts peer a b works (none peer (subst (λ (n : ℕ). peer < n) (same_peers a b works.goes.setting) less))
 
+-- ---- changes that wait, and those that were denied
+
+-- none is kept where ports and how they give way are the same
+keeps_stays : (a b : Process) → setting_of b ≡ setting_of a → (situation_of b).ports ≡ (situation_of a).ports
+    → ((port : ℕ) → gives_way ((situation_of b).courtesies port) ≡ gives_way ((situation_of a).courtesies port)) → NoneKeeps a → NoneKeeps b
+keeps_stays a b set ports ways keeps port less free some =
+    ways port
+    ∙ keeps port (subst (λ (n : ℕ). port < n) (ap (λ (s : Setting). s.ports) set) less) (sym (ap (λ (f : ℕ → Port). (f port).current) ports) ∙ free)
+    (λ none. some (ap (λ (f : ℕ → Port). (f port).waiting) ports ∙ none))
+
+-- what was told stays so where the node and the courtesies are the same
+told_stays : (a b : Process) → setting_of b ≡ setting_of a → (situation_of b).node ≡ (situation_of a).node → (situation_of b).courtesies ≡ (situation_of a).courtesies → AllToldDenied a → AllToldDenied b
+told_stays a b set node courtesies told port less denied =
+    ap (λ (f : ℕ → Courtesy). (f port).is_told) courtesies
+    ∙ told port (subst (λ (n : ℕ). port < n) (ap (λ (s : Setting). s.ports) set) less)
+    (subst (λ (s : Setting). IsDenied s (situation_of a) port) set (subst (λ (n : Standing). IsDenied (setting_of b) (record (situation_of a) { node = n }) port) node denied))
+
+pub keeps_denied : (a b : Process) → setting_of b ≡ setting_of a → OnlyDenied (situation_of a) (situation_of b) → NoneKeeps a → NoneKeeps b
+keeps_denied a b set only keeps = keeps_stays a b set (ap (λ (s : Situation). s.ports) only.rest) (λ port. ap gives_way (only.kept port)) keeps
+
+pub said_denied : (a b : Process) → setting_of b ≡ setting_of a → OnlyDenied (situation_of a) (situation_of b) → NoneUnsaid a → NoneUnsaid b
+said_denied a b set only said = stays_said a b set (ap (λ (s : Situation). s.node.answers) only.rest) said
+
+-- with what it comes to
+pub keeps_denied_then : (result : Result (Unit {0}) ProcessFault) (a b : Process) → NoneKeeps a → OnOk result (Works a b) → OnOk result (OnlyDenied (situation_of a) (situation_of b)) → OnOk result (NoneKeeps b)
+keeps_denied_then (Ok done) a b keeps works only = keeps_denied a b works.goes.setting only keeps
+keeps_denied_then (Err fault) a b keeps works only = tt
+
+pub said_denied_then : (result : Result (Unit {0}) ProcessFault) (a b : Process) → NoneUnsaid a → OnOk result (Works a b) → OnOk result (OnlyDenied (situation_of a) (situation_of b)) → OnOk result (NoneUnsaid b)
+said_denied_then (Ok done) a b said works only = said_denied a b works.goes.setting only said
+said_denied_then (Err fault) a b said works only = tt
+
 -- what follows was done
-pub settles : (result : Result (Unit {0}) ProcessFault) (a b c d : Process) → NoneComes a → Works a b → NoneUnsaid b → Works b c → OnlyTold b c → IsToldFormed (setting_of c) (situation_of c)
-    → OnOk result (Works c d) → OnOk result (NoneWaits d) → OnOk result (OnlyLinks c d) → OnOk result (IsSettled d)
-settles (Ok done) a b c d none serves said forms rest told works unsent links = record {
-  taken = stays_taken c d works (stays_taken b c forms (stays_taken a b serves none));
-  answered = stays_said c d works.goes.setting (ap (λ (s : Situation). s.node.answers) links) (stays_said b c forms.goes.setting (ap (λ (s : Situation). s.node.answers) rest) said);
-  formed = stays_told c d works.goes.setting links told;
-  unsent = unsent;
-}
-settles (Err fault) a b c d none serves said forms rest told works unsent links = tt
+pub settles : (result : Result (Unit {0}) ProcessFault) (a b c d : Process) → NoneComes a → Works a b → NoneUnsaid b → NoneKeeps b → AllToldDenied b → Works b c → OnlyTold b c
+    → IsToldFormed (setting_of c) (situation_of c) → OnOk result (Works c d) → OnOk result (NoneWaits d) → OnOk result (OnlyLinks c d) → OnOk result (IsSettled d)
+settles (Ok done) a b c d none serves said keeps denied forms rest told works unsent links =
+    let same = works.goes.setting ∙ forms.goes.setting in
+    let ports = ap (λ (s : Situation). s.ports) links ∙ ap (λ (s : Situation). s.ports) rest in
+    let courtesies = ap (λ (s : Situation). s.courtesies) links ∙ ap (λ (s : Situation). s.courtesies) rest in
+    let node = ap (λ (s : Situation). s.node) links ∙ ap (λ (s : Situation). s.node) rest in record {
+      taken = stays_taken c d works (stays_taken b c forms (stays_taken a b serves none));
+      answered = stays_said c d works.goes.setting (ap (λ (s : Situation). s.node.answers) links) (stays_said b c forms.goes.setting (ap (λ (s : Situation). s.node.answers) rest) said);
+      handed = keeps_stays b d same ports (λ port. ap (λ (f : ℕ → Courtesy). gives_way (f port)) courtesies) keeps;
+      denied = told_stays b d same node courtesies denied;
+      formed = stays_told c d works.goes.setting links told;
+      unsent = unsent;
+    }
+settles (Err fault) a b c d none serves said keeps denied forms rest told works unsent links = tt

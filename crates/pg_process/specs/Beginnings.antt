@@ -19,19 +19,22 @@ use Rattle.pg_node_process.specs.Retries.{at_first}
 use Rattle.pg_process.specs.declared.fault.BeginFault.{BeginFault}
 use Rattle.pg_process.specs.declared.fault.BeginFault.TheVariants.{BadConfig, Groups, Message, OutOfMemory}
 use Rattle.pg_process.specs.declared.process.Process.{Process}
-use Rattle.pg_process.specs.Situations.{Situation, setting_of, situation_of}
+use Rattle.pg_process.specs.Situations.{Setting, Situation, setting_of, situation_of}
 
--- A process begins: its table has these groups, and the frame that announces them goes out to each peer. One body came, which brought the groups, and nothing is said or
--- logged.
+-- What a node of a set begins with: its table has these groups, and the frame that announces them waits for each peer. Nothing came, and nothing was said.
+pub record StartsAs (config : ProcessConfig) (groups : GroupList) (set : Setting) (a : Situation) : Type 0 where
+  pub setting : set ≡ record { names = config.own ∷ config.peers.items; ports = config.ports }
+  pub state : a.node.state ≡ record { clock = 0; state = new_state (first_table groups) config.made }
+  pub answers : a.node.answers ≡ (λ port. [])
+  pub links : BeginsLinked (first_table groups) config.own (length config.peers.items) a.links
+  pub ports : a.ports ≡ (λ port. nothing_came)
+  pub courtesies : a.courtesies ≡ (λ port. at_first)
+  pub came : a.came ≡ 0
+  pub told : a.told.formed ≡ false
+
+-- A process begins so, and nothing is gathered.
 pub record Begins (config : ProcessConfig) (groups : GroupList) (process : Process) : Type 0 where
-  pub setting : setting_of process ≡ record { names = config.own ∷ config.peers.items; ports = config.ports }
-  pub state : (situation_of process).node.state ≡ record { clock = 0; state = new_state (first_table groups) config.made }
-  pub answers : (situation_of process).node.answers ≡ (λ port. [])
-  pub links : BeginsLinked (first_table groups) config.own (length config.peers.items) (situation_of process).links
-  pub ports : (situation_of process).ports ≡ (λ port. nothing_came)
-  pub courtesies : (situation_of process).courtesies ≡ (λ port. at_first)
-  pub came : process.came ≡ 1
-  pub told : process.told.formed ≡ false
+  pub starts : StartsAs config groups (setting_of process) (situation_of process)
   pub outlet : process.outlet.gathered.items ≡ []
   pub journal : process.journal.gathered.items ≡ []
 
@@ -65,13 +68,13 @@ CantBegin config bytes (Message fault) =
     (is_config config ≡ true) × ((groups : GroupList) × (brought config.own config.made bytes ≡ Ok groups) × CantTell (first_table groups) config.own (node.Message fault))
 CantBegin config bytes OutOfMemory = is_config config ≡ true
 
--- what is kept by a process to whose node nothing came but that body
+-- what is kept by a process to whose node nothing came
 abbrev pub first_situation : Timed State → (ℕ → List Answer) → (ℕ → Link) → Situation
 first_situation state answers links = record {
   node = record { state = state; answers = answers };
   links = links;
   ports = λ port. nothing_came;
   courtesies = λ port. at_first;
-  came = 1;
+  came = 0;
   told = record { formed = false };
 }

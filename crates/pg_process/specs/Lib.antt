@@ -1,3 +1,4 @@
+pub mod Accounts
 pub mod Beginnings
 pub mod Chains
 pub mod Changes
@@ -6,6 +7,9 @@ pub mod Faults
 pub mod Hearing
 pub mod Locks
 pub mod Parties
+pub mod Serving
 pub mod Settled
 pub mod Situations
+pub mod Stories
 pub mod Takings
+pub mod Turns

@@ -1,10 +1,12 @@
 -- What holds once what follows was done.
-use Rattle.std.specs.Prelude.{◌≡◌, ◌≢◌, ◌<◌, ℕ, true, length, []}
-use Rattle.pg_node.specs.Nodes.{held_by, links_of}
+use Rattle.std.specs.Prelude.{◌≡◌, ◌≢◌, ◌⊎◌, ◌<◌, ◌+◌, ℕ, true, length, [], Ok, None}
+use Rattle.pg_node.specs.Nodes.{held_by, links_of, read_next}
 use Rattle.pg_node.specs.PgNodeState.Issued.{ports_of}
 use Rattle.pg_node.specs.PgNodeState.States.{answers_of}
+use Rattle.pg_node_process.specs.Retries.{gives_way}
 use Rattle.pg_process.specs.declared.process.Process.{Process}
-use Rattle.pg_process.specs.Locks.{is_formed}
+use Rattle.pg_process.specs.Deeds.{is_lost}
+use Rattle.pg_process.specs.Locks.{IsDenied, is_formed}
 use Rattle.pg_process.specs.Situations.{Setting, Situation, setting_of, situation_of}
 use Rattle.pg_process.specs.Takings.{HasNone}
 
@@ -24,6 +26,34 @@ NoneWaits a = (peer : ℕ) → peer < length a.peers.items → (links_of a.node 
 abbrev pub NoneUnsaid : Process → Type 0
 NoneUnsaid a = (port : ℕ) → port < ports_of (held_by a.node) → answers_of (held_by a.node) port ≡ []
 
+-- a port keeps no change that it could hand over: where none is with the node and some wait, it gives way
+abbrev pub KeepsNone : Situation → ℕ → Type 0
+KeepsNone a port = (a.ports port).current ≡ None → (a.ports port).waiting ≢ [] → gives_way (a.courtesies port) ≡ true
+
+-- none does
+abbrev pub NoneKeeps : Process → Type 0
+NoneKeeps a = (port : ℕ) → port < ports_of (held_by a.node) → KeepsNone (situation_of a) port
+
+-- that the change of a port was denied its lock was told
+abbrev pub IsToldDenied : Situation → ℕ → Type 0
+IsToldDenied a port = (a.courtesies port).is_told ≡ true
+
+-- of each change that was
+abbrev pub AllToldDenied : Process → Type 0
+AllToldDenied a = (port : ℕ) → port < ports_of (held_by a.node) → IsDenied (setting_of a) (situation_of a) port → IsToldDenied (situation_of a) port
+
+-- nothing of another port is another
+pub record OnlyPort (port : ℕ) (a b : Situation) : Type 0 where
+  pub ports : (other : ℕ) → other ≢ port → b.ports other ≡ a.ports other
+  pub courtesies : (other : ℕ) → other ≢ port → b.courtesies other ≡ a.courtesies other
+  pub answers : (other : ℕ) → other ≢ port → b.node.answers other ≡ a.node.answers other
+
+-- nothing but that changes were told to be denied is another
+pub record OnlyDenied (a b : Situation) : Type 0 where
+  pub rest : b ≡ record a { courtesies = b.courtesies }
+  pub kept : (port : ℕ) → b.courtesies port ≡ record (a.courtesies port) { is_told = (b.courtesies port).is_told }
+  pub lasts : (port : ℕ) → IsToldDenied a port → IsToldDenied b port
+
 -- nothing but what is said once only is another
 abbrev pub OnlyTold : Process → Process → Type 0
 OnlyTold a b = situation_of b ≡ record (situation_of a) { told = b.told }
@@ -38,10 +68,22 @@ pub record OnlySends (peer : ℕ) (a b : Process) : Type 0 where
   pub others : (other : ℕ) → other ≢ peer → links_of b.node other ≡ links_of a.node other
   pub kept : links_of b.node peer ≡ record (links_of a.node peer) { outbox = (links_of b.node peer).outbox }
 
--- What follows was done: all whole packets were taken, each answer was said, and that the node is formed, once it is, and no bytes wait for a
--- peer.
+-- What follows was done: all whole packets were taken, each answer was said, no port keeps a change that it could hand over, each change that
+-- was denied its lock was told to be, and that the node is formed, once it is, and no bytes wait for a peer.
 pub record IsSettled (a : Process) : Type 0 where
   pub taken : NoneComes a
   pub answered : NoneUnsaid a
+  pub handed : NoneKeeps a
+  pub denied : AllToldDenied a
   pub formed : IsToldFormed (setting_of a) (situation_of a)
   pub unsent : NoneWaits a
+
+-- the same of what is kept alone
+pub record IsAtRest (set : Setting) (a : Situation) : Type 0 where
+  pub taken : (peer : ℕ) → peer + 1 < length set.names
+      → (is_lost set a peer ≡ true) ⊎ (((a.links peer).damaged ≡ true) ⊎ (read_next (is_lost set a peer) (a.links peer) ≡ Ok None))
+  pub answered : (port : ℕ) → port < set.ports → a.node.answers port ≡ []
+  pub handed : (port : ℕ) → port < set.ports → KeepsNone a port
+  pub denied : (port : ℕ) → port < set.ports → IsDenied set a port → IsToldDenied a port
+  pub formed : IsToldFormed set a
+  pub unsent : (peer : ℕ) → peer + 1 < length set.names → (a.links peer).outbox ≡ []

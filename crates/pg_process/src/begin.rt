@@ -157,7 +157,7 @@ fn begun_node(
     }
 }
 
-/// A process of a node, to which nothing came but the body that brought the groups.
+/// A process of a node, to which nothing came.
 fn assembled(
     alloc: Global,
     node: Node<IndexTable>,
@@ -183,8 +183,7 @@ fn assembled(
             outlet: Outlet::new(alloc),
             journal: Journal::new(alloc),
             parcel: Parcel::new(alloc),
-            // The body that brought the groups.
-            came: 1,
+            came: 0,
             told: Told { formed: false },
             alloc,
         }),

@@ -12,6 +12,7 @@ impl Process {
     ghost use Rattle.pg_process.specs.Chains.{Ends, Works, WorksUntil};
     ghost use Rattle.pg_process.specs.Hearing.{Hears, HearsUntil, Heeds, is_tick, whom_of};
     ghost use Rattle.pg_process.specs.Settled.{IsSettled};
+    ghost use Rattle.pg_process.specs.Turns.{HearsInTurn};
 
     /// Hears a body: it is logged, what it asks for is done, and then what follows.
     ///
@@ -21,6 +22,7 @@ impl Process {
     pub fn hear(&mut self, body: &[u8]) -> Result<(), ProcessFault>
         requires { length body.now ≤ max_body }
         ensures hears { OnOk result (Hears body.now self.old self.new) }
+        ensures turns { OnOk result (HearsInTurn body.now self.old self.new) }
         ensures settled { OnOk result (IsSettled self.new) }
         ensures until { IfErr result (λ fault. HearsUntil body.now fault self.old self.new) }
     {

@@ -1,7 +1,8 @@
 //! One node of a fixed set as a process: a node over bytes, the requests of its ports, and what it says to its host.
 //!
-//! `process.take_next(peer)?` is one of its deeds. Begin with `src/process.rt`; `specs/Deeds.antt` says what each deed makes of what a
-//! process keeps, what it says, and what is logged of it.
+//! `serve(alloc, config, version, &mut reader, &mut writer, &mut log)?` serves a node to the end of its input. Begin with `src/serving.rt` and
+//! `specs/Serving.antt`. `process.hear(body)?` is what a process does between two reads: `src/process.rt`, and `specs/Deeds.antt`, which says
+//! what each of its deeds makes of what it keeps, what it says, and what is logged of it.
 #![tactic(auto)]
 
 mod answering;
@@ -10,10 +11,14 @@ mod bytes;
 mod changes;
 mod fault;
 mod hearing;
+mod laws;
 mod passing;
 mod process;
+mod serving;
 mod telling;
 mod work;
 
-pub use fault::{BeginFault, ProcessFault};
+pub use fault::{BeginFault, EndFault, ProcessFault};
+pub use laws::chains_account;
 pub use process::{Process, Told};
+pub use serving::serve;

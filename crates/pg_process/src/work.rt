@@ -3,20 +3,25 @@
 use crate::fault::ProcessFault;
 use crate::process::Process;
 use pg_node::OpId;
-use pg_node_process::{MAX_WAITING, Seen};
+use pg_node_process::Seen;
 
 impl Process {
-    ghost use Rattle.std.specs.Prelude.{◌≡◌, ◌≢◌, ◌≤◌, ◌<◌, ℕ, true, IfErr, OnOk, [], length};
+    ghost use Rattle.std.specs.Prelude.{◌≡◌, ◌≢◌, ◌≤◌, ◌<◌, ◌↔◌, ℕ, Bool, nat_lt, true, false, IfErr, IfOk, IsTrue, OnOk, [], length};
     ghost use Rattle.pg_node.specs.Nodes.{held_by, links_of};
     ghost use Rattle.pg_node.specs.PgNodeState.Issued.{ports_of};
     ghost use Rattle.pg_node.specs.PgNodeState.States.{answers_of};
-    ghost use Rattle.pg_process.specs.Chains.{Works, WorksUntil};
+    ghost use Rattle.pg_node_process.specs.Retries.{gives_way, is_due};
+    ghost use Rattle.pg_process.specs.Chains.{Makes, Works, WorksUntil};
+    ghost use Rattle.pg_process.specs.Changes.{Retries};
+    ghost use Rattle.pg_process.specs.Deeds.{Looked};
+    ghost use Rattle.pg_process.specs.Locks.{IsDenied};
     ghost use Rattle.pg_node.specs.PgNodeState.States.{kept_by, live_of};
     ghost use Rattle.pg_node.specs.PgNodeState.Waiting.{AreWaiting};
     ghost use Rattle.pg_node.specs.PgStep.Attempts.{waits};
-    ghost use Rattle.pg_process.specs.Settled.{IsSettled, IsToldFormed, NoneComes, NoneUnsaid, NoneWaits, OnlyLinks, OnlySends, OnlyTold};
+    ghost use Rattle.pg_process.specs.Settled.{AllToldDenied, IsSettled, IsToldDenied, IsToldFormed, NoneComes, NoneKeeps, NoneUnsaid, NoneWaits, OnlyDenied, OnlyLinks, OnlySends, OnlyTold};
     ghost use Rattle.pg_process.specs.Situations.{setting_of, situation_of};
     ghost use Rattle.pg_process.specs.Takings.{HasNone};
+    ghost use Rattle.pg_process.specs.Turns.{Attends, HandsAt, HandsIf, HandsMany, HandsUpTo, RetriesAll, SaysAll, Serves, TriesAt, TriesEach, is_free};
 
     /// Says all answers at a port.
     ///
@@ -26,6 +31,7 @@ impl Process {
     pub fn answer_all(&mut self, port: usize) -> Result<(), ProcessFault>
         requires { port < ports_of (held_by self.old.node) }
         ensures works { OnOk result (Works self.old self.new) }
+        ensures says { OnOk result (SaysAll port self.old self.new) }
         ensures none { OnOk result (answers_of (held_by self.new.node) port ≡ []) }
         ensures others { OnOk result ((other : ℕ) → other ≢ port → answers_of (held_by self.new.node) other ≡ answers_of (held_by self.old.node) other) }
         ensures until { IfErr result (λ fault. WorksUntil fault self.old self.new) }
@@ -86,6 +92,7 @@ impl Process {
     #[tactic(auto, using(crate::proofs::Chained::works_on, crate::proofs::Chained::works_until, crate::proofs::Chained::works_then, crate::proofs::Chained::until_then, crate::proofs::Chained::work_rests, crate::proofs::Chained::itself))]
     pub fn attend(&mut self, is_tick: bool) -> Result<(), ProcessFault>
         ensures works { OnOk result (Works self.old self.new) }
+        ensures attends { OnOk result (Attends is_tick self.old self.new) }
         ensures settled { OnOk result (IsSettled self.new) }
         ensures until { IfErr result (λ fault. WorksUntil fault self.old self.new) }
     {
@@ -119,11 +126,15 @@ impl Process {
         Ok(())
     }
 
-    /// Says the answers at all ports, tries denied changes again, hands over the next ones, and tells which were denied. No answer is left.
+    /// Says the answers at all ports, tries denied changes again, hands over the next ones, and tells which were denied. No answer is left, and no
+    /// change that could be handed over.
     #[tactic(auto, using(crate::proofs::Chained::works_on, crate::proofs::Chained::works_until, crate::proofs::Chained::works_then, crate::proofs::Chained::until_then, crate::proofs::Chained::work_rests, crate::proofs::Chained::itself))]
     fn serve_ports(&mut self, is_tick: bool) -> Result<(), ProcessFault>
         ensures works { OnOk result (Works self.old self.new) }
+        ensures serves { OnOk result (Serves is_tick self.old self.new) }
         ensures said { OnOk result (NoneUnsaid self.new) }
+        ensures handed { OnOk result (NoneKeeps self.new) }
+        ensures denied { OnOk result (AllToldDenied self.new) }
         ensures until { IfErr result (λ fault. WorksUntil fault self.old self.new) }
     {
         match self.answer_ports() {
@@ -138,11 +149,7 @@ impl Process {
             Ok(()) => {}
             Err(fault) => return Err(fault),
         }
-        match self.tell_all_denied() {
-            Ok(()) => {}
-            Err(fault) => return Err(fault),
-        }
-        self.answer_ports()
+        self.tell_all_denied()
     }
 
     /// Says all answers at all ports.
@@ -163,11 +170,9 @@ impl Process {
     /// Tries each denied change again that is due.
     fn retry_all(&mut self, is_tick: bool) -> Result<(), ProcessFault>
         ensures works { OnOk result (Works self.old self.new) }
+        ensures retries { OnOk result (RetriesAll is_tick self.old self.new) }
         ensures until { IfErr result (λ fault. WorksUntil fault self.old self.new) }
     {
-        if self.node.state().open_count() == 0 {
-            return Ok(());
-        }
         let Ok(ops) = self.node.state().waiting() else {
             return Err(ProcessFault::OutOfMemory);
         };
@@ -179,6 +184,7 @@ impl Process {
     /// Tries each of these changes again that is due.
     fn retry_each(&mut self, ops: &[OpId], is_tick: bool) -> Result<(), ProcessFault>
         ensures works { OnOk result (Works self.old self.new) }
+        ensures each { OnOk result (TriesEach ops.now is_tick self.old self.new) }
         ensures until { IfErr result (λ fault. WorksUntil fault self.old self.new) }
     {
         for op in ops {
@@ -194,6 +200,7 @@ impl Process {
     #[tactic(auto, using(crate::proofs::Chained::works_on, crate::proofs::Chained::works_until, crate::proofs::Chained::works_then, crate::proofs::Chained::until_then, crate::proofs::Chained::work_rests, crate::proofs::Chained::itself))]
     fn retry_if_due(&mut self, op: OpId, is_tick: bool) -> Result<(), ProcessFault>
         ensures works { OnOk result (Works self.old self.new) }
+        ensures tries { OnOk result (TriesAt (nat_lt op.port (setting_of self.old).ports) op is_tick self.old self.new) }
         ensures until { IfErr result (λ fault. WorksUntil fault self.old self.new) }
     {
         let port = usize::from(op.port);
@@ -201,7 +208,7 @@ impl Process {
             return Ok(());
         }
         let seen = self.look_on(port, is_tick);
-        if !self.courtesies[port].is_due(seen, is_tick) {
+        if !self.is_due(port, seen, is_tick) {
             return Ok(());
         }
         match self.retry_now(op) {
@@ -211,10 +218,19 @@ impl Process {
         self.answer_all(port)
     }
 
+    /// Whether the denied change of a port is tried again, by what was seen of its lock.
+    fn is_due(&self, port: usize, seen: Seen, is_tick: bool) -> bool
+        requires { port < ports_of (held_by self.now.node) }
+        ensures { result ≡ is_due seen is_tick ((situation_of self.now).courtesies port) }
+    {
+        self.courtesies[port].is_due(seen, is_tick)
+    }
+
     /// Tries a denied change again.
     fn retry_now(&mut self, op: OpId) -> Result<(), ProcessFault>
         requires { op.port < ports_of (held_by self.old.node) }
         ensures works { OnOk result (Works self.old self.new) }
+        ensures retries { OnOk result ((did : Bool) × Retries op did self.old self.new) }
         ensures until { IfErr result (λ fault. WorksUntil fault self.old self.new) }
     {
         match self.retry(op) {
@@ -227,14 +243,18 @@ impl Process {
     fn look_on(&mut self, port: usize, is_tick: bool) -> Seen
         requires { port < ports_of (held_by self.old.node) }
         ensures works { Works self.old self.new }
+        ensures made { Makes (Looked port result is_tick) self.old self.new }
         ensures setting { setting_of self.new ≡ setting_of self.old }
     {
         self.look(port, is_tick)
     }
 
-    /// Hands over the next changes of all ports.
+    /// Says the answers at all ports, and hands over their next changes.
     fn hand_over_all(&mut self, is_tick: bool) -> Result<(), ProcessFault>
         ensures works { OnOk result (Works self.old self.new) }
+        ensures hands { OnOk result (HandsUpTo (setting_of self.old).ports is_tick self.old self.new) }
+        ensures said { OnOk result (NoneUnsaid self.new) }
+        ensures kept { OnOk result (NoneKeeps self.new) }
         ensures until { IfErr result (λ fault. WorksUntil fault self.old self.new) }
     {
         for port in 0..self.desks.len() {
@@ -246,24 +266,47 @@ impl Process {
         Ok(())
     }
 
-    /// Hands over the next changes of a port, as long as the node answers them at once and the port does not give way.
+    /// Says the answers at a port, and hands over its next changes, where none is with the node.
     fn hand_over_at(&mut self, port: usize, is_tick: bool) -> Result<(), ProcessFault>
         requires { port < ports_of (held_by self.old.node) }
         ensures works { OnOk result (Works self.old self.new) }
+        ensures hands { OnOk result (HandsAt port is_tick self.old self.new) }
         ensures until { IfErr result (λ fault. WorksUntil fault self.old self.new) }
     {
-        if self.desks[port].current().is_some() || self.desks[port].front().is_none() {
+        match self.answer_all(port) {
+            Ok(()) => {}
+            Err(fault) => return Err(fault),
+        }
+        if !self.is_free(port) {
             return Ok(());
         }
         self.look_on(port, is_tick);
-        for _ in 0..MAX_WAITING {
+        self.hand_over_many(port)
+    }
+
+    /// Whether a port has a change to hand over: none is with the node, and one waits.
+    fn is_free(&self, port: usize) -> bool
+        requires { port < ports_of (held_by self.now.node) }
+        ensures { result ≡ is_free ((situation_of self.now).ports port) }
+    {
+        let desk = &self.desks[port];
+        desk.current().is_none() && desk.front().is_some()
+    }
+
+    /// Hands over the next changes of a port, as long as the node answers them at once and the port does not give way.
+    fn hand_over_many(&mut self, port: usize) -> Result<(), ProcessFault>
+        requires { port < ports_of (held_by self.old.node) }
+        ensures works { OnOk result (Works self.old self.new) }
+        ensures hands { OnOk result (HandsMany port self.old self.new) }
+        ensures until { IfErr result (λ fault. WorksUntil fault self.old self.new) }
+    {
+        loop {
             match self.hand_over_one(port) {
                 Ok(true) => {}
                 Ok(false) => return Ok(()),
                 Err(fault) => return Err(fault),
             }
         }
-        Ok(())
     }
 
     /// Hands over the next change of a port, where it does not give way, and says its answer, where the node answers it at once; whether
@@ -271,9 +314,10 @@ impl Process {
     fn hand_over_one(&mut self, port: usize) -> Result<bool, ProcessFault>
         requires { port < ports_of (held_by self.old.node) }
         ensures works { OnOk result (Works self.old self.new) }
+        ensures hands { IfOk result (λ did. HandsIf port did self.old self.new) }
         ensures until { IfErr result (λ fault. WorksUntil fault self.old self.new) }
     {
-        if self.courtesies[port].gives_way() {
+        if self.gives_way(port) {
             return Ok(false);
         }
         match self.hand_over(port) {
@@ -287,14 +331,21 @@ impl Process {
         }
     }
 
+    /// Whether a port gives way to other nodes.
+    fn gives_way(&self, port: usize) -> bool
+        requires { port < ports_of (held_by self.now.node) }
+        ensures { result ≡ gives_way ((situation_of self.now).courtesies port) }
+    {
+        self.courtesies[port].gives_way()
+    }
+
     /// Tells of each change that was denied its lock, once for each trial.
     fn tell_all_denied(&mut self) -> Result<(), ProcessFault>
         ensures works { OnOk result (Works self.old self.new) }
+        ensures only { OnOk result (OnlyDenied (situation_of self.old) (situation_of self.new)) }
+        ensures told { OnOk result (AllToldDenied self.new) }
         ensures until { IfErr result (λ fault. WorksUntil fault self.old self.new) }
     {
-        if self.node.state().open_count() == 0 {
-            return Ok(());
-        }
         let Ok(ops) = self.node.state().waiting() else {
             return Err(ProcessFault::OutOfMemory);
         };
@@ -307,6 +358,8 @@ impl Process {
     fn tell_each_denied(&mut self, ops: &[OpId]) -> Result<(), ProcessFault>
         requires { AreWaiting (live_of (held_by self.old.node)) (kept_by (held_by self.old.node)) ops.now }
         ensures works { OnOk result (Works self.old self.new) }
+        ensures only { OnOk result (OnlyDenied (situation_of self.old) (situation_of self.new)) }
+        ensures told { OnOk result (AllToldDenied self.new) }
         ensures until { IfErr result (λ fault. WorksUntil fault self.old self.new) }
     {
         for op in ops {
@@ -322,6 +375,8 @@ impl Process {
     fn tell_if_there(&mut self, op: OpId) -> Result<(), ProcessFault>
         requires { waits (live_of (held_by self.old.node)) ((kept_by (held_by self.old.node)).stages op) (kept_by (held_by self.old.node)) ≡ true }
         ensures works { OnOk result (Works self.old self.new) }
+        ensures only { OnOk result (OnlyDenied (situation_of self.old) (situation_of self.new)) }
+        ensures told { op.port < ports_of (held_by self.old.node) → OnOk result (IsToldDenied (situation_of self.new) op.port) }
         ensures until { IfErr result (λ fault. WorksUntil fault self.old self.new) }
         ensures node { self.new.node ≡ self.old.node }
     {

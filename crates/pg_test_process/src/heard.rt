@@ -45,10 +45,10 @@ const ROWS: &[(&[u8], &[u8], &[u8])] = &[
         b"\0\0\0\x20\x83h\x04w\x01aa\x01a\x04l\0\0\0\x01Xw\x01a\0\0\0\x01\0\0\0\0\0\0\0\x01j",
         b"",
     ),
-    // A body that asks for nothing: {error, {bad_request, 8}}
+    // A body that asks for nothing: {error, {bad_request, 7}}
     (
         b"\x12",
-        b"\0\0\0\x1b\x83h\x02w\x05errorh\x02w\x0bbad_requesta\x08",
+        b"\0\0\0\x1b\x83h\x02w\x05errorh\x02w\x0bbad_requesta\x07",
         b"",
     ),
     // {a, 2, {finish, <a.9.0>}}: {a, 2, 2, {refused, 26}}
@@ -57,10 +57,10 @@ const ROWS: &[(&[u8], &[u8], &[u8])] = &[
         b"\0\0\0\x17\x83h\x04w\x01aa\x02a\x02h\x02w\x07refuseda\x1a",
         b"\xff\x02\0\x02",
     ),
-    // The groups a second time: {error, {bad_request, 10}}
+    // The groups a second time: {error, {bad_request, 9}}
     (
         b"\x14\x83j",
-        b"\0\0\0\x1b\x83h\x02w\x05errorh\x02w\x0bbad_requesta\x0a",
+        b"\0\0\0\x1b\x83h\x02w\x05errorh\x02w\x0bbad_requesta\x09",
         b"",
     ),
 ];

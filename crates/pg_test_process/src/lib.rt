@@ -18,4 +18,6 @@ mod ports;
 #[cfg(test)]
 mod said;
 #[cfg(test)]
+mod served;
+#[cfg(test)]
 mod sights;

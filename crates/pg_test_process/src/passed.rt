@@ -16,7 +16,7 @@ pub struct Sheet {
 }
 
 /// A sheet on which nothing is written yet.
-fn blank_sheet(alloc: Global, calls_left: usize) -> AnyWriter<Sheet> {
+pub fn blank_sheet(alloc: Global, calls_left: usize) -> AnyWriter<Sheet> {
     let writer = Sheet {
         held: Vec::new(alloc),
         flushed: 0,

@@ -13,14 +13,16 @@ returns-in-Ok-assembled-clause-begins c =
     let node = c.in-Ok-begun_node.ensures in
     let process = c.in-Ok-assembled.ensures in
     record {
-      setting = process.setting ∙ ap (λ (ns : List Node). setting ns config.ports) node.names;
-      state = ap (λ (s : Situation). s.node.state) process.situation ∙ node.state;
-      answers = ap (λ (s : Situation). s.node.answers) process.situation ∙ node.answers;
-      links = subst (λ (links : ℕ → Link). BeginsLinked (first_table c.args.groups.now) config.own (length config.peers.items) links) (sym (ap (λ (s : Situation). s.links) process.situation)) node.begun;
-      ports = ap (λ (s : Situation). s.ports) process.situation;
-      courtesies = ap (λ (s : Situation). s.courtesies) process.situation;
-      came = ap (λ (s : Situation). s.came) process.situation;
-      told = ap (λ (s : Situation). s.told.formed) process.situation;
+      starts = record {
+        setting = process.setting ∙ ap (λ (ns : List Node). setting ns config.ports) node.names;
+        state = ap (λ (s : Situation). s.node.state) process.situation ∙ node.state;
+        answers = ap (λ (s : Situation). s.node.answers) process.situation ∙ node.answers;
+        links = subst (λ (links : ℕ → Link). BeginsLinked (first_table c.args.groups.now) config.own (length config.peers.items) links) (sym (ap (λ (s : Situation). s.links) process.situation)) node.begun;
+        ports = ap (λ (s : Situation). s.ports) process.situation;
+        courtesies = ap (λ (s : Situation). s.courtesies) process.situation;
+        came = ap (λ (s : Situation). s.came) process.situation;
+        told = ap (λ (s : Situation). s.told.formed) process.situation;
+      };
       outlet = process.outlet;
       journal = process.journal;
     }

@@ -1,0 +1,10 @@
+use Rattle.std.proofs.Common.{◌<◌, ◌∙◌, length, sym, ap, arith}
+use Rattle.pg_node_process.specs.Retries.{at_first, gives_way}
+use Rattle.pg_process.proofs.Placed.{seen_here}
+use Rattle.pg_process.proofs.process.Process.gives_way.Goals as goal
+
+pub returns : goal.returns
+returns c =
+    let a = c.args.self.now in
+    let within : c.args.port < length a.courtesies.items = omega (arith, c.requires, a.all_courtesies) in
+    c.gives_way.ensures.value ∙ ap gives_way (sym (seen_here (λ c. c) at_first a.courtesies.items c.args.port c.index.result.now within c.index.ensures))

@@ -1,0 +1,10 @@
+//! What a whole chain of deeds comes to: the function does nothing, and its contract is the law.
+ghost use Rattle.pg_process.specs.Accounts.{ChainsAccount};
+
+/// The acts of a chain of deeds lead the node from its first state to its last, and see no loss. Of each peer, the bytes that come are the
+/// frames that are taken, up to a fault that damages the link, and the frames that are sent are the bytes that go out. At each port, the
+/// answers that are given are said, requests go in turn, and the changes that are handed over are what the node is issued.
+#[tactic(auto, using(crate::proofs::Accounting::chains_account))]
+pub fn chains_account()
+    ensures { ChainsAccount }
+{}

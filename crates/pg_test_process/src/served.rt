@@ -1,0 +1,175 @@
+//! What a process makes of a whole input, and how it ends.
+
+use crate::passed::{Sheet, blank_sheet};
+use crate::sights::holds_at;
+use pg_node_process::ProcessConfig;
+use pg_process::serve;
+use pg_streams::AnyWriter;
+use pg_term::Atom;
+use std::alloc::{AllocError, Global};
+
+/// Inputs of the process of node a alone, which has one port and made one process; what goes out behind the version, and by which fault it ends,
+/// 0 by none.
+const ROWS: &[(&[u8], &[u8], u8)] = &[
+    // Nothing.
+    (b"", b"", 0),
+    // Within a length, and within a body.
+    (b"\0\0\0", b"", 1),
+    (b"\0\0\0\x03\x14\x83", b"", 1),
+    // No groups: formed.
+    (b"\0\0\0\x03\x14\x83j", b"\0\0\0\x01\x16", 0),
+    // Behind that, within a body.
+    (b"\0\0\0\x03\x14\x83j\0\0\0\x02\x11", b"\0\0\0\x01\x16", 1),
+    // The clock, and then a length that is too great.
+    (
+        b"\0\0\0\x03\x14\x83j\0\0\0\x01\x11\x01\0\0\x01",
+        b"\0\0\0\x01\x16\0\0\0\x05\x11\0\0\0\0",
+        11,
+    ),
+    // A length that is too great at first.
+    (b"\x01\0\0\x01", b"", 11),
+    // Another first body: a tick, none at all, and a term.
+    (b"\0\0\0\x01\x10", b"", 15),
+    (b"\0\0\0\0", b"", 15),
+    (b"\0\0\0\x02\x83j", b"", 15),
+    // No list of groups; a group twice.
+    (b"\0\0\0\x04\x14\x83a\x01", b"", 15),
+    (
+        b"\0\0\0\x14\x14\x83l\0\0\0\x02h\x02w\x01gjh\x02w\x01gjj",
+        b"",
+        15,
+    ),
+    // A group with the process that was made, asked for its members: {a, 1, 1, [<a.1.0>]}
+    (
+        b"\0\0\0\x23\x14\x83l\0\0\0\x01h\x02w\x01gl\0\0\0\x01Xw\x01a\0\0\0\x01\0\0\0\0\0\0\0\x01jj\0\0\0\x16\x83h\x03w\x01aa\x01h\x02w\x07membersw\x01g",
+        b"\0\0\0\x01\x16\0\0\0\x20\x83h\x04w\x01aa\x01a\x01l\0\0\0\x01Xw\x01a\0\0\0\x01\0\0\0\0\0\0\0\x01j",
+        0,
+    ),
+    // With one that was not made.
+    (
+        b"\0\0\0\x23\x14\x83l\0\0\0\x01h\x02w\x01gl\0\0\0\x01Xw\x01a\0\0\0\x02\0\0\0\0\0\0\0\x01jj",
+        b"",
+        24,
+    ),
+    // The first body counts: {error, {bad_request, 2}}
+    (
+        b"\0\0\0\x03\x14\x83j\0\0\0\x03\x14\x83j",
+        b"\0\0\0\x01\x16\0\0\0\x1b\x83h\x02w\x05errorh\x02w\x0bbad_requesta\x02",
+        0,
+    ),
+];
+
+/// The version of all processes here, and its frame.
+const VERSION: &str = "v";
+
+const OPENING: &[u8] = b"\0\0\0\x03\x15\x01v";
+
+/// How the process of node a begins.
+fn config(alloc: Global, ports: u16) -> Result<ProcessConfig, AllocError> {
+    let Ok(own) = Atom::new(alloc, "a") else {
+        return Err(AllocError);
+    };
+    Ok(ProcessConfig {
+        own,
+        peers: Vec::new(alloc),
+        ports,
+        made: 1,
+        label: Vec::new(alloc),
+    })
+}
+
+/// What goes out of an input, and by which fault it ends.
+fn served(alloc: Global, ports: u16, input: &[u8]) -> Result<(Vec<u8>, u8), AllocError> {
+    let config = config(alloc, ports)?;
+    let mut reader = input;
+    let mut out = Vec::new(alloc);
+    let mut log = Vec::new(alloc);
+    let ended = serve(alloc, config, VERSION, &mut reader, &mut out, &mut log);
+    drop(log);
+    match ended {
+        Ok(()) => Ok((out, 0)),
+        Err(fault) => Ok((out, fault.number())),
+    }
+}
+
+/// Whether just this goes out behind the version, and the process ends by that fault.
+fn is_served(alloc: Global, input: &[u8], said: &[u8], fault: u8) -> bool {
+    match served(alloc, 1, input) {
+        Ok((out, number)) => {
+            let is_so = number == fault
+                && out.as_slice().starts_with(OPENING)
+                && &out.as_slice()[OPENING.len().min(out.len())..] == said;
+            drop(out);
+            is_so
+        }
+        Err(AllocError) => false,
+    }
+}
+
+#[test]
+fn inputs_are_served(rt: HostRuntime) {
+    for place in 0..ROWS.len() {
+        let (input, said, fault) = ROWS[place];
+        let is_so = is_served(rt.alloc(), input, said, fault);
+        holds_at(&rt, is_so, "what is served in row", place);
+    }
+}
+
+/// Whether a process without a port is refused, and nothing goes out.
+fn is_refused(alloc: Global) -> bool {
+    match served(alloc, 0, b"\0\0\0\x03\x14\x83j") {
+        Ok((out, number)) => {
+            let is_so = number == 15 && out.is_empty();
+            drop(out);
+            is_so
+        }
+        Err(AllocError) => false,
+    }
+}
+
+#[test]
+fn an_invalid_config_is_refused(rt: HostRuntime) {
+    holds_at(&rt, is_refused(rt.alloc()), "a refused config", 0);
+}
+
+/// After how many calls the log and the output fail, of a process that is asked for its clock behind its first body; and how many bytes of
+/// each were flushed then. The head has 28 bytes, and takes 10 writes and a flush; the bodies 12, which take 4. The version has 7 bytes, and
+/// takes 3 writes; what follows has 14, which take 5.
+const FAILING: &[(usize, usize, [usize; 2])] = &[
+    (0, 99, [0, 0]),
+    (10, 99, [0, 0]),
+    (99, 3, [28, 0]),
+    (11, 99, [28, 7]),
+    (15, 99, [28, 7]),
+    (16, 4, [40, 7]),
+    (99, 9, [40, 7]),
+    (99, 10, [40, 21]),
+];
+
+/// How many bytes of the log and of the output were flushed, and whether the process ended by 32.
+fn failed(alloc: Global, log_calls: usize, calls: usize) -> Result<([usize; 2], bool), AllocError> {
+    let config = config(alloc, 1)?;
+    let mut reader: &[u8] = b"\0\0\0\x03\x14\x83j\0\0\0\x01\x11";
+    let mut out: AnyWriter<Sheet> = blank_sheet(alloc, calls);
+    let mut log: AnyWriter<Sheet> = blank_sheet(alloc, log_calls);
+    let ended = serve(alloc, config, VERSION, &mut reader, &mut out, &mut log);
+    let counts = [log.writer.flushed, out.writer.flushed];
+    drop(out);
+    drop(log);
+    match ended {
+        Ok(()) => Ok((counts, false)),
+        Err(fault) => Ok((counts, fault.number() == 32)),
+    }
+}
+
+#[test]
+fn nothing_goes_out_before_it_is_logged(rt: HostRuntime) {
+    for place in 0..FAILING.len() {
+        let (log_calls, calls, flushed) = FAILING[place];
+        let is_so = match failed(rt.alloc(), log_calls, calls) {
+            Ok((counts, is_fault)) => counts == flushed && is_fault == (place + 1 < FAILING.len()),
+            Err(AllocError) => false,
+        };
+        holds_at(&rt, is_so, "what was flushed in row", place);
+    }
+}
