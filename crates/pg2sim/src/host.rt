@@ -7,12 +7,13 @@ ghost use Rattle.pg_cluster.specs.declared.fault.StartFault.{StartFault};
 
 use crate::progress::Progress;
 use pg_cluster::{StartFault, WorldFault};
-use pg_program::System;
+use pg_program::{LogFile, System};
 use pg_streams::{AnyReader, Sink};
 use pg_talk::{
     Conversation, Onlooker, Outcome, Served, Service, ServiceFault, run_threads, serve_cluster,
 };
 use std::alloc::{AllocError, Global};
+use std::fs::{File, OpenOptions};
 use std::io::{ErrorKind, Write};
 use std::thread::Threads;
 use std::time::{Clock, Instant};
@@ -40,6 +41,76 @@ fn reason(error: &io::Error, absent: &'static str) -> &'static str {
         ErrorKind::IsADirectory => "it is a folder",
         ErrorKind::NotADirectory => "a part of its path is no folder",
         _ => "the system refuses it",
+    }
+}
+
+/// The log of a node: a file, once it was made. Without one all that is written is let go.
+#[derive(Drop)]
+pub(crate) struct HostLog<'a> {
+    pub(crate) rt: &'a HostRuntime,
+    pub(crate) file: Option<File>,
+    /// Why the file could not be made, where it could not.
+    pub(crate) missed: Option<&'static str>,
+}
+
+/// No clause says what a file holds.
+impl Sink for HostLog<'_> {
+    ghost use Rattle.std.specs.Prelude.{⊤, None};
+
+    ghost contents = { λ log. None };
+
+    ghost fails = { λ a b. ⊤ };
+
+    ghost flushed = { λ log. ⊤ };
+
+    fn write_some(&mut self, bytes: &[u8]) -> io::Result<usize> {
+        match &mut self.file {
+            Some(file) => match file.write(bytes) {
+                Ok(0) if !bytes.is_empty() => Err(io::Error::from(ErrorKind::WriteZero)),
+                written => written,
+            },
+            None => Ok(bytes.len()),
+        }
+    }
+
+    fn flush_all(&mut self) -> io::Result<()> {
+        match &mut self.file {
+            Some(file) => file.flush(),
+            None => Ok(()),
+        }
+    }
+}
+
+impl LogFile for HostLog<'_> {
+    ghost use Rattle.std.specs.Prelude.{◌≡◌, true, is_some};
+
+    ghost made = { λ a name b. is_some b.file ≡ true };
+
+    ghost unmade = { λ a b. b.file ≡ a.file };
+
+    fn create(&mut self, name: &str) -> io::Result<()> {
+        match OpenOptions::new()
+            .write(true)
+            .create_new(true)
+            .open(self.rt, name)
+        {
+            Ok(file) => {
+                drop(self.file.replace(file));
+                Ok(())
+            }
+            Err(error) => {
+                self.missed = Some(unmade_for(&error));
+                Err(error)
+            }
+        }
+    }
+}
+
+/// Why a new file could not be made.
+fn unmade_for(error: &io::Error) -> &'static str {
+    match error.kind() {
+        ErrorKind::AlreadyExists => "it is there already, and a new one is made",
+        _ => reason(error, "no such folder"),
     }
 }
 

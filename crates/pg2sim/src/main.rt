@@ -1,4 +1,4 @@
-//! `pg2sim`: the replica of one node over bytes, runs of scripts, all runs of one, and nodes as threads.
+//! `pg2sim`: the replica of one node over bytes, runs of scripts, all runs of one, nodes as threads, and one node as a process.
 #![tactic(auto)]
 
 mod host;
@@ -6,7 +6,7 @@ mod progress;
 #[cfg(test)]
 mod tests;
 
-use host::{HostSystem, Shown};
+use host::{HostLog, HostSystem, Shown};
 use pg_program::{refuse, refuse_given, run_words};
 use pg_program_faults::{Aside, Heard, Kept, Told, aside_of, explain};
 use pg_streams::{AnyReader, AnyWriter};
@@ -72,16 +72,23 @@ fn run(
         exploring: Progress::new(rt.stderr(), rt, "explored"),
         missed: None,
     };
+    let mut log = HostLog {
+        rt,
+        file: None,
+        missed: None,
+    };
     let status = run_words(
         rt.alloc(),
         words,
         &mut reader,
         &mut writer,
         &mut system,
+        &mut log,
         &mut faults,
     );
     if explains {
-        say_fault(rt, words, &reader.reader, &faults.writer, system.missed);
+        let missed = system.missed.or(log.missed);
+        say_fault(rt, words, &reader.reader, &faults.writer, missed);
     }
     Ok(status)
 }

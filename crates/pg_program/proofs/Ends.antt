@@ -13,15 +13,17 @@ use Rattle.pg_cluster.specs.PgNode.declared.replica.fault.ServeFault.TheVariants
 use Rattle.pg_program.specs.declared.bytes.BytesFault.{BytesFault}
 use Rattle.pg_program.specs.declared.bytes.BytesFault.TheVariants.{Serve}
 use Rattle.pg_program.specs.Bytes.{BytesCause, ServesAs}
-use Rattle.pg_program.specs.CommandLine.{AsksBytes, IsExplore, IsExploreWord, IsOther, IsScript}
+use Rattle.pg_program.specs.CommandLine.{AsksBytes, IsExplore, IsExploreWord, IsNode, IsNodeWord, IsOther, IsScript}
 use Rattle.pg_program.specs.CommandLine.{IsScriptWord, IsServe, IsServeWord, IsThreads}
 use Rattle.pg_program.specs.Explorations.{WasAsked}
+use Rattle.pg_program.specs.Nodes.{WasSeated}
 use Rattle.pg_program.specs.Scripts.{ScriptEnd}
 use Rattle.pg_program.specs.Status.{BytesEnd, Ends, end_of_bytes, end_status}
 use Rattle.pg_program.specs.Services.{EndsService, WasOffered}
 use Rattle.pg_program.specs.Talks.{EndsTalk, OrNoMemory}
 use Rattle.pg_program.specs.declared.words.Offer.{Offer}
 use Rattle.pg_program.specs.declared.words.Quest.{Quest}
+use Rattle.pg_program.specs.declared.words.Seat.{Seat}
 use Rattle.pg_talk.specs.declared.service.run.Served.{Served}
 use Rattle.pg_program.specs.declared.fault.Fault.{Fault}
 use Rattle.pg_program.specs.declared.fault.Fault.TheVariants.{Run}
@@ -127,6 +129,39 @@ explore_no_script (Some p) aids h k = k.2 h
 pub explore_word : (m : Option (Text × List Row)) (quest : Quest) → IsExplore m quest → IsExploreWord m
 explore_word None quest h = h
 explore_word (Some p) quest h = h.0
+
+pub node_no_bytes : (m : Option (Text × List Row)) (own peer : List ℕ) → IsNodeWord m → AsksBytes m own peer → ⊥
+node_no_bytes None own peer h k = h
+node_no_bytes (Some p) own peer h k = let bad = ap length (sym h ∙ k.0) in absurd (omega (arith, bad))
+
+pub node_no_threads : (m : Option (Text × List Row)) (talk : Talk) → IsNodeWord m → IsThreads m talk → ⊥
+node_no_threads None talk h k = h
+node_no_threads (Some p) talk h k = let bad = ap length (sym h ∙ k.0) in absurd (omega (arith, bad))
+
+pub node_no_script_word : (m : Option (Text × List Row)) → IsNodeWord m → IsScriptWord m → ⊥
+node_no_script_word None h k = h
+node_no_script_word (Some p) h k = let bad = ap length (sym h ∙ k) in absurd (omega (arith, bad))
+
+pub node_no_serve_word : (m : Option (Text × List Row)) → IsNodeWord m → IsServeWord m → ⊥
+node_no_serve_word None h k = h
+node_no_serve_word (Some p) h k = let bad = ap length (sym h ∙ k) in absurd (omega (arith, bad))
+
+pub node_no_explore_word : (m : Option (Text × List Row)) → IsNodeWord m → IsExploreWord m → ⊥
+node_no_explore_word None h k = h
+node_no_explore_word (Some p) h k = let bad = ap length (sym h ∙ k) in absurd (omega (arith, bad))
+
+pub node_no_script : (m : Option (Text × List Row)) (aids : Aids) → IsNodeWord m → IsScript m aids → ⊥
+node_no_script None aids h k = h
+node_no_script (Some p) aids h k = k.3 h
+
+pub node_word : (m : Option (Text × List Row)) (seat : Seat) → IsNode m seat → IsNodeWord m
+node_word None seat h = h
+node_word (Some p) seat h = h.0
+
+-- it was served as it was seated
+pub seated_so : (unchanged : Type 0) (IsAsked : Seat → Type 0) (E : Seat → Result Bool Fault → Type 0) (T : End → Type 0) (status : ℕ) (seat : Seat) → IsAsked seat → EndsTalk (E seat) T status
+    → EndsTalk (OrNoMemory unchanged (WasSeated IsAsked E)) T status
+seated_so unchanged IsAsked E T status seat asked h = record { end = h.end; is = inr (record { seat = seat; asked = asked; ends = h.is }); told = h.told; status_is = h.status_is }
 
 -- it was explored as it was asked
 pub asked_so : (unchanged : Type 0) (IsAsked : Quest → Type 0) (E : Quest → Result Bool Fault → Type 0) (T : End → Type 0) (status : ℕ) (quest : Quest) → IsAsked quest → EndsTalk (E quest) T status

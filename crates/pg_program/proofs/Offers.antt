@@ -9,11 +9,12 @@ use Rattle.pg_program.specs.CommandLine.{texts_of}
 use Rattle.pg_program.specs.Services.{CantSpell, NamesEnd, is_too_long}
 use Rattle.pg_program.specs.declared.fault.Fault.{Fault}
 
-told : (names : List (Bor (List ℕ))) → map (λ (name : Bor (List ℕ)). chars name.now) names ≡ map chars (texts_of names)
+-- names of texts
+pub told : (names : List (Bor (List ℕ))) → map (λ (name : Bor (List ℕ)). chars name.now) names ≡ map chars (texts_of names)
 told [] = refl
 told (name ∷ names) = ap (λ (rest : List (List ℕ)). chars name.now ∷ rest) (told names)
 
-long : (names : List (Bor (List ℕ))) → list_any (λ (name : Bor (List ℕ)). is_too_long name.now) names ≡ list_any is_too_long (texts_of names)
+pub long : (names : List (Bor (List ℕ))) → list_any (λ (name : Bor (List ℕ)). is_too_long name.now) names ≡ list_any is_too_long (texts_of names)
 long [] = refl
 long (name ∷ names) = ap (λ (b : Bool). is_too_long name.now || b) (long names)
 

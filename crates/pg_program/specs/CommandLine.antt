@@ -1,7 +1,8 @@
 -- The words that the program knows, and what they ask for.
-use Rattle.std.specs.Prelude.{◌≡◌, ◌<◌, ◌⊎◌, ℕ, ◌-◌, ◌^◌, List, ◌∷◌, [], Bool, true}
+use Rattle.std.specs.Prelude.{◌≡◌, ◌==◌, ◌<◌, ◌⊎◌, ℕ, ◌-◌, ◌^◌, List, ◌∷◌, [], Bool, true}
 use Rattle.std.specs.Prelude.{false, Option, Some, None, codes, map, unwrap_or, option_map}
 use Rattle.std.specs.Borrow.{Bor}
+use Rattle.std.specs.List.{slice_split}
 use Rattle.std.specs.Option.{option_map_or}
 use Rattle.std.specs.Str.{bytes_eq}
 use Rattle.std.specs.Str.Parse.{IsNumeral, digits_value, without_leading_plus}
@@ -13,9 +14,10 @@ use Rattle.pg_talk.specs.declared.conversation.Conversation.{Conversation}
 use Rattle.pg_program.specs.declared.words.Aids.{Aids}
 use Rattle.pg_program.specs.declared.words.Offer.{Offer}
 use Rattle.pg_program.specs.declared.words.Quest.{Quest}
+use Rattle.pg_program.specs.declared.words.Seat.{Seat}
 use Rattle.pg_program.specs.declared.words.Talk.{Talk}
 use Rattle.pg_program.specs.declared.words.Task.{Task}
-use Rattle.pg_program.specs.declared.words.Task.TheVariants.{Bytes, Explore, Script, Serve, Threads}
+use Rattle.pg_program.specs.declared.words.Task.TheVariants.{Bytes, Explore, Node, Script, Serve, Threads}
 
 -- `--ID NAME`, where this name stands for one that is not given
 abbrev pub name_rule : Text → Text → Rule
@@ -74,13 +76,33 @@ explored_line = with_rule (with_rule (with_rule (new_app (codes "explore")) (num
 abbrev pub explore_line : App
 explore_line = with_rule (with_rule explored_line (flag_rule (codes "differing"))) (file_rule (codes "graph"))
 
+-- `--own NAME`, which has to be given
+abbrev pub own_rule : Rule
+own_rule = record (new_rule (codes "own")) { long = Some (codes "own"); value_names = 1; required = true }
+
+-- `--ID TEXT`
+abbrev pub text_rule : Text → Rule
+text_rule id = record (new_rule id) { long = Some id; value_names = 1 }
+
+-- `node --own NAME [--peers NAME,NAME,..] [--ports N]`
+abbrev pub seat_line : App
+seat_line = with_rule (with_rule (with_rule (new_app (codes "node")) own_rule) (text_rule (codes "peers"))) (number_rule (codes "ports") (codes "1") 0 65535)
+
+-- and `[--made N] [--log FILE] [--label TEXT]`
+abbrev pub node_line : App
+node_line = with_rule (with_rule (with_rule seat_line (number_rule (codes "made") (codes "0") 0 4294967295)) (file_rule (codes "log"))) (text_rule (codes "label"))
+
 -- the program, without its commands
 abbrev pub top_line : App
 top_line = on_top (λ top. record top { has_version = true; no_binary_name = true; subcommand_required = true; disable_help_subcommand = true }) (new_app (codes "pg2sim"))
 
--- one of the five
+-- with one of the first five
+abbrev pub five_line : App
+five_line = with_subcommand (with_subcommand (with_subcommand (with_subcommand (with_subcommand top_line bytes_line.top) script_line.top) threads_line.top) serve_line.top) explore_line.top
+
+-- or with `node`
 abbrev pub command_line : App
-command_line = with_subcommand (with_subcommand (with_subcommand (with_subcommand (with_subcommand top_line bytes_line.top) script_line.top) threads_line.top) serve_line.top) explore_line.top
+command_line = with_subcommand five_line node_line.top
 
 -- the name that was given, or this one
 abbrev pub given_name : Text → Text → List Row → Text
@@ -105,9 +127,9 @@ pub record AsksAids (rows : List Row) (aids : Aids) : Type 0 where
   pub traced : aids.is_traced ≡ is_flag (codes "trace") rows
   pub diagram : option_map (λ s. s.now) aids.diagram ≡ first_of (codes "diagram") rows
 
--- another than `threads`, `serve` and `explore`, with these aids
+-- another than `threads`, `serve`, `explore` and `node`, with these aids
 abbrev pub IsScript : Option (Text × List Row) → Aids → Type 0
-IsScript (Some p) aids = (p.0 ≡ codes "threads" → ⊥) × (p.0 ≡ codes "serve" → ⊥) × (p.0 ≡ codes "explore" → ⊥) × AsksAids p.1 aids
+IsScript (Some p) aids = (p.0 ≡ codes "threads" → ⊥) × (p.0 ≡ codes "serve" → ⊥) × (p.0 ≡ codes "explore" → ⊥) × (p.0 ≡ codes "node" → ⊥) × AsksAids p.1 aids
 IsScript None aids = Unit {0}
 
 -- a text is a number of so many bits, in decimal, and a plus may stand before it
@@ -169,6 +191,30 @@ abbrev pub IsExplore : Option (Text × List Row) → Quest → Type 0
 IsExplore (Some p) quest = (p.0 ≡ codes "explore") × AsksQuest p.1 quest
 IsExplore None quest = ⊥
 
+-- the names between the commas of a text, of which one is a byte 44; none of an empty one
+abbrev pub names_in : Text → List Text
+names_in [] = []
+names_in (byte ∷ bytes) = slice_split (λ b. b == 44) (byte ∷ bytes)
+
+-- the names, the numbers, the file and the label of a seat are those of its options
+pub record AsksSeat (rows : List Row) (seat : Seat) : Type 0 where
+  pub own : seat.own.now ≡ given_name (codes "own") (codes "") rows
+  pub peers : texts_of seat.peers.items ≡ names_in (given_name (codes "peers") (codes "") rows)
+  pub ports : GivesNumber 16 1 (one_of (codes "ports") rows) seat.ports
+  pub made : GivesNumber 32 0 (one_of (codes "made") rows) seat.made
+  pub log : option_map (λ s. s.now) seat.log ≡ first_of (codes "log") rows
+  pub label : seat.label.now ≡ given_name (codes "label") (codes "") rows
+
+-- `node`, with this seat
+abbrev pub IsNode : Option (Text × List Row) → Seat → Type 0
+IsNode (Some p) seat = (p.0 ≡ codes "node") × AsksSeat p.1 seat
+IsNode None seat = ⊥
+
+-- the command is `node`
+abbrev pub IsNodeWord : Option (Text × List Row) → Type 0
+IsNodeWord (Some p) = p.0 ≡ codes "node"
+IsNodeWord None = ⊥
+
 -- the command is `explore`
 abbrev pub IsExploreWord : Option (Text × List Row) → Type 0
 IsExploreWord (Some p) = p.0 ≡ codes "explore"
@@ -191,3 +237,4 @@ AsksFor matches (Script aids) = IsOther matches × IsScript matches aids
 AsksFor matches (Threads talk) = IsOther matches × IsThreads matches talk
 AsksFor matches (Serve offer) = IsOther matches × IsServe matches offer
 AsksFor matches (Explore quest) = IsOther matches × IsExplore matches quest
+AsksFor matches (Node seat) = IsOther matches × IsNode matches seat

@@ -4,6 +4,7 @@ pub mod Explorations
 pub mod Faults
 pub mod Inputs
 pub mod Limits
+pub mod Nodes
 pub mod Scripts
 pub mod Services
 pub mod Status

@@ -167,3 +167,45 @@ pub(crate) const DIFFERING_HELP: &str =
 
 pub(crate) const GRAPH_HELP: &str =
     "write the worlds and the steps between them to this file, as SVG, where there are at most 60";
+
+/// What `node` does.
+pub(crate) const NODE_ABOUT: &str =
+    "Run one node of a set as this process: its host speaks with it over standard input and output";
+
+/// What `node` reads and writes.
+pub(crate) const NODE_LINES: &str =
+    "Each body stands after four bytes of length, as a port of Erlang has it with {packet, 4}. P is a peer's place among
+--peers, from 0 on, N a port's number from 1 on. The first body that comes in is 20:
+  20 TERM   the node's own groups, a list [{Name, [Pid, ..]}, ..] in the External Term Format
+  P BYTES   bytes of that peer
+  TERM      a request {Node, Port, Command}, as `serve` has it
+  16        a tick: what waits is tried again
+  17        the clock is asked for
+  19 N      another node was denied the lock that port N wants
+What goes out begins with 21:
+  21 1 TEXT the format, and the version of the program
+  P BYTES   bytes for that peer
+  TERM      a reply {Node, Port, Number, Reply}, or a notice, as `serve` has them
+  17 CLOCK  the clock, in four bytes
+  19 N      this node was denied the lock that port N wants
+  22        the node is formed
+What follows from a read is in the log, and then goes out, before the next read.
+
+Status 0: the input came to its end between two bodies. Status 1: `refused N`, or without such a line, where standard output
+failed. Status 2: the names or the numbers are none of a node.";
+
+/// The options of `node`.
+pub(crate) const OWN_HELP: &str = "the node's own name";
+
+pub(crate) const PEERS_HELP: &str =
+    "the names of its peers, 15 at most, in the order of their places";
+
+pub(crate) const OWN_PORTS_HELP: &str = "how many ports it has, 1 to 64";
+
+pub(crate) const MADE_HELP: &str =
+    "how many processes count as made, as of a run before, at most 268435455";
+
+pub(crate) const LOG_HELP: &str =
+    "a new file: what comes in goes there, and where the node tried a change";
+
+pub(crate) const LABEL_HELP: &str = "what the log calls the run, at most 255 bytes";

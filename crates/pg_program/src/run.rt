@@ -6,11 +6,13 @@ ghost use Rattle.std.specs.IoError.{error_kind};
 ghost use Rattle.std.specs.declared.io.ErrorKind.TheVariants.{InvalidData};
 ghost use Rattle.clap.specs.Words.{fault_of, kind_of, subcommand_of};
 ghost use Rattle.pg_cluster.specs.PgNode.Replicas.Causes.{AllAnswered, FailedAt, Unread};
+ghost use Rattle.pg_process.specs.Serving.{Serves};
 ghost use Rattle.pg_program.specs.Bytes.{BytesCause, pair_of_texts};
 ghost use Rattle.pg_program.specs.CommandLine.{command_line, AsksBytes, IsExplore, IsExploreWord};
-ghost use Rattle.pg_program.specs.CommandLine.{IsScriptWord, IsServe, IsServeWord, IsThreads};
+ghost use Rattle.pg_program.specs.CommandLine.{IsNode, IsNodeWord, IsScriptWord, IsServe, IsServeWord, IsThreads};
 ghost use Rattle.pg_program.specs.Explorations.{ExploreEnd, WasAsked};
 ghost use Rattle.pg_program.specs.Inputs.{IsInput, IsUnread};
+ghost use Rattle.pg_program.specs.Nodes.{ServesSeat, WasSeated};
 ghost use Rattle.pg_program.specs.Scripts.{ScriptEnd};
 ghost use Rattle.pg_program.specs.Services.{EndsService, ServiceEnds, ToldService, WasOffered, service_status};
 ghost use Rattle.pg_program.specs.Status.{BytesEnd, Ends, ToldEnd, WordsEnd, end_of_bytes, end_status};
@@ -21,11 +23,12 @@ ghost use Rattle.pg_program.specs.declared.words.Talk.{Talk};
 use crate::bytes::{BytesFault, serve_input};
 use crate::explore::explore_input;
 use crate::fault::Fault;
+use crate::node::serve_seat;
 use crate::script::run_input;
 use crate::service::{print_verdict, serve};
-use crate::system::System;
+use crate::system::{LogFile, System};
 use crate::threads::converse;
-use crate::words::{Aids, Offer, Quest, Talk, Task, read_words};
+use crate::words::{Aids, Offer, Quest, Seat, Talk, Task, read_words};
 use clap::Error;
 use clap::error::ErrorKind;
 use pg_script::put_whole;
@@ -37,7 +40,7 @@ use std::io;
 
 const DONE: u8 = 0;
 
-// A cluster's clients were not all answered, or its nodes are not what they should be.
+// A cluster's clients were not all answered, or its nodes are not what they should be; or what a node's host reads is gone.
 const NOT_GOOD: u8 = 1;
 
 const REFUSED_WORDS: u8 = 2;
@@ -54,17 +57,19 @@ const REFUSED_WORDS: u8 = 2;
 /// two lines on `faults` tell what the cluster is found to be, and status 1 where not all is well. `explore` reads a
 /// script of commands, goes through all their runs as `pg_explore_survey::survey` does, and prints what was counted, or by
 /// `--show` and `--differing` one run as a script; by `--graph` it makes a file; status 1 where the limit was
-/// reached. A fault stands in a line of `faults`: `refused N`, or `line L refused N` for a faulty line of a script.
+/// reached. `node` serves one node of a set from `reader` and to `writer`, as `pg_process::serve` does, with a log in `log`: by `--log` a
+/// new file is made first, else what is logged goes to `log` as it is; status 1 without a line where `writer` fails. A fault stands in a line of `faults`: `refused N`, or `line L refused N` for a faulty line of a script.
 /// Status 0: done; 1: the run was refused; 2: what was given was refused. Refused words print the text of `clap` on
 /// `faults`, status 2, and nothing is read or written.
 ///
 /// Cost: that of the call that the words name; memory for the words, and for the whole of a script that is read.
-pub fn run_words<R: Source, W: Sink, D: System, F: Sink>(
+pub fn run_words<R: Source, W: Sink, D: System, L: LogFile, F: Sink>(
     alloc: Global,
     words: &[String],
     reader: &mut R,
     writer: &mut W,
     system: &mut D,
+    log: &mut L,
     faults: &mut F,
 ) -> u8
     ensures refused { fault_of command_line (map string_bytes words.now) ≢ [] → WordsEnd (ToldEnd F.fails F.contents faults.old faults.new) result
@@ -97,6 +102,14 @@ pub fn run_words<R: Source, W: Sink, D: System, F: Sink>(
         (λ quest. ExploreEnd (IsInput R.remaining R.gives reader.old reader.new) (IsUnread R.gives R.fails reader.old reader.new) quest (writer.new ≡ writer.old)
         (FailedAt W.fails writer.new ⊎ FailedAt D.fails system.new) (W.flushed writer.new) (W.contents writer.old) (W.contents writer.new))))
         (ToldEnd F.fails F.contents faults.old faults.new) result }
+    ensures node { fault_of command_line (map string_bytes words.now) ≡ []
+        → IsNodeWord (subcommand_of command_line (map string_bytes words.now))
+        → EndsTalk (OrNoMemory ((reader.new ≡ reader.old) × (writer.new ≡ writer.old) × (log.new ≡ log.old)) (WasSeated (IsNode (subcommand_of command_line (map string_bytes words.now)))
+        (λ seat. ServesSeat (Serves W.contents W.flushed W.fails L.contents L.flushed L.fails R.gives R.remaining R.fails) L.made L.unmade
+        seat reader.old reader.new writer.old writer.new log.old log.new)))
+        (ToldEnd F.fails F.contents faults.old faults.new) result }
+    ensures unlogged { fault_of command_line (map string_bytes words.now) ≢ [] → log.new ≡ log.old }
+    ensures others { (IsNodeWord (subcommand_of command_line (map string_bytes words.now)) → ⊥) → log.new ≡ log.old }
 {
     match read_words(alloc, words) {
         Ok(Task::Bytes { own, peer }) => run_bytes(alloc, own, peer, reader, writer, faults),
@@ -108,6 +121,11 @@ pub fn run_words<R: Source, W: Sink, D: System, F: Sink>(
         }
         Ok(Task::Explore(quest)) => {
             run_exploration(alloc, quest, reader, writer, system, faults)
+        }
+        Ok(Task::Node(seat)) => {
+            let status = run_node(alloc, &seat, reader, writer, log, faults);
+            drop(seat);
+            status
         }
         Ok(Task::Script(aids)) => run_script(alloc, aids, reader, writer, system, faults),
         Err(error) => refuse_words(alloc, faults, &error),
@@ -182,6 +200,25 @@ fn run_exploration<R: Source, W: Sink, D: System, F: Sink>(
         (ToldEnd F.fails F.contents faults.old faults.new) result }
 {
     match explore_input(alloc, quest, reader, writer, system) {
+        Ok(true) => DONE,
+        Ok(false) => NOT_GOOD,
+        Err(fault) => tell(faults, Err(fault)),
+    }
+}
+
+/// Serves the node of a seat, and gives the status.
+fn run_node<R: Source, W: Sink, L: LogFile, F: Sink>(
+    alloc: Global,
+    seat: &Seat<'_>,
+    reader: &mut R,
+    writer: &mut W,
+    log: &mut L,
+    faults: &mut F,
+) -> u8
+    ensures { EndsTalk (ServesSeat (Serves W.contents W.flushed W.fails L.contents L.flushed L.fails R.gives R.remaining R.fails) L.made L.unmade
+        seat.now reader.old reader.new writer.old writer.new log.old log.new) (ToldEnd F.fails F.contents faults.old faults.new) result }
+{
+    match serve_seat(alloc, seat, reader, writer, log) {
         Ok(true) => DONE,
         Ok(false) => NOT_GOOD,
         Err(fault) => tell(faults, Err(fault)),

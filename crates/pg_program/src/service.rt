@@ -113,8 +113,9 @@ fn numbered(alloc: Global, nodes: u16) -> Result<Vec<Atom>, Fault>
 }
 
 /// The names that texts are.
-fn atoms_in(alloc: Global, names: &[&str]) -> Result<Vec<Atom>, Fault>
+pub(crate) fn atoms_in(alloc: Global, names: &[&str]) -> Result<Vec<Atom>, Fault>
     ensures names { IfOk result (λ atoms. atoms.items ≡ map (λ name. chars name.now) names.now) }
+    ensures short { IfOk result (λ atoms. list_any (λ name. is_too_long name.now) names.now ≡ false) }
     ensures fault { IfErr result (CantSpell (list_any (λ name. is_too_long name.now) names.now)) }
 {
     let mut atoms = Vec::new(alloc);
@@ -132,7 +133,7 @@ fn atoms_in(alloc: Global, names: &[&str]) -> Result<Vec<Atom>, Fault>
 }
 
 /// The name that a text is.
-fn atom_of(alloc: Global, text: &str) -> Result<Atom, Fault>
+pub(crate) fn atom_of(alloc: Global, text: &str) -> Result<Atom, Fault>
     ensures name { IfOk result (λ name. name ≡ chars text.now) }
     ensures short { IfOk result (λ name. is_too_long text.now ≡ false) }
     ensures fault { IfErr result (CantSpell (is_too_long text.now)) }

@@ -1,6 +1,6 @@
-//! What the program asks of the system: files, threads and time.
+//! What the program asks of the system: files, a log, threads and time.
 
-ghost use Rattle.std.specs.Prelude.{⊤, ℕ, List, Option, Result, IfOk, OnErr};
+ghost use Rattle.std.specs.Prelude.{⊤, ℕ, List, Option, Result, IfOk, OnErr, OnOk};
 ghost use Rattle.pg_talk.specs.declared.conversation.Conversation.{Conversation};
 ghost use Rattle.pg_talk.specs.declared.conversation.Outcome.{Outcome};
 ghost use Rattle.pg_talk.specs.declared.service.Service.{Service};
@@ -12,6 +12,22 @@ use pg_cluster::StartFault;
 use pg_streams::Sink;
 use pg_talk::{Conversation, Outcome, Served, Service, ServiceFault};
 use std::io;
+
+/// A log: a file that is made anew and then written to.
+pub trait LogFile: Sink {
+    /// `made a name b`: there was no file of this name, one was made, and what is written to `b` goes there.
+    ghost made: { Self → List ℕ → Self → Type 0 } = { λ a name b. ⊤ };
+
+    /// `unmade a b`: a file could not be made, or was there, and that left `b`.
+    ghost unmade: { Self → Self → Type 0 } = { λ a b. ⊤ };
+
+    /// Makes a new file of this name, which then takes what is written.
+    ///
+    /// Error: any, where it can't be made, or is there.
+    fn create(&mut self, name: &str) -> io::Result<()>
+        ensures ok { OnOk result (made self.old name.now self.new) }
+        ensures err { OnErr result (unmade self.old self.new) };
+}
 
 /// Where files are made, threads run, and time goes by.
 pub trait System {

@@ -6,15 +6,17 @@ ghost use Rattle.clap.specs.Words.{rows_of, first_of, one_of, fault_of, subcomma
 ghost use Rattle.clap.specs.declared.builder.Command.TheViews.{out-Command};
 ghost use Rattle.pg_program.specs.CommandLine.{name_rule, bytes_line, script_line, flag_rule, file_rule, number_rule};
 ghost use Rattle.pg_program.specs.CommandLine.{cluster_line, threads_line, names_rule, served_line, serve_line};
-ghost use Rattle.pg_program.specs.CommandLine.{explored_line, explore_line, top_line, command_line, given_name};
-ghost use Rattle.pg_program.specs.CommandLine.{given_all, is_flag, texts_of, AsksAids, AsksOffer, AsksQuest, AsksTalk, GivesNumber, AsksFor};
+ghost use Rattle.pg_program.specs.CommandLine.{explored_line, explore_line, own_rule, text_rule, seat_line, node_line};
+ghost use Rattle.pg_program.specs.CommandLine.{top_line, command_line, given_name, given_all, is_flag, names_in, texts_of};
+ghost use Rattle.pg_program.specs.CommandLine.{AsksAids, AsksOffer, AsksQuest, AsksSeat, AsksTalk, GivesNumber, AsksFor};
 
 use crate::help::{
     ABOUT, BYTES_ABOUT, CLIENTS_HELP, COMMANDS_HELP, DIAGRAM_HELP, DIFFERING_HELP, EXPLORE_ABOUT,
-    EXPLORE_LINES, GRAPH_HELP, JSON_HELP, LIMIT_HELP, MEMBERS_HELP, NAME_HELP, NODE_HELP,
-    NODES_HELP, PEER_HELP, PORTS_HELP, RETRIES_HELP, ROUNDS_HELP, SCRIPT_ABOUT, SCRIPT_FORMS,
-    SEED_HELP, SERVE_ABOUT, SERVE_LINES, SHOW_HELP, THREADS_ABOUT, THREADS_LINES, TRACE_HELP,
-    TURNS_HELP, VERSION,
+    EXPLORE_LINES, GRAPH_HELP, JSON_HELP, LABEL_HELP, LIMIT_HELP, LOG_HELP, MADE_HELP,
+    MEMBERS_HELP, NAME_HELP, NODE_ABOUT, NODE_HELP, NODE_LINES, NODES_HELP, OWN_HELP,
+    OWN_PORTS_HELP, PEER_HELP, PEERS_HELP, PORTS_HELP, RETRIES_HELP, ROUNDS_HELP, SCRIPT_ABOUT,
+    SCRIPT_FORMS, SEED_HELP, SERVE_ABOUT, SERVE_LINES, SHOW_HELP, THREADS_ABOUT, THREADS_LINES,
+    TRACE_HELP, TURNS_HELP, VERSION,
 };
 use clap::builder::ValueParser;
 use clap::{Arg, ArgAction, ArgMatches, Command, Error};
@@ -34,6 +36,8 @@ pub(crate) enum Task<'a> {
     Serve(Offer<'a>),
     /// All runs of a script's commands.
     Explore(Quest<'a>),
+    /// One node of a set.
+    Node(Seat<'a>),
 }
 
 /// How far all runs of a script's commands are explored, and what is told of them.
@@ -63,6 +67,22 @@ pub(crate) struct Offer<'a> {
     /// After how many requests the input counts as ended.
     pub(crate) requests: u64,
     pub(crate) seed: u64,
+}
+
+/// The seat of a node among its peers.
+#[derive(Debug, Drop)]
+pub(crate) struct Seat<'a> {
+    /// The name of the node.
+    pub(crate) own: &'a str,
+    /// Those of its peers, in the order of their places.
+    pub(crate) peers: Vec<&'a str>,
+    pub(crate) ports: u16,
+    /// How many processes count as made.
+    pub(crate) made: u32,
+    /// The file that the log goes to.
+    pub(crate) log: Option<&'a str>,
+    /// What the log calls the run.
+    pub(crate) label: &'a str,
 }
 
 /// Clients that speak with a cluster, and how it is told.
@@ -111,6 +131,10 @@ fn task_of<'a>(alloc: Global, matches: &ArgMatches<'a>) -> Result<Task<'a>, Allo
             Err(AllocError) => Err(AllocError),
         },
         Some(("explore", given)) => Ok(Task::Explore(quest_of(given))),
+        Some(("node", given)) => match seat_of(alloc, given) {
+            Ok(seat) => Ok(Task::Node(seat)),
+            Err(AllocError) => Err(AllocError),
+        },
         Some((_, given)) => Ok(Task::Script(aids_of(given))),
         None => Ok(Task::Script(Aids {
             is_traced: false,
@@ -146,6 +170,35 @@ fn texts_of<'a>(alloc: Global, given: &ArgMatches<'a>, id: &str) -> Result<Vec<&
         Some(texts) => texts.to_vec(alloc),
         None => Ok(Vec::new(alloc)),
     }
+}
+
+/// The seat that a node is asked for.
+///
+/// Error: `AllocError`.
+fn seat_of<'a>(alloc: Global, given: &ArgMatches<'a>) -> Result<Seat<'a>, AllocError>
+    ensures { IfOk result (AsksSeat (rows_of (found_of given.now))) }
+{
+    let peers = names_in(alloc, name_or(given, "peers", ""))?;
+    Ok(Seat {
+        own: name_or(given, "own", ""),
+        peers,
+        ports: small_number(given, "ports", 1),
+        made: number(given, "made", 0),
+        log: text_of(given, "log"),
+        label: name_or(given, "label", ""),
+    })
+}
+
+/// The names between the commas of a text; none where it is empty.
+///
+/// Error: `AllocError`.
+fn names_in<'a>(alloc: Global, text: &'a str) -> Result<Vec<&'a str>, AllocError>
+    ensures { IfOk result (λ names. texts_of names.items ≡ names_in text.entry.now) }
+{
+    if text.is_empty() {
+        return Ok(Vec::new(alloc));
+    }
+    text.split(',').collect(alloc)
 }
 
 /// What is asked of an exploration.
@@ -258,7 +311,9 @@ fn command<'a>(alloc: Global) -> Result<Command<'a>, AllocError>
     let serve = serve_command(alloc)?;
     let command = command.subcommand(serve)?;
     let explore = explore_command(alloc)?;
-    command.subcommand(explore)
+    let command = command.subcommand(explore)?;
+    let node = node_command(alloc)?;
+    command.subcommand(node)
 }
 
 /// The program, without its commands.
@@ -402,6 +457,48 @@ fn served_command<'a>(alloc: Global) -> Result<Command<'a>, AllocError>
     let command = command.arg(number_option(alloc, "ports", "2", 1, 64, PORTS_HELP))?;
     let command = command.arg(names_option(alloc))?;
     command.arg(file_option(alloc, "members", MEMBERS_HELP))
+}
+
+fn node_command<'a>(alloc: Global) -> Result<Command<'a>, AllocError>
+    ensures app { IfOk result (λ command. app_of command ≡ node_line) }
+    ensures local { IfOk result (λ command. (out-Command command).has_globals ≡ false) }
+{
+    let command = seat_command(alloc)?;
+    let command = command.arg(number_option(alloc, "made", "0", 0, 4_294_967_295, MADE_HELP))?;
+    let command = command.arg(file_option(alloc, "log", LOG_HELP))?;
+    let command = command.after_help(NODE_LINES);
+    command.arg(text_option(alloc, "label", "TEXT", LABEL_HELP))
+}
+
+/// The command `node` with its names and ports alone.
+fn seat_command<'a>(alloc: Global) -> Result<Command<'a>, AllocError>
+    ensures app { IfOk result (λ command. app_of command ≡ seat_line) }
+    ensures local { IfOk result (λ command. (out-Command command).has_globals ≡ false) }
+{
+    let command = new_command(alloc, "node", NODE_ABOUT);
+    let command = command.arg(own_option(alloc))?;
+    let command = command.arg(text_option(alloc, "peers", "NAME,NAME,..", PEERS_HELP))?;
+    command.arg(number_option(alloc, "ports", "1", 0, 65_535, OWN_PORTS_HELP))
+}
+
+/// The option that names the node itself, which has to be given.
+fn own_option<'a>(alloc: Global) -> Arg<'a>
+    ensures rule { rule_of result ≡ own_rule }
+    ensures plain { result.global ≡ false }
+{
+    Arg::new(alloc, "own")
+        .long("own")
+        .value_name("NAME")
+        .required(true)
+        .help(OWN_HELP)
+}
+
+/// An option that gives a text.
+fn text_option<'a>(alloc: Global, id: &'a str, value: &'a str, help: &'a str) -> Arg<'a>
+    ensures rule { rule_of result ≡ text_rule id.entry.now }
+    ensures plain { result.global ≡ false }
+{
+    Arg::new(alloc, id).long(id).value_name(value).help(help)
 }
 
 /// The option that names a node, as often as there are nodes.

@@ -60,7 +60,10 @@ fn is_own(words: &[String]) -> bool {
 
 /// Whether the program has a command of this name.
 fn is_command(word: &str) -> bool {
-    matches!(word, "bytes" | "script" | "threads" | "serve" | "explore")
+    matches!(
+        word,
+        "bytes" | "script" | "threads" | "serve" | "explore" | "node"
+    )
 }
 
 fn words_of(alloc: Global, given: &[&str]) -> Result<Vec<String>, AllocError> {

@@ -92,6 +92,7 @@ fn say(alloc: Global, told: Told<'_>, fault: Fault, saying: &mut Saying) {
         ("explore", 11) => say_graph(told, saying),
         ("script", _) | ("explore", _) => say_script(alloc, told, command, fault, saying),
         ("serve", _) => say_service(told, fault.number, saying),
+        ("node", _) => say_node(told, fault.number, saying),
         ("bytes", 6) => saying.text("a name of --node or --peer has more than 255 characters"),
         ("bytes", 15) => saying.text("--node and --peer: two names are wanted, and one is given"),
         _ => say_alone(fault.number, saying),
@@ -171,6 +172,19 @@ fn say_service(told: Told<'_>, number: u8, saying: &mut Saying) {
             saying.text(" of --nodes: as many are wanted");
         }
         (6, _) => saying.text("a name of --name has more than 255 characters"),
+        _ => say_alone(number, saying),
+    }
+}
+
+/// Says what is wrong with the words of a node, its log or its input.
+fn say_node(told: Told<'_>, number: u8, saying: &mut Saying) {
+    match number {
+        6 => saying.text("a name of --own or --peers has more than 255 characters"),
+        15 => saying.text(
+            "a name comes twice, there are more than 15 of --peers, --ports is not 1 to 64, --made is above 268435455, or --label has more than 255 bytes; or the first body brings no groups that the node can have",
+        ),
+        32 if told.missed.is_some() => say_file(told, "--log", saying),
+        32 => saying.text("--log: a write failed"),
         _ => say_alone(number, saying),
     }
 }

@@ -1,7 +1,7 @@
-//! What a test gives the program in the place of an input, an output, files, threads and a clock.
+//! What a test gives the program in the place of an input, an output, files, a log, threads and a clock.
 
 use pg_cluster::StartFault;
-use pg_program::System;
+use pg_program::{LogFile, System};
 use pg_streams::Sink;
 use pg_talk::{Conversation, Outcome, Served, Service, ServiceFault, Verdict};
 use std::alloc::Global;
@@ -195,6 +195,73 @@ impl System for Desk {
     }
 }
 
+/// Holds what is logged, once it was made; it can't be made where `is_full` is set.
+#[derive(Drop)]
+pub(crate) struct Log {
+    alloc: Global,
+    file: Option<(String, Vec<u8>)>,
+    is_full: bool,
+    /// The name of the file that there should be then, and what it should hold.
+    wanted: Option<(&'static str, &'static [u8])>,
+}
+
+impl Log {
+    pub(crate) fn new(alloc: Global) -> Log {
+        Log {
+            alloc,
+            file: None,
+            is_full: false,
+            wanted: None,
+        }
+    }
+
+    /// Whether there is a file if there should be one, and it holds what it should.
+    pub(crate) fn is_kept(&self) -> bool {
+        match (&self.file, self.wanted) {
+            (Some((name, text)), Some((wanted, bytes))) => {
+                name.as_str() == wanted && text.as_slice() == bytes
+            }
+            (None, None) => true,
+            _ => false,
+        }
+    }
+}
+
+impl Sink for Log {
+    ghost use Rattle.std.specs.Prelude.{⊤, None};
+
+    ghost contents = { λ log. None };
+
+    ghost fails = { λ a b. ⊤ };
+
+    ghost flushed = { λ log. ⊤ };
+
+    fn write_some(&mut self, bytes: &[u8]) -> io::Result<usize> {
+        match &mut self.file {
+            Some((_, text)) => match text.extend_from_slice(bytes) {
+                Ok(()) => Ok(bytes.len()),
+                Err(_) => Err(io::Error::from(ErrorKind::OutOfMemory)),
+            },
+            None => Ok(bytes.len()),
+        }
+    }
+
+    fn flush_all(&mut self) -> io::Result<()> {
+        Ok(())
+    }
+}
+
+impl LogFile for Log {
+    fn create(&mut self, name: &str) -> io::Result<()> {
+        if self.is_full || self.file.is_some() {
+            return Err(io::Error::from(ErrorKind::AlreadyExists));
+        }
+        let name = String::from_str(self.alloc, name)?;
+        drop(self.file.replace((name, Vec::new(self.alloc))));
+        Ok(())
+    }
+}
+
 /// What else is so in a run.
 #[derive(Clone, Copy)]
 pub(crate) enum With {
@@ -208,10 +275,12 @@ pub(crate) enum With {
     Room(usize),
     /// A flush fails.
     Stuck,
-    /// No file can be made.
+    /// No file can be made, and no log.
     Full,
     /// A file of this name is made, which has a picture.
     Draws(&'static str),
+    /// A log of this name is made, which holds this.
+    Logs(&'static str, &'static [u8]),
     /// A conversation goes so.
     Talks(Outcome),
     /// A service goes so.
@@ -219,7 +288,13 @@ pub(crate) enum With {
 }
 
 impl With {
-    pub(crate) fn set(self, input: &mut Input<'_>, output: &mut Output, desk: &mut Desk) {
+    pub(crate) fn set(
+        self,
+        input: &mut Input<'_>,
+        output: &mut Output,
+        desk: &mut Desk,
+        log: &mut Log,
+    ) {
         match self {
             With::Signs(count) => input.signs = count,
             With::Pieces(piece) => input.piece = piece,
@@ -229,7 +304,11 @@ impl With {
                 output.room = room;
             }
             With::Stuck => output.is_stuck = true,
-            With::Full => desk.is_full = true,
+            With::Full => {
+                desk.is_full = true;
+                log.is_full = true;
+            }
+            With::Logs(name, bytes) => log.wanted = Some((name, bytes)),
             With::Draws(name) => desk.picture = name,
             With::Talks(outcome) => desk.outcome = Some(outcome),
             With::Serves(served) => desk.served = served,

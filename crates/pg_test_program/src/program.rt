@@ -1,7 +1,7 @@
 //! Runs of the program with words, and what they print.
 
 use crate::fakes::With::{self, *};
-use crate::fakes::{Desk, Input, Output, WELL};
+use crate::fakes::{Desk, Input, Log, Output, WELL};
 use pg_cluster::{StartFault, WorldFault};
 use pg_program::{MAX_SCRIPT_LEN, refuse_given, run_words};
 use pg_streams::{AnyReader, AnyWriter};
@@ -46,6 +46,25 @@ const RUNS: &[(&str, &[Row])] = &[
     ("explore --differing", &[(TWO, &[], DIFFERING, "", 0)]),
     ("explore --show 2", &[(TWO, &[], b"", "refused 16\n", 2)]),
     ("explore --graph x", &[(TWO, &[Full], b"", UNWRITTEN, 1)]),
+    ("node --own a", NODES),
+    (
+        "node --own a --log x --label run",
+        &[(ASKED, &[Logs("x", LOGGED)], DONE, "", 0)],
+    ),
+    (
+        "node --own a --log x",
+        &[(ASKED, &[Full], b"", UNWRITTEN, 1)],
+    ),
+    ("node --own a --peers b,c", &[(GROUPS, &[], TOLD, "", 0)]),
+    ("node --own a --peers=", &[(GROUPS, &[], FORMED, "", 0)]),
+    ("node --own a --peers b,a", NO_NODE),
+    ("node --own a --ports 0 --log x", NO_NODE),
+    ("node --own a --ports 65", NO_NODE),
+    ("node --own a --made 268435456", NO_NODE),
+    (LONG, &[(ASKED, &[], b"", "refused 6\n", 2)]),
+    ("node", NO_WORDS),
+    ("node --own a --own b", NO_WORDS),
+    ("node --own a --ports 65536", NO_WORDS),
     ("byte", NO_WORDS),
     ("threads --nodes 17", NO_WORDS),
     ("serve --ports 65", NO_WORDS),
@@ -225,6 +244,54 @@ pull a b
 take a b
 ";
 
+const NODES: &[Row] = &[
+    // The version goes out before anything comes in.
+    (b"", &[], OPENED, "", 0),
+    (ASKED, &[], DONE, "", 0),
+    (ASKED, &[Pieces(1)], DONE, "", 0),
+    (b"\x00\x00\x00\x01\x16", &[], OPENED, "refused 15\n", 1),
+    (b"\x00\x00\x00", &[], OPENED, "refused 1\n", 1),
+    (b"\x01\x00\x00\x01", &[], OPENED, "refused 11\n", 1),
+    (GROUPS, &[Fails(BrokenPipe)], FORMED, UNREAD, 1),
+    // Its host went away.
+    (ASKED, &[Room(0)], DONE, "", 1),
+    (ASKED, &[Room(20)], DONE, "", 1),
+    (ASKED, &[Stuck], OPENED, "", 1),
+];
+
+const NO_NODE: &[Row] = &[(ASKED, &[], b"", "refused 15\n", 2)];
+
+// A node of 256 characters.
+const LONG: &str = "node --own \
+    nnnnnnnnnnnnnnnnnnnnnnnnnnnnnnnnnnnnnnnnnnnnnnnnnnnnnnnnnnnnnnnn\
+    nnnnnnnnnnnnnnnnnnnnnnnnnnnnnnnnnnnnnnnnnnnnnnnnnnnnnnnnnnnnnnnn\
+    nnnnnnnnnnnnnnnnnnnnnnnnnnnnnnnnnnnnnnnnnnnnnnnnnnnnnnnnnnnnnnnn\
+    nnnnnnnnnnnnnnnnnnnnnnnnnnnnnnnnnnnnnnnnnnnnnnnnnnnnnnnnnnnnnnnn";
+
+// No groups; and then a request at port 1 of `a`, to create `g`.
+const GROUPS: &[u8] = b"\x00\x00\x00\x03\x14\x83j";
+
+const ASKED: &[u8] =
+    b"\x00\x00\x00\x03\x14\x83j\x00\x00\x00\x15\x83h\x03w\x01aa\x01h\x02w\x06createw\x01g";
+
+// The version; then that the node is formed; then the reply.
+const OPENED: &[u8] = b"\x00\x00\x00\x0d\x15\x01of Zulayefi";
+
+const FORMED: &[u8] = b"\x00\x00\x00\x0d\x15\x01of Zulayefi\x00\x00\x00\x01\x16";
+
+const DONE: &[u8] =
+    b"\x00\x00\x00\x0d\x15\x01of Zulayefi\x00\x00\x00\x01\x16\x00\x00\x00\x0e\x83h\x04w\x01aa\x01a\x01w\x02ok";
+
+// To each of two peers, that the node has no groups.
+const TOLD: &[u8] = b"\x00\x00\x00\x0d\x15\x01of Zulayefi\
+    \x00\x00\x00\x22\x00\x00\x00\x00\x1d\x83h\x02a\x00h\x02w\x04casth\x03w\x08exchangew\x01aj\
+    \x00\x00\x00\x22\x01\x00\x00\x00\x1d\x83h\x02a\x00h\x02w\x04casth\x03w\x08exchangew\x01aj";
+
+// The head, both bodies, and that the change was handed over.
+const LOGGED: &[u8] =
+    b"\x00\x00\x00\x25\x83h\x07a\x01m\x00\x00\x00\x0bof Zulayefiw\x01aja\x01a\x00m\x00\x00\x00\x03run\
+    \x00\x00\x00\x03\x14\x83j\x00\x00\x00\x15\x83h\x03w\x01aa\x01h\x02w\x06createw\x01g\xff\x02\x00\x01";
+
 const NO_WORDS: &[Row] = &[(CREATE, &[], b"", WORDS, 2)];
 
 // What the text of refused words begins with. Nothing is read then.
@@ -253,11 +320,20 @@ fn run(alloc: Global, given: &str, row: Row, desk: &mut Desk) -> Option<(u8, usi
     let mut writer = AnyWriter {
         writer: Output::new(alloc),
     };
+    let mut log = Log::new(alloc);
     for with in withs {
-        with.set(&mut reader.reader, &mut writer.writer, desk);
+        with.set(&mut reader.reader, &mut writer.writer, desk, &mut log);
     }
     let mut faults = Vec::new(alloc);
-    let ended = run_words(alloc, &words, &mut reader, &mut writer, desk, &mut faults);
+    let ended = run_words(
+        alloc,
+        &words,
+        &mut reader,
+        &mut writer,
+        desk,
+        &mut log,
+        &mut faults,
+    );
     drop(words);
     let is_told = if told == WORDS {
         faults.as_slice().starts_with(WORDS.as_bytes()) && reader.reader.text.len() == text.len()
@@ -267,9 +343,15 @@ fn run(alloc: Global, given: &str, row: Row, desk: &mut Desk) -> Option<(u8, usi
     let (wanted, _) = output.split_at(output.len().min(writer.writer.room));
     let is_written = writer.writer.text.as_slice() == wanted;
     let len = writer.writer.text.len();
+    let is_kept = log.is_kept();
     drop(writer);
+    drop(log);
     drop(faults);
-    Some((ended, len, is_told && is_written && ended == status))
+    Some((
+        ended,
+        len,
+        is_told && is_written && is_kept && ended == status,
+    ))
 }
 
 fn is_printed(alloc: Global, words: &str, row: Row) -> bool {

@@ -2,7 +2,9 @@ use Rattle.std.proofs.Common.{map, refl, string_bytes}
 use Rattle.clap.specs.Words.{fault_of, kind_of, subcommand_of}
 use Rattle.pg_program.specs.CommandLine.{command_line}
 use Rattle.pg_program.proofs.Ends.{explore_no_bytes, explore_no_script, explore_no_script_word, explore_no_serve_word}
-use Rattle.pg_program.proofs.Ends.{explore_no_threads, explore_word, asked_so, offered_so, not_other, not_read, not_spoken}
+use Rattle.pg_program.proofs.Ends.{explore_no_threads, explore_word, asked_so, offered_so, seated_so, not_other, not_read, not_spoken}
+use Rattle.pg_program.proofs.Ends.{node_no_bytes, node_no_explore_word, node_no_script, node_no_script_word}
+use Rattle.pg_program.proofs.Ends.{node_no_serve_word, node_no_threads, node_word}
 use Rattle.pg_program.proofs.Ends.{only_memory, same_names, script_not_read, spoken, script_no_bytes}
 use Rattle.pg_program.proofs.Ends.{script_no_threads, serve_no_bytes, serve_no_script, serve_no_script_word}
 use Rattle.pg_program.proofs.Ends.{serve_no_threads, serve_word, not_served, threads_no_bytes, threads_no_script}
@@ -38,6 +40,11 @@ returns-in-Ok-Bytes-clause-explore g c =
     λ none is.
     absurd (explore_no_bytes (subcommand_of command_line (map string_bytes c.args.words.now)) c.in-Ok-Bytes.own.now c.in-Ok-Bytes.peer.now is (rw c.in-Ok-Bytes.field-0-is at c.in-Ok-Bytes.ensures.asked))
 
+pub returns-in-Ok-Bytes-clause-node : goal.returns-in-Ok-Bytes-clause-node
+returns-in-Ok-Bytes-clause-node g c =
+    λ none is.
+    absurd (node_no_bytes (subcommand_of command_line (map string_bytes c.args.words.now)) c.in-Ok-Bytes.own.now c.in-Ok-Bytes.peer.now is (rw c.in-Ok-Bytes.field-0-is at c.in-Ok-Bytes.ensures.asked))
+
 -- ---- `explore`
 
 pub returns-in-Ok-Explore-clause-bytes : goal.returns-in-Ok-Explore-clause-bytes
@@ -71,6 +78,13 @@ returns-in-Ok-Explore-clause-explore g c =
     λ none is.
     let asked = rw c.in-Ok-Explore.field-0-is at c.in-Ok-Explore.ensures.asked in
     asked_so _ _ _ _ c.run_exploration.result c.in-Ok-Explore.quest asked.1 c.run_exploration.ensures
+
+pub returns-in-Ok-Explore-clause-node : goal.returns-in-Ok-Explore-clause-node
+returns-in-Ok-Explore-clause-node g c =
+    λ none is.
+    let asked = rw c.in-Ok-Explore.field-0-is at c.in-Ok-Explore.ensures.asked in
+    let words = subcommand_of command_line (map string_bytes c.args.words.now) in
+    absurd (node_no_explore_word words is (explore_word words c.in-Ok-Explore.quest asked.1))
 
 -- ---- `serve`
 
@@ -106,6 +120,13 @@ returns-in-Ok-Serve-clause-threads g c =
     let words = subcommand_of command_line (map string_bytes c.args.words.now) in
     absurd (serve_no_threads words talk (serve_word words c.in-Ok-Serve.offer asked.1) is)
 
+pub returns-in-Ok-Serve-clause-node : goal.returns-in-Ok-Serve-clause-node
+returns-in-Ok-Serve-clause-node g c =
+    λ none is.
+    let asked = rw c.in-Ok-Serve.field-0-is at c.in-Ok-Serve.ensures.asked in
+    let words = subcommand_of command_line (map string_bytes c.args.words.now) in
+    absurd (node_no_serve_word words is (serve_word words c.in-Ok-Serve.offer asked.1))
+
 -- ---- `script`
 
 pub returns-in-Ok-Script-clause-explore : goal.returns-in-Ok-Script-clause-explore
@@ -130,6 +151,13 @@ returns-in-Ok-Script-clause-threads g c =
     λ talk none is.
     let asked = rw c.in-Ok-Script.field-0-is at c.in-Ok-Script.ensures.asked in
     absurd (threads_no_script (subcommand_of command_line (map string_bytes c.args.words.now)) talk c.in-Ok-Script.aids is asked.1)
+
+pub returns-in-Ok-Script-clause-node : goal.returns-in-Ok-Script-clause-node
+returns-in-Ok-Script-clause-node g c =
+    λ none is.
+    let asked = rw c.in-Ok-Script.field-0-is at c.in-Ok-Script.ensures.asked in
+    let words = subcommand_of command_line (map string_bytes c.args.words.now) in
+    absurd (node_no_script words c.in-Ok-Script.aids is asked.1)
 
 -- ---- `threads`
 
@@ -163,6 +191,64 @@ returns-in-Ok-Threads-clause-explore g c =
     let asked = rw c.in-Ok-Threads.field-0-is at c.in-Ok-Threads.ensures.asked in
     absurd (explore_no_threads (subcommand_of command_line (map string_bytes c.args.words.now)) c.in-Ok-Threads.talk is asked.1)
 
+pub returns-in-Ok-Threads-clause-node : goal.returns-in-Ok-Threads-clause-node
+returns-in-Ok-Threads-clause-node g c =
+    λ none is.
+    let asked = rw c.in-Ok-Threads.field-0-is at c.in-Ok-Threads.ensures.asked in
+    let words = subcommand_of command_line (map string_bytes c.args.words.now) in
+    absurd (node_no_threads words c.in-Ok-Threads.talk is asked.1)
+
+-- ---- `node`
+
+pub returns-in-Ok-Node-clause-node : goal.returns-in-Ok-Node-clause-node
+returns-in-Ok-Node-clause-node g c =
+    λ none is.
+    let asked = rw c.in-Ok-Node.field-0-is at c.in-Ok-Node.ensures.asked in
+    let words = subcommand_of command_line (map string_bytes c.args.words.now) in
+    seated_so _ _ _ _ c.run_node-status.result c.in-Ok-Node.seat asked.1 c.run_node-status.ensures
+
+pub returns-in-Ok-Node-clause-bytes : goal.returns-in-Ok-Node-clause-bytes
+returns-in-Ok-Node-clause-bytes g c =
+    λ own peer none is.
+    let asked = rw c.in-Ok-Node.field-0-is at c.in-Ok-Node.ensures.asked in
+    let words = subcommand_of command_line (map string_bytes c.args.words.now) in
+    absurd (not_other words own peer is asked.0)
+
+pub returns-in-Ok-Node-clause-script : goal.returns-in-Ok-Node-clause-script
+returns-in-Ok-Node-clause-script g c =
+    λ none is.
+    let asked = rw c.in-Ok-Node.field-0-is at c.in-Ok-Node.ensures.asked in
+    let words = subcommand_of command_line (map string_bytes c.args.words.now) in
+    absurd (node_no_script_word words (node_word words c.in-Ok-Node.seat asked.1) is)
+
+pub returns-in-Ok-Node-clause-threads : goal.returns-in-Ok-Node-clause-threads
+returns-in-Ok-Node-clause-threads g c =
+    λ talk none is.
+    let asked = rw c.in-Ok-Node.field-0-is at c.in-Ok-Node.ensures.asked in
+    let words = subcommand_of command_line (map string_bytes c.args.words.now) in
+    absurd (node_no_threads words talk (node_word words c.in-Ok-Node.seat asked.1) is)
+
+pub returns-in-Ok-Node-clause-serve : goal.returns-in-Ok-Node-clause-serve
+returns-in-Ok-Node-clause-serve g c =
+    λ none is.
+    let asked = rw c.in-Ok-Node.field-0-is at c.in-Ok-Node.ensures.asked in
+    let words = subcommand_of command_line (map string_bytes c.args.words.now) in
+    absurd (node_no_serve_word words (node_word words c.in-Ok-Node.seat asked.1) is)
+
+pub returns-in-Ok-Node-clause-explore : goal.returns-in-Ok-Node-clause-explore
+returns-in-Ok-Node-clause-explore g c =
+    λ none is.
+    let asked = rw c.in-Ok-Node.field-0-is at c.in-Ok-Node.ensures.asked in
+    let words = subcommand_of command_line (map string_bytes c.args.words.now) in
+    absurd (node_no_explore_word words (node_word words c.in-Ok-Node.seat asked.1) is)
+
+pub returns-in-Ok-Node-clause-others : goal.returns-in-Ok-Node-clause-others
+returns-in-Ok-Node-clause-others g c =
+    λ other.
+    let asked = rw c.in-Ok-Node.field-0-is at c.in-Ok-Node.ensures.asked in
+    let words = subcommand_of command_line (map string_bytes c.args.words.now) in
+    absurd (other (node_word words c.in-Ok-Node.seat asked.1))
+
 -- ---- no words
 
 pub returns-in-Err-clause-explore : goal.returns-in-Err-clause-explore
@@ -176,6 +262,12 @@ returns-in-Err-clause-serve g c =
     λ none is.
     let ended = c.refuse_words.ensures.memory (only_memory (fault_of command_line (map string_bytes c.args.words.now)) (kind_of c.in-Err.error) none c.in-Err.ensures.refused) in
     not_served _ _ _ c.refuse_words.result refl ended.0 ended.1
+
+pub returns-in-Err-clause-node : goal.returns-in-Err-clause-node
+returns-in-Err-clause-node g c =
+    λ none is.
+    let ended = c.refuse_words.ensures.memory (only_memory (fault_of command_line (map string_bytes c.args.words.now)) (kind_of c.in-Err.error) none c.in-Err.ensures.refused) in
+    not_spoken _ _ _ c.refuse_words.result (refl, refl, refl) ended.0 ended.1
 
 pub returns-in-Err-clause-bytes : goal.returns-in-Err-clause-bytes
 returns-in-Err-clause-bytes g c =

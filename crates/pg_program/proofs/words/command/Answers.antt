@@ -15,4 +15,6 @@ returns c =
     let third_is = c.in_ok-command-4.ensures.shape c.in_ok-threads.ensures.local ∙ ap₂ with_subcommand second_is threads_is in
     let fourth_is = c.in_ok-command-5.ensures.shape c.in_ok-serve.ensures.local ∙ ap₂ with_subcommand third_is serve_is in
     let explore_is = ap (λ (a : App). a.top) c.in_ok-explore.ensures.app in
-    IfOk-weaker c.subcommand-5.result _ _ (λ m h. h.shape c.in_ok-explore.ensures.local ∙ ap₂ with_subcommand fourth_is explore_is) c.subcommand-5.ensures
+    let fifth_is = c.in_ok-command-6.ensures.shape c.in_ok-explore.ensures.local ∙ ap₂ with_subcommand fourth_is explore_is in
+    let node_is = ap (λ (a : App). a.top) c.in_ok-node.ensures.app in
+    IfOk-weaker c.subcommand-6.result _ _ (λ m h. h.shape c.in_ok-node.ensures.local ∙ ap₂ with_subcommand fifth_is node_is) c.subcommand-6.ensures
