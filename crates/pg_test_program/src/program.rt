@@ -46,6 +46,15 @@ const RUNS: &[(&str, &[Row])] = &[
     ("explore --differing", &[(TWO, &[], DIFFERING, "", 0)]),
     ("explore --show 2", &[(TWO, &[], b"", "refused 16\n", 2)]),
     ("explore --graph x", &[(TWO, &[Full], b"", UNWRITTEN, 1)]),
+    ("byte", NO_WORDS),
+    ("threads --nodes 17", NO_WORDS),
+    ("serve --ports 65", NO_WORDS),
+    ("explore --retries 1001", NO_WORDS),
+    ("", NO_WORDS),
+];
+
+// The same of the word `node`.
+const NODE_RUNS: &[(&str, &[Row])] = &[
     ("node --own a", NODES),
     (
         "node --own a --log x --label run",
@@ -65,11 +74,6 @@ const RUNS: &[(&str, &[Row])] = &[
     ("node", NO_WORDS),
     ("node --own a --own b", NO_WORDS),
     ("node --own a --ports 65536", NO_WORDS),
-    ("byte", NO_WORDS),
-    ("threads --nodes 17", NO_WORDS),
-    ("serve --ports 65", NO_WORDS),
-    ("explore --retries 1001", NO_WORDS),
-    ("", NO_WORDS),
 ];
 
 const OTHER_FILE: &str = "serve --nodes 2 --name a --name b --members other";
@@ -367,6 +371,15 @@ fn is_printed(alloc: Global, words: &str, row: Row) -> bool {
 #[test]
 fn rows(rt: HostRuntime) {
     for (words, rows) in RUNS {
+        for (place, row) in rows.iter().enumerate() {
+            assert!(&rt; is_printed(rt.alloc(), words, *row), "{words}: row {place}");
+        }
+    }
+}
+
+#[test]
+fn rows_of_nodes(rt: HostRuntime) {
+    for (words, rows) in NODE_RUNS {
         for (place, row) in rows.iter().enumerate() {
             assert!(&rt; is_printed(rt.alloc(), words, *row), "{words}: row {place}");
         }
