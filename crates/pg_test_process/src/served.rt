@@ -135,39 +135,46 @@ fn an_invalid_config_is_refused(rt: HostRuntime) {
 /// After how many calls the log and the output fail, of a process that is asked for its clock behind its first body; and how many bytes of
 /// each were flushed then. The head has 28 bytes, and takes 10 writes and a flush; the bodies 12, which take 4. The version has 7 bytes, and
 /// takes 3 writes; what follows has 14, which take 5.
-const FAILING: &[(usize, usize, [usize; 2])] = &[
-    (0, 99, [0, 0]),
-    (10, 99, [0, 0]),
-    (99, 3, [28, 0]),
-    (11, 99, [28, 7]),
-    (15, 99, [28, 7]),
-    (16, 4, [40, 7]),
-    (99, 9, [40, 7]),
-    (99, 10, [40, 21]),
+const FAILING: &[(usize, usize, usize, usize)] = &[
+    (0, 99, 0, 0),
+    (10, 99, 0, 0),
+    (99, 3, 28, 0),
+    (11, 99, 28, 7),
+    (15, 99, 28, 7),
+    (16, 4, 40, 7),
+    (99, 9, 40, 7),
+    (99, 10, 40, 21),
 ];
 
 /// How many bytes of the log and of the output were flushed, and whether the process ended by 32.
-fn failed(alloc: Global, log_calls: usize, calls: usize) -> Result<([usize; 2], bool), AllocError> {
+fn failed(
+    alloc: Global,
+    log_calls: usize,
+    calls: usize,
+) -> Result<(usize, usize, bool), AllocError> {
     let config = config(alloc, 1)?;
     let mut reader: &[u8] = b"\0\0\0\x03\x14\x83j\0\0\0\x01\x11";
     let mut out: AnyWriter<Sheet> = blank_sheet(alloc, calls);
     let mut log: AnyWriter<Sheet> = blank_sheet(alloc, log_calls);
     let ended = serve(alloc, config, VERSION, &mut reader, &mut out, &mut log);
-    let counts = [log.writer.flushed, out.writer.flushed];
+    let logged = log.writer.flushed;
+    let written = out.writer.flushed;
     drop(out);
     drop(log);
     match ended {
-        Ok(()) => Ok((counts, false)),
-        Err(fault) => Ok((counts, fault.number() == 32)),
+        Ok(()) => Ok((logged, written, false)),
+        Err(fault) => Ok((logged, written, fault.number() == 32)),
     }
 }
 
 #[test]
 fn nothing_goes_out_before_it_is_logged(rt: HostRuntime) {
     for place in 0..FAILING.len() {
-        let (log_calls, calls, flushed) = FAILING[place];
+        let (log_calls, calls, to_log, to_output) = FAILING[place];
         let is_so = match failed(rt.alloc(), log_calls, calls) {
-            Ok((counts, is_fault)) => counts == flushed && is_fault == (place + 1 < FAILING.len()),
+            Ok((logged, written, is_fault)) => {
+                logged == to_log && written == to_output && is_fault == (place + 1 < FAILING.len())
+            }
             Err(AllocError) => false,
         };
         holds_at(&rt, is_so, "what was flushed in row", place);
