@@ -2,6 +2,7 @@ pub mod Changes
 pub mod Chunks
 pub mod Copies
 pub mod Drops
+pub mod EndedCounts
 pub mod EndedNumbers
 pub mod EndedSets
 pub mod EndedWithin

@@ -1,7 +1,8 @@
 -- What the ended are seen as.
-use Rattle.std.specs.Prelude.{ℕ, Bool, List, [], map, unwrap_or}
+use Rattle.std.specs.Prelude.{◌≡◌, ◌-◌, ◌^◌, ℕ, min, Bool, List, [], length, map, unwrap_or}
 use Rattle.std.specs.BTreeMap.{BTreeMap, get, is_at}
 use Rattle.std.specs.List.{flat_map, list_any}
+use Rattle.std.specs.List.Sorted.{IsStrictlySortedBy}
 use Rattle.pg_term.specs.declared.pid.Pid.{Pid}
 use Rattle.pg_term.specs.Same.{atom_cmp, pid_cmp}
 use Rattle.pg_group.specs.declared.number.Number.{Number}
@@ -11,6 +12,11 @@ use Rattle.pg_group.specs.Numbers.{pid_at}
 pub record Ends : Type 0 where
   pub nodes : List (List ℕ)
   pub pids : List Pid
+
+-- Pids, each once, and how many they are, as far as 64 bits tell.
+pub record AreCounted (pids : List Pid) (count : ℕ) : Type 0 where
+  pub ordered : IsStrictlySortedBy pid_cmp pids
+  pub length : count ≡ min (length pids) (2 ^ 64 - 1)
 
 -- the pids of a node that have these numbers
 abbrev pub pids_at : List ℕ × List Number → List Pid

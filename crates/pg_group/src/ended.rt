@@ -7,8 +7,8 @@ ghost use Rattle.pg_term.specs.Same.{same_pid, atom_cmp, pid_cmp};
 ghost use Rattle.pg_group.specs.Functions.{upd};
 ghost use Rattle.pg_group.specs.Scope.{at_node};
 ghost use Rattle.pg_group.specs.Numbers.{has_number, pid_at};
-ghost use Rattle.pg_group.specs.Ends.{has_pid, pids_at, all_pids, numbers_at};
-ghost use Rattle.pg_group.specs.Ended.{ended_of, ended_with, is_whole, single_of, IsWithin};
+ghost use Rattle.pg_group.specs.Ends.{AreCounted, has_pid, pids_at, all_pids, numbers_at};
+ghost use Rattle.pg_group.specs.Ended.{ended_of, ended_with, is_whole, single_of, IsEndedCount, IsWithin};
 
 use crate::number::Number;
 use crate::numbers::Numbers;
@@ -24,15 +24,19 @@ pub struct Ended {
     nodes: BTreeSet<Atom>,
     /// The numbers of the pids that were put in one by one, by their nodes.
     numbers: BTreeMap<Atom, Numbers>,
+    /// How many these are.
+    count: u64,
     alloc: Global,
 }
 
 impl Model for Ended {
-    ghost use Rattle.pg_group.specs.Ends.{Ends, all_pids};
+    ghost use Rattle.pg_group.specs.Ends.{Ends, AreCounted, all_pids};
 
     ghost Value = { Ends };
 
     ghost view = { λ e. record { nodes = e.nodes.keys; pids = all_pids e.numbers.entries } };
+
+    ghost invariant = { λ e. AreCounted (all_pids e.numbers.entries) e.count };
 }
 
 /// Whether a pid is among those of these numbers.
@@ -154,6 +158,7 @@ impl Ended {
         Ended {
             nodes: BTreeSet::new(alloc),
             numbers: BTreeMap::new(alloc),
+            count: 0,
             alloc,
         }
     }
@@ -165,6 +170,16 @@ impl Ended {
         ensures { result ≡ ended_of self.now pid.now }
     {
         self.nodes.contains(&pid.node) || has_pid(&self.numbers, pid)
+    }
+
+    /// How many pids were put in one by one, or `u64::MAX` where there are more.
+    ///
+    /// Cost: no memory, and O(1).
+    pub fn count(&self) -> u64
+        ensures pids { AreCounted self.now.pids result }
+        ensures ended { IsEndedCount (ended_of self.now) result }
+    {
+        self.count
     }
 
     /// Whether all pids of the node were put in at once.
@@ -230,6 +245,7 @@ impl Ended {
         Ok(Ended {
             nodes: copy_nodes(&self.nodes, alloc)?,
             numbers: copy_numbers(&self.numbers, alloc)?,
+            count: self.count,
             alloc,
         })
     }
@@ -246,7 +262,9 @@ impl Ended {
         ensures nodes { self.new.nodes ≡ self.old.nodes }
         ensures kept { OnErr result (self.new ≡ self.old) }
     {
+        let more = u64::from(!has_pid(&self.numbers, &pid));
         put(&mut self.numbers, self.alloc, pid)?;
+        self.count = self.count.saturating_add(more);
         Ok(())
     }
 

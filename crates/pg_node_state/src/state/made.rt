@@ -6,6 +6,7 @@ ghost use Rattle.std.specs.Option.{option_copied};
 ghost use Rattle.pg_term.specs.Same.{same_atom};
 ghost use Rattle.pg_term.specs.declared.pid.Pid.{Pid};
 ghost use Rattle.pg_term.specs.declared.term.Term.{Term};
+ghost use Rattle.pg_node_ports.specs.PgGroup.Ended.{IsEndedCount};
 ghost use Rattle.pg_node_ports.specs.PgGroup.Value.{count_in};
 ghost use Rattle.pg_node_ports.specs.PgEnds.Numbers.{ended_among};
 ghost use Rattle.pg_node_ports.specs.PgEnds.Limits.{max_processes};
@@ -175,6 +176,16 @@ impl<T: GroupTable + Drop> NodeState<T> {
         ensures { result ≡ (kept_by self.now).ended pid.now }
     {
         self.ended.has(pid)
+    }
+
+    /// How many processes have ended, as far as the node knows, or `u64::MAX` where there are more. Those of a lost node, all of which have,
+    /// do not count, but for each whose end came before.
+    ///
+    /// Cost: no memory, and O(1).
+    pub fn ended_count(&self) -> u64
+        ensures { IsEndedCount (kept_by self.now).ended result }
+    {
+        self.ended.count()
     }
 
     /// The holder of the lock of a name at this node.

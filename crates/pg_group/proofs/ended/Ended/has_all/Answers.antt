@@ -1,7 +1,7 @@
 use Rattle.std.proofs.Common.{sym, ap, ◌∙◌}
 use Rattle.std.specs.List.{list_all}
 use Rattle.pg_group.specs.Ended.{ended_of, is_whole}
-use Rattle.pg_group.specs.Ends.{Ends, pids_at, all_pids}
+use Rattle.pg_group.specs.Ends.{Ends, pids_at}
 use Rattle.pg_group.proofs.EndedWithin.{whole_passes, singles_pass}
 use Rattle.pg_group.proofs.ended.Ended.has_all.Goals as goal
 
