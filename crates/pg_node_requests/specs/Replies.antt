@@ -51,3 +51,15 @@ lost_term node = pair (Atom (chars (codes "lost"))) (Atom node)
 -- {error, {bad_request, N}}
 abbrev pub bad_request_term : ℕ → Term
 bad_request_term number = error_term (chars (codes "bad_request")) (count_reply number)
+
+-- {old_clock, Clock}
+abbrev pub old_clock_term : ℕ → Term
+old_clock_term clock = pair (Atom (chars (codes "old_clock"))) (count_reply clock)
+
+-- {many_ended, Count}
+abbrev pub many_ended_term : ℕ → Term
+many_ended_term count = pair (Atom (chars (codes "many_ended"))) (count_reply count)
+
+-- {has_ended, {Node, Port, Number}}
+abbrev pub has_ended_term : List ℕ → (port number : ℕ) → Term
+has_ended_term node port number = pair (Atom (chars (codes "has_ended"))) (Tuple (Atom node ∷ Int (pos port) ∷ count_reply number ∷ []))

@@ -14,5 +14,8 @@ mod request;
 pub use input::Input;
 pub use layout::{Layout, NodePorts};
 pub use members::{groups_of, node_name, node_names, starts_of};
-pub use reply::{bad_request, lost, node_lost, numbered, refused, reply_term, unknown};
+pub use reply::{
+    bad_request, has_ended, lost, many_ended, node_lost, numbered, old_clock, refused, reply_term,
+    unknown,
+};
 pub use request::read_request;

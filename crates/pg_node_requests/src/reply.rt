@@ -4,8 +4,8 @@ ghost use Rattle.std.specs.Prelude.{◌≡◌, ◌<◌, ◌∷◌, [], pos, IfOk
 ghost use Rattle.std.specs.Str.{chars};
 ghost use Rattle.pg_term.specs.declared.term.Term.{List as Listed};
 ghost use Rattle.pg_term.specs.declared.term.Term.TheVariants.{Int, Atom as Word, Pid as Process};
-ghost use Rattle.pg_node_requests.specs.Replies.{bad_request_term, count_reply, error_term, lost_term};
-ghost use Rattle.pg_node_requests.specs.Replies.{node_lost_term, numbered_term, pair, refused_term, reply_term, unknown_term};
+ghost use Rattle.pg_node_requests.specs.Replies.{bad_request_term, count_reply, error_term, has_ended_term, lost_term};
+ghost use Rattle.pg_node_requests.specs.Replies.{many_ended_term, node_lost_term, old_clock_term, numbered_term, pair, refused_term, reply_term, unknown_term};
 
 use pg_step::Reply;
 use pg_term::{Atom, Fields, Items, Pid, Term};
@@ -113,6 +113,40 @@ pub fn bad_request(alloc: Global, number: u64) -> Result<Term, AllocError>
     ensures { IfOk result (λ term. term ≡ bad_request_term number) }
 {
     error(alloc, "bad_request", count_reply(number))
+}
+
+/// `{old_clock, Clock}`.
+///
+/// Errors: `AllocError`.
+///
+/// Cost: memory for the term.
+pub fn old_clock(alloc: Global, clock: u32) -> Result<Term, AllocError>
+    ensures { IfOk result (λ term. term ≡ old_clock_term clock) }
+{
+    tagged(alloc, "old_clock", count_reply(u64::from(clock)))
+}
+
+/// `{many_ended, Count}`.
+///
+/// Errors: `AllocError`.
+///
+/// Cost: memory for the term.
+pub fn many_ended(alloc: Global, count: u64) -> Result<Term, AllocError>
+    ensures { IfOk result (λ term. term ≡ many_ended_term count) }
+{
+    tagged(alloc, "many_ended", count_reply(count))
+}
+
+/// `{has_ended, {Node, Port, Number}}`.
+///
+/// Errors: `AllocError`.
+///
+/// Cost: memory for the term, with a copy of the name.
+pub fn has_ended(alloc: Global, name: &Atom, port: u16, number: u64) -> Result<Term, AllocError>
+    ensures { IfOk result (λ term. term ≡ has_ended_term name.now port number) }
+{
+    let parts = first_parts(alloc, name, port, number)?;
+    tagged(alloc, "has_ended", Term::Tuple(Fields::from_vec(parts)))
 }
 
 /// A count as a term.
