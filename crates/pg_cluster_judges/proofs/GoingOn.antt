@@ -93,14 +93,14 @@ module _ {S : Type 0} (kind : Kind S) (config : Config) where
 abbrev pub KeepsOneHistory : Type 0
 KeepsOneHistory = (config : Config) (w : TimedFrameWorld) (events : List (Event Action)) → IsDistinct same_atom (names_of config) → Reaches config events w → OneHistory config events (plain w)
 
-abbrev pub SurvivesLosses : Type 0
-SurvivesLosses = (config : Config) (u : LosingFrameWorld) (events : List (LosingEvent Action)) → IsDistinct same_atom (names_of config) → LosingReaches config events u → LossesSurvived config events u
+abbrev pub EachWorldSurvives : Type 0
+EachWorldSurvives = (config : Config) (u : LosingFrameWorld) (events : List (LosingEvent Action)) → IsDistinct same_atom (names_of config) → LosingReaches config events u → LossesSurvived config events u
 
 -- a run in which nodes may be lost goes on
 pub losing_more : (given : Config) (made more : List FrameStep) (numbers others : List ℕ) (old new : View) (gone now : List ℕ)
     → RanLosing packets_past_losses given made numbers (λ config. ShowsLosing config old gone)
     → ((config : Config) (u : LosingFrameWorld) → ShowsLosing config old gone u → LosingGoesTo packets_past_losses config u more others (ShowsLosing config new now))
-    → SurvivesLosses → RanLosing packets_past_losses given (made ++ more) (numbers ++ others) (λ config. ShowsLosing config new now)
+    → EachWorldSurvives → RanLosing packets_past_losses given (made ++ more) (numbers ++ others) (λ config. ShowsLosing config new now)
 losing_more given made more numbers others old new gone now ran goes law =
     let on = goes ran.config ran.u ran.shows in
     ran_past_so packets_past_losses given ran.config (λ (config : Config). ShowsLosing config new now) (made ++ more) (numbers ++ others) ran.orders
@@ -132,7 +132,7 @@ ran_more given made more numbers others old new ran goes law =
 -- ---- worlds that made steps
 
 -- one that made steps has made those that follow, with their numbers behind
-pub made_more : (before after : Replay) (steps : List FrameStep) (own : List ℕ) → KeepsOneHistory → SurvivesLosses
+pub made_more : (before after : Replay) (steps : List FrameStep) (own : List ℕ) → KeepsOneHistory → EachWorldSurvives
     → (LosesNone steps → lost_of after.world ≡ lost_of before.world)
     → (lost_of after.world ≡ [] → (config : Config) (w : TimedFrameWorld) → ShowsWorld config (view_of before.world) w → GoesTo over_packets config w steps own (ShowsWorld config (view_of after.world)))
     → ((config : Config) (u : LosingFrameWorld) → ShowsLosing config (view_of before.world) (lost_of before.world) u
@@ -186,7 +186,7 @@ one_entry_more logs lost all order later place before after low goes rest given 
 -- ---- what calls give
 
 -- a world made these steps, and its numbers have room
-pub made_if : {A E : Type 0} (r : Result A E) (before after : Replay) (steps : List FrameStep) (own slice : List ℕ) → KeepsOneHistory → SurvivesLosses
+pub made_if : {A E : Type 0} (r : Result A E) (before after : Replay) (steps : List FrameStep) (own slice : List ℕ) → KeepsOneHistory → EachWorldSurvives
     → (LosesNone steps → lost_of after.world ≡ lost_of before.world)
     → (lost_of after.world ≡ [] → (config : Config) (w : TimedFrameWorld) → ShowsWorld config (view_of before.world) w → GoesTo over_packets config w steps own (ShowsWorld config (view_of after.world)))
     → ((config : Config) (u : LosingFrameWorld) → ShowsLosing config (view_of before.world) (lost_of before.world) u

@@ -12,4 +12,5 @@ pub mod Runs
 pub mod Solo
 pub mod Sums
 pub mod Taken
+pub mod Unstuck
 pub mod Weights

@@ -23,9 +23,6 @@ Holds config node x i number name = is_holder ((node x).locks name) (numbered (n
 
 -- of the nodes that pass a test
 pub record ExclusiveLocks (config : Config) (lives : ℕ → Bool) (node : ℕ → State) : Type 0 where
-  -- of two references one at most holds the lock of a group at a node
-  pub one_holder : (x i j c d : ℕ) (name : Term) → lives i ≡ true → lives j ≡ true
-      → Holds config node x i c name → Holds config node x j d name → (i ≡ j) × (c ≡ d)
   -- a grant that is counted stands at the node that gave it, so that no other request for the lock has it
   pub granted : (x i c : ℕ) (op : OpId) (update : Update) (first : Node) (status : Node → Status)
       → lives x ≡ true → lives i ≡ true

@@ -9,6 +9,7 @@ pub mod Reached
 pub mod RealTime
 pub mod ReferencesFit
 pub mod Sent
+pub mod Unstuck
 pub mod WithLosses
 pub use Rattle.pg_step.specs.PgEnds
 pub use Rattle.pg_step.specs.PgExchange

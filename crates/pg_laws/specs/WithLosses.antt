@@ -63,7 +63,7 @@ pub record Thinned (thin whole : List Entry) (among : ℕ → Bool) : Type 0 whe
   pub stay : left_of marked ≡ thin
   pub few : (node : ℕ) → left_out node marked ≤ cond (among node) 1 0
 
--- ---- the three promises
+-- ---- what live nodes have
 
 -- What a node that is not lost has of a group.
 pub record HasThinned (config : Config) (w : LosingFrameWorld) (i : ℕ) (name : Term) : Type 0 where
@@ -91,7 +91,8 @@ FormedAtLosses config events = (before after : List (LosingEvent Action)) (node 
     → LosingLeads (losing_frame_machine config) last_notice (nobody_gone (start_of (losing_frame_machine config))) before w
     → is_place (length config) i ≡ true → formed (nodes_at config i) (w.world.node i).state ≡ true
 
--- All three, of a node that is not lost.
-pub record SurvivesLosses (config : Config) (events : List (LosingEvent Action)) (w : LosingFrameWorld) : Type 0 where
+-- What live nodes have, where every node was formed at the first loss.
+pub record HasTablesPastLosses (config : Config) (events : List (LosingEvent Action)) (w : LosingFrameWorld) : Type 0 where
   pub tables : (i : ℕ) (name : Term) → is_place (length config) i ≡ true → w.gone i ≡ false → HasThinned config w i name
-  pub locks : (i : ℕ) → is_place (length config) i ≡ true → w.gone i ≡ false → NoLockOfLost w i
+  -- and where some node is lost, each is formed
+  pub all_formed : (i p : ℕ) → is_place (length config) i ≡ true → w.gone p ≡ true → formed (nodes_at config i) (w.world.node i).state ≡ true

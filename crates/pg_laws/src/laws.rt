@@ -27,6 +27,7 @@ ghost use Rattle.pg_laws.specs.History.{LockFree, is_formed, history, updates_of
 ghost use Rattle.pg_laws.specs.Fresh.{MakesFresh};
 ghost use Rattle.pg_laws.specs.Quiet.{AllFormed, HasClockRoom, IsQuiet, NoLockHeld, NoneOpen, NothingUnderWay, OnlyTakes};
 ghost use Rattle.pg_laws.specs.Quiet.{OnlyTakesAndRetries, RetryGoes, most_events, most_takes, peer_count};
+ghost use Rattle.pg_laws.specs.Unstuck.{NothingIsStuck};
 ghost use Rattle.pg_laws.specs.Headline.{OneHistory, HoldsAnswered, AppliesHistory, HasTables, HarmsNobody, GoesOn};
 ghost use Rattle.pg_laws.specs.Exclusive.{ExclusiveLocks};
 ghost use Rattle.pg_laws.specs.RealTime.{InRealTime};
@@ -104,8 +105,8 @@ pub fn tables_are_replayed()
         → HasTables config (plain w) }
 {}
 
-/// Locks are exclusive. At each node one reference at most holds the lock of a group, and a grant that is counted is
-/// held at the node that gave it; so two requests for one lock are never granted by the same node at once. While an
+/// Locks are exclusive. A lock has one holder at most at each node, as a function of its name, and a grant that is counted
+/// is held at the node that gave it; so two requests for one lock are never granted by the same node at once. While an
 /// update is under way its command holds the lock of its group at every node, and no other update of that group is
 /// under way.
 pub fn locks_are_exclusive()
@@ -321,4 +322,10 @@ pub fn every_command_can_be_answered()
         → HasClockRoom config w (most_events config (plain w))
         → (more : List (Event Action)) × (v : TimedFrameWorld) × OnlyTakesAndRetries more
         × Leads (frame_machine config) w more v × NoneOpen config (plain v) × IsQuiet config (plain v) }
+{}
+
+/// Nothing is stuck, where no node is lost: all that the six laws before say of one world (`NothingIsStuck`).
+pub fn nothing_is_stuck()
+    ensures { (config : Config) (w : TimedFrameWorld) (events : List (Event Action))
+        → IsDistinct same_atom (names_of config) → Reaches config events w → NothingIsStuck config w }
 {}

@@ -19,7 +19,7 @@ pub use laws::{
     a_retry_is_answered, a_world_comes_to_rest, changes_stand_once, ended_are_in_no_group,
     ended_processes_were_finished, ends_at_home, every_command_can_be_answered, exchanges_once,
     first_packets_were_welcome, history_grows, history_is_applied, locks_are_exclusive,
-    no_loss_is_seen, nobody_is_harmed, one_history, one_history_without_losses,
+    no_loss_is_seen, nobody_is_harmed, nothing_is_stuck, one_history, one_history_without_losses,
     processes_are_fresh, references_have_one_use, references_within_the_clock, tables_are_replayed,
     unformed_hold_no_lock, updates_go_by_real_time, what_is_sent,
 };

@@ -3,14 +3,14 @@
 use Rattle.std.proofs.Common.{◌≡◌, ℕ, List, [], ◌∷◌, ◌++◌, Some, refl, ap, sym, ◌∙◌, subst}
 use Rattle.pg_laws.specs.PgMessageTypes.declared.message.Message.{Message}
 use Rattle.pg_laws.specs.PgStep.Machines.Happened.{Happened}
-use Rattle.pg_laws.specs.PgStep.Machines.Losing.{Noticed, Sent, LosingEvent, mapped_turn, nobody_gone}
+use Rattle.pg_laws.specs.PgStep.Machines.Losing.{Noticed, Sent, LosingEvent, LosingLeads, mapped_turn, nobody_gone}
 use Rattle.pg_laws.specs.PgStep.Machines.Machine.{Input, Turn, Event, Take, Do, Taken, Own, first_from}
 use Rattle.pg_laws.specs.PgStep.Machines.Machine.{input_of, node_of, perform, start_of, without_input}
 use Rattle.pg_laws.specs.PgStep.Machines.Places.{set_at}
 use Rattle.pg_laws.proofs.PgStep.Machines.Options.{some_is}
 use Rattle.pg_laws.proofs.PgStep.Machines.Plain.{plain_start}
 use Rattle.pg_laws.specs.PgStep.Config.{Config, name_at}
-use Rattle.pg_laws.specs.PgStep.FrameMachine.{FrameWorld, losing_frame_machine, losing_machine_of, machine_of, node_step}
+use Rattle.pg_laws.specs.PgStep.FrameMachine.{FrameWorld, last_notice, losing_frame_machine, losing_machine_of, machine_of, node_step}
 use Rattle.pg_laws.specs.PgStep.Losses.{see_loss}
 use Rattle.pg_laws.specs.PgStep.LossLaws.{LosingFrameWorld}
 use Rattle.pg_laws.specs.PgStep.State.{State}
@@ -108,3 +108,7 @@ module _ (config : Config) (Q : FrameWorld → Type 0) (kept : IsKept config Q) 
   pub carried_past : (es : List (LosingEvent Action)) (w : LosingFrameWorld) → LosingReaches config es w → Q (start_of (machine_of config)) → Q (heard (bare w))
   carried_past es w l first = kept_past config (λ u. Q (heard u)) carried es (nobody_gone (start_of (losing_frame_machine config))) w l
       (subst (λ u. Q (heard (nobody_gone u))) (sym (plain_start (losing_machine_of config) CLOCK_LIMIT)) (kept.same (start_of (machine_of config)) (heard (nobody_gone (start_of (losing_machine_of config)))) refl refl first))
+
+  -- and of each world to which events lead from one of which it holds
+  pub carried_on : (es : List (LosingEvent Action)) (w v : LosingFrameWorld) → LosingLeads (losing_frame_machine config) last_notice w es v → Q (heard (bare w)) → Q (heard (bare v))
+  carried_on es w v l was = kept_past config (λ u. Q (heard u)) carried es w v l was

@@ -8,6 +8,7 @@ pub mod Formation
 pub mod Homes
 pub mod Lasts
 pub mod Lossy
+pub mod Onward
 pub mod OwnEnds
 pub mod Parting
 pub mod Readiness

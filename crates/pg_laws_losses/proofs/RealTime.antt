@@ -18,7 +18,7 @@ use Rattle.pg_laws_losses.proofs.Lasts.{history_later, reported_on}
 use Rattle.pg_laws_losses.proofs.Standing.{answered_stand}
 
 module _ (config : Config) where
-  abbrev Goes : LosingFrameWorld → List (LosingEvent Action) → LosingFrameWorld → Type 0
+  abbrev pub Goes : LosingFrameWorld → List (LosingEvent Action) → LosingFrameWorld → Type 0
   Goes w es v = LosingLeads (losing_frame_machine config) last_notice w es v
 
   -- events from one world, of which the first lead to another
@@ -26,16 +26,19 @@ module _ (config : Config) where
   later [] last w m v l k = subst (λ u. Goes u last v) k l
   later (e ∷ first) last w m v l k = later first last k.0 m v (subst (λ u. Goes u (first ++ last) v) (some_is (sym l.1 ∙ k.1)) l.2) k.2
 
+  -- the last of some events lead on from where the first had led
+  pub onward : (events first last : List (LosingEvent Action)) (w m : LosingFrameWorld) → LosingReaches config events w → events ≡ first ++ last → LosingReaches config first m → Goes m last w
+  onward events first last w m reaches is reached =
+      later first last (nobody_gone (start_of (losing_frame_machine config))) m w (subst (λ es. LosingReaches config es w) is reaches) reached
+
   pub grown : (w m : LosingFrameWorld) (events first last : List (LosingEvent Action)) → LosingReaches config events w → events ≡ first ++ last → LosingReaches config first m
       → (name : Term) → (more : List Entry) × (history name w.world.reported ≡ history name m.world.reported ++ more)
   grown w m events first last reaches is reached name =
-      let start = nobody_gone (start_of (losing_frame_machine config)) in
-      history_later config m w last (later first last start m w (subst (λ es. LosingReaches config es w) is reaches) reached) name
+      history_later config m w last (onward events first last w m reaches is reached) name
 
   pub order : (w m : LosingFrameWorld) (events first last : List (LosingEvent Action)) → LosingReaches config events w → events ≡ first ++ last → LosingReaches config first m → StandsBefore (steps_of first) m.world.reported w.world.reported
   order w m events first last reaches is reached =
-      let start = nobody_gone (start_of (losing_frame_machine config)) in
-      let more = reported_on config last m w (later first last start m w (subst (λ es. LosingReaches config es w) is reaches) reached) in
+      let more = reported_on config last m w (onward events first last w m reaches is reached) in
       stands_before (steps_of first) m.world.reported more.0 w.world.reported more.1 none (λ i op. answered_stand config first m reached i op)
     where
       not_both : (e : Entry) (c : Command) → command_at e.node e.op (steps_of first) ≡ None → command_at e.node e.op (steps_of first) ≡ Some c → ⊥

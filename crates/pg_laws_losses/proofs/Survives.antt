@@ -16,7 +16,7 @@ use Rattle.pg_laws.specs.PgStep.Step.{Action}
 use Rattle.pg_laws.specs.PgStep.Turns.{Report}
 use Rattle.pg_laws.specs.History.{base, replay}
 use Rattle.pg_laws.specs.Exclusive.{ExclusiveLocks}
-use Rattle.pg_laws.specs.WithLosses.{FormedAtLosses, HasThinned, SurvivesLosses}
+use Rattle.pg_laws.specs.WithLosses.{FormedAtLosses, HasThinned, HasTablesPastLosses}
 use Rattle.pg_laws.proofs.places.Exclusive.{are_exclusive}
 use Rattle.pg_laws.proofs.places.Shown.{IsHere}
 use Rattle.pg_laws_losses.specs.Reached.{LosingReaches, lives_in, nodes_of}
@@ -24,10 +24,9 @@ use Rattle.pg_laws_losses.specs.Thinned.{AppliesThinned}
 use Rattle.pg_laws_losses.proofs.Bridge.{live_at}
 use Rattle.pg_laws_losses.proofs.Bridges.{Bridged, bridged}
 use Rattle.pg_laws_losses.proofs.Lossy.{bare}
-use Rattle.pg_laws_losses.proofs.Tabled.{all_ended, table_of}
+use Rattle.pg_laws_losses.proofs.Tabled.{all_ended, formed_past, table_of}
 use Rattle.pg_laws_losses.proofs.Thinned.{applies}
 use Rattle.pg_laws_losses.proofs.Unharmed.{not_refused, posted}
-use Rattle.pg_laws_losses.proofs.Unheld.{no_lock_of_lost}
 
 module _ (config : Config) (apart : IsDistinct same_atom (names_of config)) (es : List (LosingEvent Action)) (w : LosingFrameWorld) (l : LosingReaches config es w) where
   bridge : Bridged config apart (bare w)
@@ -71,8 +70,8 @@ module _ (config : Config) (apart : IsDistinct same_atom (names_of config)) (es 
       answered = a.answered;
     }
 
-    pub survives : SurvivesLosses config es w
+    pub survives : HasTablesPastLosses config es w
     survives = record {
       tables = λ i name here lives. has_thinned i name here (applies_thinned i name here lives);
-      locks = λ i here lives. no_lock_of_lost config apart es w i l here;
+      all_formed = λ i p here gone. formed_past config apart es w l at_losses i p here gone;
     }

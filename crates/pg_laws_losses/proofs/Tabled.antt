@@ -42,7 +42,7 @@ use Rattle.pg_laws.proofs.tables.Applied.{Merges, StepTables, Tabling, step_tabl
 use Rattle.pg_laws.proofs.tables.Formed.{all_merged, knows_all}
 use Rattle.pg_laws.proofs.tables.Tabled.{TableIs, tables_step}
 use Rattle.pg_laws_losses.specs.Reached.{LosingReaches}
-use Rattle.pg_laws_losses.proofs.Lasts.{event_stays, made_stays}
+use Rattle.pg_laws_losses.proofs.Lasts.{event_stays, formed_later, made_stays}
 use Rattle.pg_laws_losses.proofs.Lossy.{Lossy, bare, Passed, Went, Died, kept_past, Makes, Steps, Sees, makes, noted}
 
 -- ---- the processes of a lost node have ended
@@ -250,3 +250,17 @@ module _ (config : Config) (apart : IsDistinct same_atom (names_of config)) wher
           let all_formed : (j : ℕ) → IsHere config j → formed (nodes_at config j) (parts.0.world.node j).state ≡ true = λ j there. at_losses (all_steps some.0) some.3 some.1 some.2 parts.0 j some.4 parts.1 there in
           (kept_past config (Tabled config) (event_tabled config) (Lose some.1 some.2 ∷ some.3) parts.0 w parts.2
           (record { full = all_formed; tables = λ j other there. steps_tabled some.0 parts.0 parts.1 j other there (all_formed j there) })).tables i name here
+
+  -- and where some node is lost, all are formed
+  pub formed_past : (es : List (LosingEvent Action)) (w : LosingFrameWorld) → LosingReaches config es w → FormedAtLosses config es → (i p : ℕ) → IsHere config i → w.gone p ≡ true
+      → formed (nodes_at config i) (w.world.node i).state ≡ true
+  formed_past es w l at_losses i p here gone = go (first_loss es)
+    where
+      go : FirstLoss es → formed (nodes_at config i) (w.world.node i).state ≡ true
+      go (inl all) =
+          let run = without_losses config all.0 w (subst (λ xs. LosingReaches config xs w) all.1 l) in
+          let never : true ≡ false = sym gone ∙ ap (λ (u : LosingFrameWorld). u.gone p) run.2 in
+          absurd (cc)
+      go (inr some) =
+          let parts = losing_parts config (all_steps some.0) (Lose some.1 some.2 ∷ some.3) (nobody_gone (start_of (losing_frame_machine config))) w (subst (λ xs. LosingReaches config xs w) some.4 l) in
+          formed_later config parts.0 w (Lose some.1 some.2 ∷ some.3) i parts.2 (at_losses (all_steps some.0) some.3 some.1 some.2 parts.0 i some.4 parts.1 here)

@@ -1,4 +1,5 @@
 pub mod Agreeing
+pub mod Onward
 pub mod Quiet
 pub mod Reached
 pub mod Readiness

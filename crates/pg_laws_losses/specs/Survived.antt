@@ -26,7 +26,7 @@ use Rattle.pg_laws.specs.History.{Entry, IsAnsweredOk, answered_count, answers_b
 use Rattle.pg_laws.specs.History.{command_at, entries, has_answer, history, ok_means_lock, times}
 use Rattle.pg_laws.specs.Exclusive.{ExclusiveLocks}
 use Rattle.pg_laws.specs.RealTime.{StandsBefore}
-use Rattle.pg_laws.specs.WithLosses.{FormedAtLosses, NoLockOfLost, NonePendingLive, SurvivesLosses}
+use Rattle.pg_laws.specs.WithLosses.{FormedAtLosses, NoLockOfLost, NonePendingLive, HasTablesPastLosses}
 use Rattle.pg_laws_losses.specs.Agreeing.{EndedHome, SawAll}
 use Rattle.pg_laws_losses.specs.Reached.{lives_in, LosingReaches, nodes_of, steps_of}
 use Rattle.pg_laws_losses.specs.Thinned.{AppliesThinned}
@@ -85,9 +85,9 @@ pub record HarmsNobodyLive (config : Config) (w : LosingFrameWorld) : Type 0 whe
       → (losing_machine_of config).step i ((plain w.world).node i) (Taken p packet) ≢ None
 
 -- What a run has kept, of the world that it led to and its events.
-pub record KeptPastLosses (config : Config) (events : List (LosingEvent Action)) (w : LosingFrameWorld) : Type 0 where
-  -- the three promises, where every node was formed at the first loss
-  pub survives : FormedAtLosses config events → SurvivesLosses config events w
+pub record OneHistoryPastLosses (config : Config) (events : List (LosingEvent Action)) (w : LosingFrameWorld) : Type 0 where
+  -- what live nodes have, where every node was formed at the first loss
+  pub survives : FormedAtLosses config events → HasTablesPastLosses config events w
   -- what each node that is not lost has applied of a group, whoever was formed when
   pub applies : (i : ℕ) (name : Term) → is_place (length config) i ≡ true → w.gone i ≡ false → AppliesThinned config w i name
   -- no lock is held, at any node, for one whose loss it saw

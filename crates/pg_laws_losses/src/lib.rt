@@ -1,14 +1,15 @@
 //! What runs keep in which nodes are lost: what the live ones agree on, what becomes of commands that a loss has left ready, and what
 //! retries come to.
 //!
-//! There is no code: `losses_are_survived()` is the law of what survives, and `each_world_past_losses()` joins all laws of one world. Begin
-//! with `specs/Survived.antt`, then `src/survival.rt`; `src/left.rt`, `src/ready.rt` and `src/retried.rt` each stand on those before.
+//! There is no code: `one_history_past_losses()` is the law of histories, answers and locks, and `each_world_past_losses()` joins all laws of one
+//! world. Begin with `specs/Survived.antt`, then `src/survival.rt`; `src/left.rt`, `src/ready.rt` and `src/retried.rt` each stand on those before.
 #![tactic(auto)]
 
 mod lasting;
 mod left;
 mod ready;
 mod retried;
+mod steps;
 mod survival;
 mod world;
 
@@ -25,7 +26,7 @@ pub use left::{
 };
 pub use pg_laws::{
     ended_processes_were_finished, first_packets_were_welcome, no_loss_is_seen, nobody_is_harmed,
-    one_history,
+    nothing_is_stuck, one_history,
 };
 pub use ready::{
     a_retry_leaves_the_others, a_retry_of_a_ready_command_goes_on,
@@ -38,11 +39,16 @@ pub use retried::{
     every_command_can_be_answered_past_losses, every_lock_can_be_freed_past_losses,
     retries_are_answered_where_none_is_ready,
 };
+pub use steps::{
+    commands_are_refused_exactly_past_losses, processes_are_fresh_past_losses,
+    queries_read_the_table_past_losses, references_have_one_use_past_losses,
+    updates_are_applied_once_past_losses,
+};
 pub use survival::{
     a_quiet_node_is_formed_past_losses, ended_processes_were_made_past_losses,
     ends_at_home_past_losses, histories_are_thinned, live_nodes_agree,
-    locks_are_exclusive_past_losses, losses_are_survived, no_lock_of_the_lost,
-    no_packet_is_refused, no_reply_is_odd, open_commands_wait_for_retries_past_losses,
+    locks_are_exclusive_past_losses, no_lock_of_the_lost, no_packet_is_refused, no_reply_is_odd,
+    open_commands_wait_for_retries_past_losses, tables_are_replayed_past_losses,
     takes_end_past_losses, unanswered_changes_are_last,
 };
-pub use world::each_world_keeps_past_losses;
+pub use world::one_history_past_losses;

@@ -20,18 +20,18 @@ ghost use Rattle.pg_laws.specs.PgStep.Turns.{Report};
 ghost use Rattle.pg_laws.specs.History.{Entry, answered_count, applied_by, history};
 ghost use Rattle.pg_laws.specs.Exclusive.{ExclusiveLocks};
 ghost use Rattle.pg_laws.specs.Quiet.{OnlyTakes};
-ghost use Rattle.pg_laws.specs.WithLosses.{FormedAtLosses, NoLockOfLost, NonePendingLive, SurvivesLosses};
+ghost use Rattle.pg_laws.specs.WithLosses.{FormedAtLosses, NoLockOfLost, NonePendingLive, HasTablesPastLosses};
 ghost use Rattle.pg_laws_losses.specs.Agreeing.{EndedHome, SawAll};
 ghost use Rattle.pg_laws_losses.specs.Quiet.{IsQuietLive, WaitsForRetries, most_takes_live};
 ghost use Rattle.pg_laws_losses.specs.Reached.{LosingReaches, lives_in, nodes_of};
 ghost use Rattle.pg_laws_losses.specs.Thinned.{AppliesThinned};
 
-/// The three promises, of each node that is not lost, where every node was formed at the first loss: its table is that of a
-/// thinned history of each group, no answered update is left out of it, and no lock is held for a node whose loss it saw.
-pub fn losses_are_survived()
+/// The table of each node that is not lost, where every node was formed at the first loss, is that of a thinned history of
+/// each group, and no answered update is left out of it. Where some node is lost, each is formed.
+pub fn tables_are_replayed_past_losses()
     ensures { (config : Config) (w : LosingFrameWorld) (events : List (LosingEvent Action))
         → IsDistinct same_atom (names_of config) → LosingReaches config events w
-        → FormedAtLosses config events → SurvivesLosses config events w }
+        → FormedAtLosses config events → HasTablesPastLosses config events w }
 {}
 
 /// What a node that is not lost has applied of a group, whoever was formed when: the history, or all of it but its last entry,

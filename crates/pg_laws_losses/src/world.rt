@@ -6,7 +6,7 @@ ghost use Rattle.pg_laws.specs.PgStep.Config.{Config, names_of};
 ghost use Rattle.pg_laws.specs.PgStep.LossLaws.{LosingFrameWorld};
 ghost use Rattle.pg_laws.specs.PgStep.Step.{Action};
 ghost use Rattle.pg_laws_losses.specs.Reached.{LosingReaches};
-ghost use Rattle.pg_laws_losses.specs.Survived.{KeptPastLosses};
+ghost use Rattle.pg_laws_losses.specs.Survived.{OneHistoryPastLosses};
 
 use crate::lasting::{
     changes_are_answered_past_losses, changes_stand_once_past_losses,
@@ -15,17 +15,17 @@ use crate::lasting::{
 };
 use crate::survival::{
     ended_processes_were_made_past_losses, ends_at_home_past_losses, histories_are_thinned,
-    live_nodes_agree, locks_are_exclusive_past_losses, losses_are_survived, no_lock_of_the_lost,
-    no_packet_is_refused, no_reply_is_odd, unanswered_changes_are_last,
+    live_nodes_agree, locks_are_exclusive_past_losses, no_lock_of_the_lost, no_packet_is_refused,
+    no_reply_is_odd, tables_are_replayed_past_losses, unanswered_changes_are_last,
 };
 
 /// All that the laws say of one world, whoever is lost and whenever.
-pub fn each_world_keeps_past_losses()
+pub fn one_history_past_losses()
     ensures { (config : Config) (w : LosingFrameWorld) (events : List (LosingEvent Action))
         → IsDistinct same_atom (names_of config) → LosingReaches config events w
-        → KeptPastLosses config events w }
+        → OneHistoryPastLosses config events w }
 {
-    losses_are_survived();
+    tables_are_replayed_past_losses();
     histories_are_thinned();
     no_lock_of_the_lost();
     histories_grow_past_losses();

@@ -24,6 +24,7 @@ use Rattle.pg_node_state.specs.PgStep.State.{State, formed as formed_by}
 use Rattle.pg_node_state.specs.PgStep.Step.{Action}
 use Rattle.pg_node_state.proofs.PgStep.Unnoticed.{without_losses}
 use Rattle.pg_laws_losses.proofs.PgLaws.places.Clauses.{one_history}
+use Rattle.pg_laws_losses.proofs.PgLaws.quiet.Unstuck.{unstuck}
 use Rattle.pg_laws_losses.specs.Reached.{LosingReaches, steps_of}
 use Rattle.pg_laws_losses.specs.Retrying.Survived.{LossesSurvived}
 use Rattle.pg_laws_losses.specs.PgLaws.History.{Entry, LockFree, NonePending, history, applied_count, is_formed}
@@ -71,7 +72,13 @@ pub headline : (config : Config) (events : List (LosingEvent Action)) (u : Losin
 headline config events u apart reached none =
     let steps = none_lost config events (nobody_gone (start_of (losing_frame_machine config))) u reached none in
     let run = without_losses config (steps_of events) u (subst (λ (es : List (LosingEvent Action)). LosingReaches config es u) steps reached) in
-    record { w = run.0; is = run.2; history = one_history config apart (steps_of events) run.0 run.1 }
+    record {
+      w = run.0;
+      is = run.2;
+      reached = run.1;
+      history = one_history config apart (steps_of events) run.0 run.1;
+      unstuck = unstuck config apart (steps_of events) run.0 run.1;
+    }
 
 -- where nobody is gone no node has seen a loss
 pub none_seen : (config : Config) (events : List (LosingEvent Action)) (u : LosingFrameWorld) → LosingReaches config events u → ((x : ℕ) → u.gone x ≡ false) → (k : ℕ) → NoneLost (u.world.node k).state

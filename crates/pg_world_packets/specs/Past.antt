@@ -10,6 +10,8 @@ use Rattle.pg_node_state.specs.PgStep.Step.{Action}
 use Rattle.pg_node_state.specs.PgStep.Machines.Places.{is_pair}
 use Rattle.pg_laws_losses.specs.PgLaws.Headline.{OneHistory}
 use Rattle.pg_laws_losses.specs.PgLaws.History.{Entry}
+use Rattle.pg_laws_losses.specs.PgLaws.Reached.{Reaches}
+use Rattle.pg_laws_losses.specs.PgLaws.Unstuck.{NothingIsStuck}
 use Rattle.pg_laws_losses.specs.PgLaws.WithLosses.{FormedAtLosses}
 use Rattle.pg_laws_losses.specs.Reached.{LosingReaches, steps_of}
 use Rattle.pg_laws_losses.specs.Remains.Missed.{missed, missed_of}
@@ -29,11 +31,13 @@ use Rattle.pg_world_packets.specs.Worlds.{TimedFrameWorld}
 -- ---- what led to a world
 
 -- The headline, of a world with losses in which no node is lost, and of the events that led to it; w: the same world, of nodes that
--- know of no loss.
+-- know of no loss. Nothing is stuck there.
 pub record HasHeadline (config : Config) (events : List (LosingEvent Action)) (u : LosingFrameWorld) : Type 0 where
   pub w : TimedFrameWorld
   pub is : u ≡ nobody_gone (mapped sent_packet w)
+  pub reached : Reaches config (steps_of events) w
   pub history : OneHistory config (steps_of events) (plain w)
+  pub unstuck : NothingIsStuck config w
 
 -- Events led from the start of a configuration, with the groups of each node in order, to a world with losses that is shown, and this
 -- holds of them. Shown: the worlds of a configuration that the code's world shows.

@@ -190,7 +190,7 @@ next_number own from made pids is count =
       number ∙ ap (λ n. from + n) (sym more),
     )
 
-none_yet : (own : Node) (from : ℕ) → [] ≡ numbered_after own from 0
+pub none_yet : (own : Node) (from : ℕ) → [] ≡ numbered_after own from 0
 unfolding numbered_after
 none_yet own from = refl
 
@@ -198,7 +198,7 @@ none_yet own from = refl
 
 module _ (config : Config) (i : ℕ) where
   -- what is said of the numbers, of a state and of what was made
-  abbrev Say : State → List Pid → Type 0
+  abbrev pub Say : State → List Pid → Type 0
   Say s pids = (pids ≡ numbered_after (name_at config i) (made_at config i) (length pids)) × (s.processes ≡ made_at config i + length pids)
 
   say_after : (s : State) (pids : List Pid) (turn : Turn State Message Report) → Gives (name_at config i) s turn → Say s pids → Say turn.state (pids ++ given_by turn.reported.gave)
@@ -207,7 +207,7 @@ module _ (config : Config) (i : ℕ) where
       let next = next_number (name_at config i) (made_at config i) s.processes pids said.0 said.1 in
       subst (Say turn.state) (sym (ap (λ ps. pids ++ ps) new.1)) (next.0, new.0 ∙ next.1)
 
-  event_says : (w v : FrameWorld) (e : Event Action) → Happened (machine_of config) w e v → Say (w.node i) (made_by i w.reported) → Say (v.node i) (made_by i v.reported)
+  pub event_says : (w v : FrameWorld) (e : Event Action) → Happened (machine_of config) w e v → Say (w.node i) (made_by i w.reported) → Say (v.node i) (made_by i v.reported)
   event_says w v e h said = go (cases_eq i (node_of e))
     where
       reported : made_by i v.reported ≡ made_by i w.reported ++ (cond (nat_eq (node_of e) i) (given_by h.turn.reported.gave) [] ++ [])

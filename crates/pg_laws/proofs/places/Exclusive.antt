@@ -19,7 +19,7 @@ use Rattle.pg_laws.proofs.references.Keys.{atoms}
 use Rattle.pg_laws.proofs.references.Fitting.{is_owning}
 use Rattle.pg_laws.proofs.locks.Named.{World}
 use Rattle.pg_laws.proofs.locks.Kept.{Inv, Live, near, near_live}
-use Rattle.pg_laws.proofs.locks.Unique.{one_ref, owner_holds, yes_holds, one_update}
+use Rattle.pg_laws.proofs.locks.Unique.{owner_holds, yes_holds, one_update}
 use Rattle.pg_laws.proofs.places.Shown.{IsHere}
 
 -- the nodes that live, by their places, and a world that has them by their names
@@ -42,11 +42,6 @@ module _ (config : Config) (apart : IsDistinct same_atom (names_of config)) (liv
   one_place : (i j : ℕ) → lives i ≡ true → lives j ≡ true → name_at config i ≡ name_at config j → i ≡ j
   one_place i j here there e = same_place config apart i j (shown.here i here) (shown.here j there) (ap (same_atom (name_at config i)) (sym e) ∙ atoms.refl (name_at config i))
 
-  one_holder : (x i j c d : ℕ) (name : Term) → lives i ≡ true → lives j ≡ true → Holds config node x i c name → Holds config node x j d name → (i ≡ j) × (c ≡ d)
-  one_holder x i j c d name here there e f =
-      let one = one_ref (name_at config i) (name_at config j) c d ((node x).locks name) e f in
-      (one_place i j here there one.0, one.1)
-
   granted : (x i c : ℕ) (op : OpId) (update : Update) (first : Node) (status : Node → Status) → lives x ≡ true → lives i ≡ true → (node i).uses c ≡ Locking op update first status → status (name_at config x) ≡ Yes → Holds config node x i c (name_of update)
   granted x i c op update first status there here is grants =
       held_there x i c (name_of update) there (yes_holds w shown.inv (name_at config i) c op update first status (name_at config x) (is_near i x here there) (uses_are i c here ∙ is) grants)
@@ -64,4 +59,4 @@ module _ (config : Config) (apart : IsDistinct same_atom (names_of config)) (liv
       (one_place i j here there both.0, both.1)
 
   pub are_exclusive : ExclusiveLocks config lives node
-  are_exclusive = record { one_holder = one_holder; granted = granted; held = held; one_update = one }
+  are_exclusive = record { granted = granted; held = held; one_update = one }

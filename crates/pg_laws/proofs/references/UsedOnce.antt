@@ -33,7 +33,7 @@ use Rattle.pg_laws.proofs.references.Fitting.{same_fitting}
 
 -- ---- uses
 
-follows_same : (x : Use) → UseFollows x x
+pub follows_same : (x : Use) → UseFollows x x
 follows_same Fresh = tt
 follows_same (Locking op u lead st) = (refl, refl)
 follows_same (Owning name n) = (refl, refl)
@@ -58,7 +58,7 @@ spent_stays (Owning name n) q = absurd q
 spent_stays (Updating op u c replied) q = absurd q
 spent_stays Spent q = refl
 
-follows_then : (x y z : Use) → UseFollows x y → UseFollows y z → UseFollows x z
+pub follows_then : (x y z : Use) → UseFollows x y → UseFollows y z → UseFollows x z
 follows_then Fresh y z p q = tt
 follows_then (Locking o1 u1 l1 s1) Fresh z p q = absurd p
 follows_then (Locking o1 u1 l1 s1) (Locking o2 u2 l2 s2) Fresh p q = absurd q
@@ -96,7 +96,7 @@ follows_then Spent y z p q = subst (λ x. UseFollows x z) (spent_stays y p) q
 -- ---- single turns
 
 -- each use follows
-abbrev AllFollow : State → State → Type 0
+abbrev pub AllFollow : State → State → Type 0
 AllFollow s t = (c : ℕ) → UseFollows (s.uses c) (t.uses c)
 
 abbrev Goes : State → NodeTurn → Type 0
@@ -205,10 +205,10 @@ step_follows config i s (Own action) turn is fitting =
     (acted_so m NewOp AnyUpdate Goes Goes (follows_singly m) (nodes_at config i) (λ pid u _ _ _. same_state u _ refl refl refl refl) (ports_at config i) action s t.0 (new_op s fitting) (λ port c u _ _. tt) t.1 fitting)
 
 module _ (config : Config) (first : FrameWorld) where
-  abbrev HasGone : FrameWorld → Type 0
+  abbrev pub HasGone : FrameWorld → Type 0
   HasGone w = (i : ℕ) → ReferencesFit (w.node i) × AllFollow (first.node i) (w.node i)
 
-  event_follows : (w v : FrameWorld) (e : Event Action) → Happened (machine_of config) w e v → HasGone w → HasGone v
+  pub event_follows : (w v : FrameWorld) (e : Event Action) → Happened (machine_of config) w e v → HasGone w → HasGone v
   event_follows w v e h gone j =
       state_after (machine_of config) w v e h (λ s. ReferencesFit s × AllFollow (first.node j) s) j
       (λ same. subst (λ x. ReferencesFit h.turn.state × AllFollow (first.node x) h.turn.state) (sym same)

@@ -39,7 +39,7 @@ use Rattle.pg_laws_losses.specs.Reached.{LosingReaches}
 use Rattle.pg_laws_losses.proofs.Survives.{packets_heard}
 use Rattle.pg_laws_losses.proofs.Takes.{takes_end}
 use Rattle.pg_laws_losses.proofs.Remains.Passing.{Leads, Leaves, leads_more}
-use Rattle.pg_laws_losses.specs.Readiness.Ready.{HasRoomLive}
+use Rattle.pg_laws_losses.specs.Readiness.Ready.{AllHaveRoom}
 use Rattle.pg_laws_losses.proofs.Readiness.Silence.{all_silent}
 
 abbrev Notice : Type 0
@@ -143,7 +143,7 @@ on_time config es w l =
 -- an event takes one from the room
 module _ (config : Config) (w v : LosingFrameWorld) (d : Event Action)
     (h : Happened (losing_frame_machine config) w.world d v.world) (k : ℕ) (times : OnTime w)
-    (room : HasRoomLive config w (suc k)) where
+    (room : AllHaveRoom config w (suc k)) where
   next_within : IsHere config (node_of d) → (input : Input (Stamped (Noticed Message)) Action) → h.input ≡ input
       → next_clock (w.world.node (node_of d)).clock input + k ≤ CLOCK_LIMIT
   next_within here (Own action) is = let own : (w.world.node (node_of d)).clock + suc k ≤ CLOCK_LIMIT =
@@ -159,7 +159,7 @@ module _ (config : Config) (w v : LosingFrameWorld) (d : Event Action)
       let peer : (w.world.node p).clock + suc k ≤ CLOCK_LIMIT = room p there in
       omega (arith, stamp, own, peer)
 
-  pub room_left : HasRoomLive config v k
+  pub room_left : AllHaveRoom config v k
   room_left i here = go (cases_eq i (node_of d))
     where
       go : (i ≡ node_of d) ⊎ (i ≡ node_of d → ⊥) → (v.world.node i).clock + k ≤ CLOCK_LIMIT
@@ -242,7 +242,7 @@ module _ (config : Config) (apart : IsDistinct same_atom (names_of config)) wher
 
   -- where all clocks have
   pub next_is_taken : (es : List (LosingEvent Action)) (w : LosingFrameWorld) (l : LosingReaches config es w)
-      → HasRoomLive config w 1 → (x y : ℕ) (packet : Notice) (rest : List Notice)
+      → AllHaveRoom config w 1 → (x y : ℕ) (packet : Notice) (rest : List Notice)
       → is_pair (length config) x y ≡ true → w.gone y ≡ false → w.world.wire x y ≡ packet ∷ rest
       → (v : LosingFrameWorld) × Leaves config w (Step (Take y x)) v
   next_is_taken es w l room x y packet rest pair lives is =
@@ -317,7 +317,7 @@ module _ (config : Config) (apart : IsDistinct same_atom (names_of config)) wher
     -- so many takes can follow at most, and one that is next would be one more
     rests_within : (k : ℕ) (ts : List (Event Action)) (done : List (LosingEvent Action)) (u : LosingFrameWorld)
         → OnlyTakes ts → Leads config w (all_steps ts) u → LosingReaches config done u
-        → k + length ts ≡ most_takes_live config w + 1 → HasRoomLive config u k → Next u ⊎ IsQuietLive config u
+        → k + length ts ≡ most_takes_live config w + 1 → AllHaveRoom config u k → Next u ⊎ IsQuietLive config u
         → Rests w
     rests_within k ts done u only leads reached count room (inr quiet) =
         record { takes = ts; world = u; only = only; leads = leads; quiet = quiet }
@@ -338,6 +338,6 @@ module _ (config : Config) (apart : IsDistinct same_atom (names_of config)) wher
         (leads_more config done (nobody_gone (start_of (losing_frame_machine config))) u one.0 (Step d) reached one.1)
         (omega (arith, many, count)) left (next_or_quiet one.0)
 
-    pub comes_to_rest : HasRoomLive config w (most_takes_live config w + 1) → Rests w
+    pub comes_to_rest : AllHaveRoom config w (most_takes_live config w + 1) → Rests w
     comes_to_rest room =
         rests_within (most_takes_live config w + 1) [] es w tt refl l (omega arith) room (next_or_quiet w)

@@ -27,7 +27,7 @@ use Rattle.pg_laws_losses.specs.Reached.{LosingReaches}
 use Rattle.pg_laws_losses.proofs.Bridge.{not_true}
 use Rattle.pg_laws_losses.proofs.Counting.{all_count}
 use Rattle.pg_laws_losses.proofs.Remains.Passing.{Leads, Leaves, leads_more}
-use Rattle.pg_laws_losses.specs.Readiness.Ready.{EachIsRetried, HasRoomLive, LossesSeen, NoneReadyLive, OnlyReady, OnlyRetries}
+use Rattle.pg_laws_losses.specs.Readiness.Ready.{EachIsRetried, AllHaveRoom, LossesSeen, NoneReadyLive, OnlyReady, OnlyRetries}
 use Rattle.pg_laws_losses.specs.Readiness.Ready.{is_ready_at, is_retried}
 use Rattle.pg_laws_losses.proofs.Readiness.Going.{can_retry, ready_waits}
 use Rattle.pg_laws_losses.proofs.Readiness.Resting.{more_steps, on_time, room_left, went}
@@ -312,7 +312,7 @@ module _ (config : Config) (apart : IsDistinct same_atom (names_of config)) (es 
     pub each : EachIsRetried config w retries
     pub were : OnlyReady config w retries
     pub none : NoneReadyLive config world
-    pub left : HasRoomLive config world room
+    pub left : AllHaveRoom config world room
 
   -- and what each retry of a ready command keeps is kept
   module _ (room : ℕ) (Q : LosingFrameWorld → Type 0)
@@ -355,7 +355,7 @@ module _ (config : Config) (apart : IsDistinct same_atom (names_of config)) (es 
     gone_as ts done u so = gone_later config apart ts w u so.leads
 
     retried_within : (k : ℕ) (ts : List (Event Action)) (done : List (LosingEvent Action)) (u : LosingFrameWorld)
-        → (so : Sofar ts done u) → ready_many u ≤ k → HasRoomLive config u (k + room)
+        → (so : Sofar ts done u) → ready_many u ≤ k → AllHaveRoom config u (k + room)
         → Found u ⊎ ((i : ℕ) (op : OpId) → IsHere config i → w.gone i ≡ false → is_ready_at config u i op ≡ false)
         → RetriedAll room Q
     retried_within k ts done u so few free (inr none) = record {
@@ -408,7 +408,7 @@ module _ (config : Config) (apart : IsDistinct same_atom (names_of config)) (es 
         (λ i here. let all : (u.world.node i).clock + (suc k + room) ≤ CLOCK_LIMIT = free i here in omega (arith, all)))
         (next_ready v (since_w (ts ++ d ∷ []) (done ++ Step d ∷ []) v later))
 
-    pub retried_all : HasRoomLive config w (live_open config w + room) → Q w → RetriedAll room Q
+    pub retried_all : AllHaveRoom config w (live_open config w + room) → Q w → RetriedAll room Q
     retried_all free first =
         let now : Sofar [] es w = record { kept = first; still = λ i op ready _. ready; were = λ i op tried. absurd (cc tried); only = tt; leads = refl; reached = l; seen_there = seen } in
         retried_within (live_open config w) [] es w now few_ready free (next_ready w (since_w [] es w now))

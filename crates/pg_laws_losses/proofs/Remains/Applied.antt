@@ -19,7 +19,7 @@ use Rattle.pg_laws.specs.WithLosses.{Marked, all_entries, has_seen, left_of, lef
 use Rattle.pg_laws.proofs.places.Prefixes.{node_here}
 use Rattle.pg_laws.proofs.places.Shown.{IsHere}
 use Rattle.pg_laws_losses.specs.Reached.{LosingReaches}
-use Rattle.pg_laws_losses.specs.Survived.{KeptPastLosses}
+use Rattle.pg_laws_losses.specs.Survived.{OneHistoryPastLosses}
 use Rattle.pg_laws_losses.specs.Thinned.{AppliesThinned}
 use Rattle.pg_laws_losses.proofs.Bridge.{not_true, whole_of}
 use Rattle.pg_laws_losses.proofs.Bridges.{Bridged, bridged}
@@ -86,7 +86,7 @@ stands_twice kept later e =
 
 module _ (law : EachKeeps) (config : Config) (apart : IsDistinct same_atom (names_of config)) (es : List (LosingEvent Action)) (w : LosingFrameWorld) (l : LosingReaches config es w) (name : Term)
     (none : NoneOfLost w name) (x : ℕ) (there : IsHere config x) (left : w.gone x ≡ false) (free : (w.world.node x).state.locks name ≡ None) where
-  all : KeptPastLosses config es w
+  all : OneHistoryPastLosses config es w
   all = law config w es apart l
 
   bridge : Bridged config apart (bare w)

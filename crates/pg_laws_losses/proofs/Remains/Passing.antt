@@ -11,7 +11,7 @@ use Rattle.pg_laws.specs.PgStep.FrameMachine.{last_notice, losing_frame_machine}
 use Rattle.pg_laws.specs.PgStep.LossLaws.{LosingFrameWorld}
 use Rattle.pg_laws.specs.PgStep.Step.{Action}
 use Rattle.pg_laws_losses.specs.Reached.{LosingReaches}
-use Rattle.pg_laws_losses.specs.Survived.{KeptPastLosses}
+use Rattle.pg_laws_losses.specs.Survived.{OneHistoryPastLosses}
 
 -- the event happens in a world, and leaves another
 abbrev pub Leaves : Config → LosingFrameWorld → LosingEvent Action → LosingFrameWorld → Type 0
@@ -44,4 +44,4 @@ module _ (config : Config) (Q : List (LosingEvent Action) → LosingFrameWorld �
 
 -- the law that is cited
 abbrev pub EachKeeps : Type 0
-EachKeeps = (config : Config) (w : LosingFrameWorld) (events : List (LosingEvent Action)) → IsDistinct same_atom (names_of config) → LosingReaches config events w → KeptPastLosses config events w
+EachKeeps = (config : Config) (w : LosingFrameWorld) (events : List (LosingEvent Action)) → IsDistinct same_atom (names_of config) → LosingReaches config events w → OneHistoryPastLosses config events w

@@ -18,7 +18,7 @@ use Rattle.pg_laws.proofs.quiet.Sums.{total_all, total_le}
 use Rattle.pg_laws_losses.specs.Quiet.{IsQuietLive, live_open}
 use Rattle.pg_laws_losses.specs.Reached.{LosingReaches}
 use Rattle.pg_laws_losses.proofs.Remains.Passing.{Leads}
-use Rattle.pg_laws_losses.specs.Readiness.Ready.{HasRoomLive, NoneReadyLive}
+use Rattle.pg_laws_losses.specs.Readiness.Ready.{AllHaveRoom, NoneReadyLive}
 use Rattle.pg_laws_losses.specs.Retrying.Retried.{FreesLocks, NoneOpenLive, RetryGoesPastLosses, live_count, live_peer_count}
 use Rattle.pg_laws_losses.specs.Retrying.Retried.{most_events_live, most_events_to_free}
 use Rattle.pg_laws_losses.proofs.Retrying.Counted.{less_open}
@@ -52,7 +52,7 @@ module _ (config : Config) (apart : IsDistinct same_atom (names_of config)) wher
   -- ---- one command is answered
 
   module _ (es : List (LosingEvent Action)) (w : LosingFrameWorld) (l : LosingReaches config es w) (quiet : IsQuietLive config w)
-      (none : NoneReadyLive config w) (found : OpenOne config w) (room : HasRoomLive config w (1 + 5 * live_peer_count config w)) where
+      (none : NoneReadyLive config w) (found : OpenOne config w) (room : AllHaveRoom config w (1 + 5 * live_peer_count config w)) where
     abbrev i : ℕ
     i = found.place
 
@@ -149,7 +149,7 @@ module _ (config : Config) (apart : IsDistinct same_atom (names_of config)) wher
   }
 
   answered_within : (k peers : ℕ) (es : List (LosingEvent Action)) (w : LosingFrameWorld) → LosingReaches config es w → IsQuietLive config w
-      → NoneReadyLive config w → live_peer_count config w ≡ peers → live_open config w ≤ k → HasRoomLive config w ((1 + 5 * peers) * k)
+      → NoneReadyLive config w → live_peer_count config w ≡ peers → live_open config w ≤ k → AllHaveRoom config w ((1 + 5 * peers) * k)
       → OpenOne config w ⊎ NoneOpenLive config w → AllAnswered w
   answered_within k peers es w l quiet unready count few room (inr none) =
       record { more = []; world = w; only = tt; leads = refl; none_open = none; quiet = quiet }
@@ -157,24 +157,24 @@ module _ (config : Config) (apart : IsDistinct same_atom (names_of config)) wher
       let some : 1 ≤ live_open config w = some_opened config w es l found in absurd (omega (arith, some, few))
   answered_within (suc k) peers es w l quiet unready count few room (inl found) =
       let sum : (1 + 5 * peers) * suc k ≡ (1 + 5 * peers) * k + (1 + 5 * peers) = mul-suc (1 + 5 * peers) k in
-      let free : HasRoomLive config w (1 + 5 * live_peer_count config w) =
+      let free : AllHaveRoom config w (1 + 5 * live_peer_count config w) =
       λ i here. let all : (w.world.node i).clock + (1 + 5 * peers) * suc k ≤ CLOCK_LIMIT = room i here in omega (arith, all, sum, count) in
       let one = one_answered es w l quiet unready found free in
       let less : live_open config one.world < live_open config w = one.fewer in
       let many : length one.more ≡ 1 + 5 * live_peer_count config w = one.many in
       let reached = leads_on config es (all_steps one.more) (nobody_gone (start_of (losing_frame_machine config))) w one.world l one.leads in
-      let left : HasRoomLive config one.world ((1 + 5 * peers) * k) = room_run config one.more es w one.world ((1 + 5 * peers) * k) l one.leads
+      let left : AllHaveRoom config one.world ((1 + 5 * peers) * k) = room_run config one.more es w one.world ((1 + 5 * peers) * k) l one.leads
       (λ i here. let all : (w.world.node i).clock + (1 + 5 * peers) * suc k ≤ CLOCK_LIMIT = room i here in omega (arith, all, sum, many, count)) in
       behind w one.world one.more one.only one.leads
       (answered_within k peers (es ++ all_steps one.more) one.world reached one.rests one.unready (one.same ∙ count) (omega (arith, less, few)) left
       (open_or_none config one.world (es ++ all_steps one.more) reached))
 
   module _ (es : List (LosingEvent Action)) (w : LosingFrameWorld) (l : LosingReaches config es w)
-      (free : HasRoomLive config w (most_events_live config w + 1)) where
+      (free : AllHaveRoom config w (most_events_live config w + 1)) where
     abbrev room : ℕ
     room = (1 + 5 * peer_count config) * live_open config w
 
-    first_room : HasRoomLive config w (most_events_to_free config w + 1 + room)
+    first_room : AllHaveRoom config w (most_events_to_free config w + 1 + room)
     first_room i here = let all : (w.world.node i).clock + (most_events_live config w + 1) ≤ CLOCK_LIMIT = free i here in omega (arith, all)
 
     abbrev freed : FreesLocks config w
@@ -198,7 +198,7 @@ module _ (config : Config) (apart : IsDistinct same_atom (names_of config)) wher
     abbrev peers : ℕ
     peers = live_peer_count config freed.world
 
-    enough : HasRoomLive config freed.world ((1 + 5 * peers) * live_open config w)
+    enough : AllHaveRoom config freed.world ((1 + 5 * peers) * live_open config w)
     enough i here =
         let all : (freed.world.world.node i).clock + room ≤ CLOCK_LIMIT = room_after config apart es w l room first_room i here in
         let few : live_peer_count config freed.world ≤ peer_count config = few_left config freed.world in

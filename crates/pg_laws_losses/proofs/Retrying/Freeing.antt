@@ -19,7 +19,7 @@ use Rattle.pg_laws_losses.specs.Quiet.{IsQuietLive, live_open, most_takes_live}
 use Rattle.pg_laws_losses.specs.Reached.{LosingReaches}
 use Rattle.pg_laws_losses.proofs.Takes.{takes_end}
 use Rattle.pg_laws_losses.proofs.Remains.Passing.{Leads, Leaves, leads_more}
-use Rattle.pg_laws_losses.specs.Readiness.Ready.{HasRoomLive, LossesSeen, NoneReadyLive, OnlyRetries, is_ready_at}
+use Rattle.pg_laws_losses.specs.Readiness.Ready.{AllHaveRoom, LossesSeen, NoneReadyLive, OnlyRetries, is_ready_at}
 use Rattle.pg_laws_losses.proofs.Readiness.Resting.{Next, Rests, comes_to_rest, next_is_taken, next_or_quiet, on_time, room_left, went}
 use Rattle.pg_laws_losses.proofs.Readiness.Retried.{no_lock, seen_later}
 use Rattle.pg_laws_losses.proofs.Readiness.Rounds.{RetriedAll, retried_all}
@@ -47,10 +47,10 @@ module _ (config : Config) (apart : IsDistinct same_atom (names_of config)) wher
     only : OnlyTakes takes
     leads : Leads config u (all_steps takes) world
     quiet : IsQuietLive config world
-    left : HasRoomLive config world room
+    left : AllHaveRoom config world room
 
   settled : (k room : ℕ) (es : List (LosingEvent Action)) (u : LosingFrameWorld) → LosingReaches config es u → LossesSeen config u → heavy config apart u ≤ k
-      → HasRoomLive config u (k + 1 + room) → Next config apart u ⊎ IsQuietLive config u → Settled u room
+      → AllHaveRoom config u (k + 1 + room) → Next config apart u ⊎ IsQuietLive config u → Settled u room
   settled k room es u l seen light free (inr quiet) = record {
     takes = [];
     world = u;
@@ -89,7 +89,7 @@ module _ (config : Config) (apart : IsDistinct same_atom (names_of config)) wher
   -- ---- from any world
 
   module _ (es : List (LosingEvent Action)) (w : LosingFrameWorld) (l : LosingReaches config es w) (room : ℕ)
-      (free : HasRoomLive config w (most_events_to_free config w + 1 + room)) where
+      (free : AllHaveRoom config w (most_events_to_free config w + 1 + room)) where
     abbrev P : ℕ
     P = peer_count config
 
@@ -118,7 +118,7 @@ module _ (config : Config) (apart : IsDistinct same_atom (names_of config)) wher
     abbrev later : ℕ
     later = 6 * P * open_ + 1 + room
 
-    room_there : HasRoomLive config u (live_open config u + later)
+    room_there : AllHaveRoom config u (live_open config u + later)
     room_there = room_run config rest.takes es w u (live_open config u + later) l rest.leads
         (λ i here.
         let all : (w.world.node i).clock + (most_events_to_free config w + 1 + room) ≤ CLOCK_LIMIT = free i here in
@@ -192,7 +192,7 @@ module _ (config : Config) (apart : IsDistinct same_atom (names_of config)) wher
       free = no_lock config apart to_last last.world reached_last last.quiet none;
     }
 
-    pub room_after : HasRoomLive config frees.world room
+    pub room_after : AllHaveRoom config frees.world room
     unfolding frees
     room_after = last.left
 
@@ -204,6 +204,6 @@ module _ (config : Config) (apart : IsDistinct same_atom (names_of config)) wher
         omega (arith, few, by_retries, by_takes)
 
 pub frees_all : (config : Config) (apart : IsDistinct same_atom (names_of config)) (es : List (LosingEvent Action)) (w : LosingFrameWorld)
-    → LosingReaches config es w → HasRoomLive config w (most_events_to_free config w + 1) → FreesLocks config w
+    → LosingReaches config es w → AllHaveRoom config w (most_events_to_free config w + 1) → FreesLocks config w
 frees_all config apart es w l free = frees config apart es w l 0
     (λ i here. let all : (w.world.node i).clock + (most_events_to_free config w + 1) ≤ CLOCK_LIMIT = free i here in omega (arith, all))

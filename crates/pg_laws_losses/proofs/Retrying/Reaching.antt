@@ -45,12 +45,12 @@ use Rattle.pg_laws_losses.proofs.Formation.{is_formed_live}
 use Rattle.pg_laws_losses.proofs.Lossy.{Died, Passed, Went, bare, passed}
 use Rattle.pg_laws_losses.proofs.Retries.{waits_for_retries}
 use Rattle.pg_laws_losses.proofs.Remains.Passing.{Leads, Leaves, leads_more}
-use Rattle.pg_laws_losses.specs.Readiness.Ready.{HasRoomLive, LossesSeen, NoLockLive, NoneReadyLive, is_ready, is_ready_at}
+use Rattle.pg_laws_losses.specs.Readiness.Ready.{AllHaveRoom, LossesSeen, NoLockLive, NoneReadyLive, is_ready, is_ready_at}
 use Rattle.pg_laws_losses.proofs.Readiness.Going.{no_loss, retry_is}
 use Rattle.pg_laws_losses.proofs.Readiness.Resting.{next_with_room, on_time, room_left, went}
 use Rattle.pg_laws_losses.proofs.Readiness.Retried.{fewer_ready, gone_later, no_lock, seen_later}
 use Rattle.pg_laws_losses.proofs.Readiness.Silence.{all_silent, among_live}
-use Rattle.pg_laws_losses.specs.Retrying.Retried.{HasRoomAmongLive, IsFreeLive, RetryGoesPastLosses, live_peer_count}
+use Rattle.pg_laws_losses.specs.Retrying.Retried.{LiveHaveRoom, IsFreeLive, RetryGoesPastLosses, live_peer_count}
 use Rattle.pg_laws_losses.proofs.Retrying.Alone.{Alone, weight}
 use Rattle.pg_laws_losses.proofs.Retrying.Answered.{IsStill, begun, begun_many, ends_answered, opens, some_packet, still_again, taken_all}
 use Rattle.pg_laws.proofs.quiet.Phases.Phase.{Ahead}
@@ -64,8 +64,8 @@ leads_on config (e ∷ es) more w v u l k = (l.0, l.1, leads_on config es more l
 
 -- each event takes one from the room
 pub room_run : (config : Config) (ts : List (Event Action)) (es : List (LosingEvent Action)) (w v : LosingFrameWorld) (k : ℕ)
-    → LosingReaches config es w → Leads config w (all_steps ts) v → HasRoomLive config w (length ts + k) → HasRoomLive config v k
-room_run config [] es w v k l more room = subst (λ z. HasRoomLive config z k) more
+    → LosingReaches config es w → Leads config w (all_steps ts) v → AllHaveRoom config w (length ts + k) → AllHaveRoom config v k
+room_run config [] es w v k l more room = subst (λ z. AllHaveRoom config z k) more
     (λ i here. let all : (w.world.node i).clock + (0 + k) ≤ CLOCK_LIMIT = room i here in omega (arith, all))
 room_run config (d ∷ ts) es w v k l more room =
     let u : LosingFrameWorld = more.0 in
@@ -88,7 +88,7 @@ seen_run config apart (d ∷ ts) es w v l seen more = seen_run config apart ts (
 -- an event takes one from the room of the live nodes, since what they take comes from one of them
 module _ (config : Config) (apart : IsDistinct same_atom (names_of config)) (es : List (LosingEvent Action)) (w v : LosingFrameWorld)
     (l : LosingReaches config es w) (seen : LossesSeen config w) (d : Event Action) (leaves : Leaves config w (Step d) v) (k : ℕ)
-    (room : HasRoomAmongLive config w (suc k)) where
+    (room : LiveHaveRoom config w (suc k)) where
   went_so : Happened (losing_frame_machine config) w.world d v.world
   went_so = happened (losing_frame_machine config) w.world v.world d (went config w v d leaves).0
 
@@ -117,7 +117,7 @@ module _ (config : Config) (apart : IsDistinct same_atom (names_of config)) (es 
       let peer : (w.world.node p).clock + suc k ≤ CLOCK_LIMIT = room p (pair_second (length config) (node_of d) p pair) (sender_lives p x first.0 pair alive first.1) in
       omega (arith, stamp, own, peer)
 
-  pub room_among : HasRoomAmongLive config v k
+  pub room_among : LiveHaveRoom config v k
   room_among i here lives = go (cases_eq i (node_of d))
     where
       alive : w.gone i ≡ false
@@ -137,8 +137,8 @@ module _ (config : Config) (apart : IsDistinct same_atom (names_of config)) (es 
 
 room_among_run : (config : Config) (apart : IsDistinct same_atom (names_of config)) (ts : List (Event Action)) (es : List (LosingEvent Action))
     (w v : LosingFrameWorld) (k : ℕ) → LosingReaches config es w → LossesSeen config w → Leads config w (all_steps ts) v
-    → HasRoomAmongLive config w (length ts + k) → HasRoomAmongLive config v k
-room_among_run config apart [] es w v k l seen more room = subst (λ z. HasRoomAmongLive config z k) more
+    → LiveHaveRoom config w (length ts + k) → LiveHaveRoom config v k
+room_among_run config apart [] es w v k l seen more room = subst (λ z. LiveHaveRoom config z k) more
     (λ i here lives. let all : (w.world.node i).clock + (0 + k) ≤ CLOCK_LIMIT = room i here lives in omega (arith, all))
 room_among_run config apart (d ∷ ts) es w v k l seen more room =
     room_among_run config apart ts (es ++ Step d ∷ []) more.0 v k
@@ -315,8 +315,8 @@ module _ (config : Config) (apart : IsDistinct same_atom (names_of config)) (eve
         go (inl more_) = lt-ltb peers now more_ ∙ sym (lt-ltb (length ts) (4 * peers) (omega (arith, sum, more_)))
         go (inr few) = le-ltb peers now few ∙ sym (le-ltb (length ts) (4 * peers) (omega (arith, sum, few)))
 
-    module _ (room : HasRoomAmongLive config w (1 + 5 * live_peer_count config w)) where
-      room_later : HasRoomAmongLive config v now
+    module _ (room : LiveHaveRoom config w (1 + 5 * live_peer_count config w)) where
+      room_later : LiveHaveRoom config v now
       room_later = room_among_run config apart (Do h (Retry op) ∷ ts) events w v now l seen more
           (λ i there alive. let before : (w.world.node i).clock + (1 + 5 * peers) ≤ CLOCK_LIMIT = room i there alive in omega (arith, before, sum))
 
@@ -391,7 +391,7 @@ module _ (config : Config) (apart : IsDistinct same_atom (names_of config)) (eve
     open_waits opened = waiting_is opened
 
     -- so it is answered
-    module _ (opened : is_open ((w.world.node h).state.stages op) ≡ true) (room : HasRoomAmongLive config w (1 + 5 * live_peer_count config w))
+    module _ (opened : is_open ((w.world.node h).state.stages op) ≡ true) (room : LiveHaveRoom config w (1 + 5 * live_peer_count config w))
         (ts : List (Event Action)) (only : OnlyTakes ts) (v : LosingFrameWorld) (more : Leads config w (all_steps (Do h (Retry op) ∷ ts)) v) where
       pub retry_answered : RetryGoesPastLosses config w h op (length ts) v
       retry_answered =

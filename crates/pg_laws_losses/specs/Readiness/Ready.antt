@@ -82,8 +82,8 @@ abbrev pub OnlyReady : Config → LosingFrameWorld → List (Event Action) → T
 OnlyReady config w events = (i : ℕ) (op : OpId) → is_retried i op events ≡ true → is_ready_at config w i op ≡ true
 
 -- no clock is nearer to its limit than so many events, of a lost node neither, since what it sent may be on the way
-abbrev pub HasRoomLive : Config → LosingFrameWorld → ℕ → Type 0
-HasRoomLive config w events = (i : ℕ)
+abbrev pub AllHaveRoom : Config → LosingFrameWorld → ℕ → Type 0
+AllHaveRoom config w events = (i : ℕ)
     → is_place (length config) i ≡ true → (w.world.node i).clock + events ≤ CLOCK_LIMIT
 
 -- The holder of the lock of a group is a reference of a node that is not lost, and of a ready command of it.
@@ -136,14 +136,14 @@ pub record ReadyGoOn (config : Config) (w : LosingFrameWorld) : Type 0 where
   pub others : (v : LosingFrameWorld) (i j : ℕ) (op other : OpId) → losing_happens (losing_frame_machine config) last_notice w (Step (Do i (Retry op))) ≡ Some v
       → (j ≡ i → op ≢ other) → is_ready_at config v j other ≡ is_ready_at config w j other
   -- with room in the clocks the ready commands, and no others, can be tried again one after another
-  pub all : (room : ℕ) → LossesSeen config w → HasRoomLive config w (live_open config w + room)
+  pub all : (room : ℕ) → LossesSeen config w → AllHaveRoom config w (live_open config w + room)
       → (retries : List (Event Action)) × (v : LosingFrameWorld) × OnlyRetries retries
       × LosingLeads (losing_frame_machine config) last_notice w (all_steps retries) v × EachIsRetried config w retries × OnlyReady config w retries
-      × NoneReadyLive config v × HasRoomLive config v room
+      × NoneReadyLive config v × AllHaveRoom config v room
   -- and each packet that is next on its way to a live node can be taken, until nothing is
-  pub taken : (x y : ℕ) (packet : Stamped (Noticed Message)) (rest : List (Stamped (Noticed Message))) → HasRoomLive config w 1
+  pub taken : (x y : ℕ) (packet : Stamped (Noticed Message)) (rest : List (Stamped (Noticed Message))) → AllHaveRoom config w 1
       → is_pair (length config) x y ≡ true → w.gone y ≡ false → w.world.wire x y ≡ packet ∷ rest
       → (v : LosingFrameWorld) × (losing_happens (losing_frame_machine config) last_notice w (Step (Take y x)) ≡ Some v)
-  pub rests : HasRoomLive config w (most_takes_live config w + 1)
+  pub rests : AllHaveRoom config w (most_takes_live config w + 1)
       → (takes : List (Event Action)) × (v : LosingFrameWorld) × OnlyTakes takes
       × LosingLeads (losing_frame_machine config) last_notice w (all_steps takes) v × IsQuietLive config v

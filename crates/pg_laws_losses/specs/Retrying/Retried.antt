@@ -19,7 +19,7 @@ use Rattle.pg_laws.specs.Counted.{is_open}
 use Rattle.pg_laws.specs.History.{IsAnsweredOk, answers_by}
 use Rattle.pg_laws.specs.Quiet.{OnlyTakes, OnlyTakesAndRetries, peer_count, total}
 use Rattle.pg_laws_losses.specs.Quiet.{IsQuietLive, live_open, most_takes_live}
-use Rattle.pg_laws_losses.specs.Readiness.Ready.{EachIsRetried, HasRoomLive, NoLockLive, NoneReadyLive, OnlyReady, OnlyRetries}
+use Rattle.pg_laws_losses.specs.Readiness.Ready.{EachIsRetried, AllHaveRoom, NoLockLive, NoneReadyLive, OnlyReady, OnlyRetries}
 
 -- how many nodes are live
 abbrev pub live_count : Config → LosingFrameWorld → ℕ
@@ -35,8 +35,8 @@ IsFreeLive config w name = (i : ℕ) → is_place (length config) i ≡ true →
     → (w.world.node i).state.locks name ≡ None
 
 -- no clock of a live node is nearer to its limit than so many events
-abbrev pub HasRoomAmongLive : Config → LosingFrameWorld → ℕ → Type 0
-HasRoomAmongLive config w events = (i : ℕ) → is_place (length config) i ≡ true → w.gone i ≡ false
+abbrev pub LiveHaveRoom : Config → LosingFrameWorld → ℕ → Type 0
+LiveHaveRoom config w events = (i : ℕ) → is_place (length config) i ≡ true → w.gone i ≡ false
     → (w.world.node i).clock + events ≤ CLOCK_LIMIT
 
 -- What a retry of a command of node i in the world w, where nothing was on the way to a live node, has come to once so
@@ -111,14 +111,14 @@ pub record RetriesGoOn (config : Config) (w : LosingFrameWorld) : Type 0 where
   pub goes : (v : LosingFrameWorld) (takes : List (Event Action)) (i : ℕ) (op : OpId) (update : Update)
       → IsQuietLive config w → is_place (length config) i ≡ true → w.gone i ≡ false
       → (w.world.node i).state.stages op ≡ Waiting update → IsFreeLive config w (name_of update)
-      → HasRoomAmongLive config w (1 + 5 * live_peer_count config w) → OnlyTakes takes
+      → LiveHaveRoom config w (1 + 5 * live_peer_count config w) → OnlyTakes takes
       → LosingLeads (losing_frame_machine config) last_notice w (all_steps (Do i (Retry op) ∷ takes)) v
       → RetryGoesPastLosses config w i op (length takes) v
   -- or where no command of a live node is ready
   pub answered : (v : LosingFrameWorld) (takes : List (Event Action)) (i : ℕ) (op : OpId)
       → IsQuietLive config w → NoneReadyLive config w → is_place (length config) i ≡ true → w.gone i ≡ false
       → is_open ((w.world.node i).state.stages op) ≡ true
-      → HasRoomAmongLive config w (1 + 5 * live_peer_count config w) → OnlyTakes takes
+      → LiveHaveRoom config w (1 + 5 * live_peer_count config w) → OnlyTakes takes
       → LosingLeads (losing_frame_machine config) last_notice w (all_steps (Do i (Retry op) ∷ takes)) v
       → RetryGoesPastLosses config w i op (length takes) v
   -- none is ready meanwhile, and where all is taken no lock is held
@@ -127,13 +127,13 @@ pub record RetriesGoOn (config : Config) (w : LosingFrameWorld) : Type 0 where
   pub unlocked : (v : LosingFrameWorld) (takes : List (Event Action)) (i : ℕ) (op : OpId)
       → IsQuietLive config w → NoneReadyLive config w → is_place (length config) i ≡ true → w.gone i ≡ false
       → is_open ((w.world.node i).state.stages op) ≡ true
-      → HasRoomAmongLive config w (1 + 5 * live_peer_count config w) → OnlyTakes takes
+      → LiveHaveRoom config w (1 + 5 * live_peer_count config w) → OnlyTakes takes
       → LosingLeads (losing_frame_machine config) last_notice w (all_steps (Do i (Retry op) ∷ takes)) v
       → length takes ≡ 5 * live_peer_count config w → NoLockLive config v
   -- with room in the clocks takes and retries free every lock
-  pub frees : HasRoomLive config w (most_events_to_free config w + 1) → FreesLocks config w
+  pub frees : AllHaveRoom config w (most_events_to_free config w + 1) → FreesLocks config w
   -- and answer every open command of the live nodes
-  pub answers : HasRoomLive config w (most_events_live config w + 1)
+  pub answers : AllHaveRoom config w (most_events_live config w + 1)
       → (more : List (Event Action)) × (v : LosingFrameWorld) × OnlyTakesAndRetries more
       × LosingLeads (losing_frame_machine config) last_notice w (all_steps more) v
       × NoneOpenLive config v × IsQuietLive config v

@@ -15,7 +15,7 @@ ghost use Rattle.pg_laws_losses.specs.Remains.Agreed.{AgreeOnUnchanged};
 ghost use Rattle.pg_laws_losses.specs.Remains.Heard.{MadeOf};
 ghost use Rattle.pg_laws_losses.specs.Remains.Missed.{TakenAlong};
 
-use crate::world::each_world_keeps_past_losses;
+use crate::world::one_history_past_losses;
 
 /// Two formed live nodes agree on a group, whoever was formed when others were lost: where each has seen the loss of
 /// every node that is lost and took its exchange before, no end is pending among the live, no lost node began an update of
@@ -25,7 +25,7 @@ pub fn nodes_that_heard_the_lost_agree()
         → IsDistinct same_atom (names_of config) → LosingReaches config events w
         → AgreeOnUnchanged config events w i j x name }
 {
-    each_world_keeps_past_losses();
+    one_history_past_losses();
 }
 
 /// What a table is made of, whoever is lost and whoever was formed when: a node's own groups, and those of each exchange that it
@@ -38,7 +38,7 @@ pub fn tables_are_made_of_what_was_taken()
         → IsDistinct same_atom (names_of config) → LosingReaches config events w
         → is_place (length config) i ≡ true → MadeOf config events w i }
 {
-    each_world_keeps_past_losses();
+    one_history_past_losses();
 }
 
 /// What a loss takes along, whoever is lost and whoever was formed when: those entries of nodes whose loss a live node has seen

@@ -16,7 +16,7 @@ ghost use Rattle.pg_laws.specs.PgStep.declared.command.OpId.{OpId};
 ghost use Rattle.pg_laws.specs.Quiet.{OnlyTakes};
 ghost use Rattle.pg_laws_losses.specs.Quiet.{IsQuietLive, live_open, most_takes_live};
 ghost use Rattle.pg_laws_losses.specs.Reached.{LosingReaches};
-ghost use Rattle.pg_laws_losses.specs.Readiness.Ready.{EachIsRetried, RetryGoesOn, HasRoomLive, IsQuietAmongLive, LossesSeen, NoLockLive};
+ghost use Rattle.pg_laws_losses.specs.Readiness.Ready.{EachIsRetried, RetryGoesOn, AllHaveRoom, IsQuietAmongLive, LossesSeen, NoLockLive};
 ghost use Rattle.pg_laws_losses.specs.Readiness.Ready.{NoneReadyLive, OfReady, OnlyReady, OnlyRetries, is_ready_at, is_retried};
 
 /// Nothing is on the way to a node that is not lost exactly where each of them has seen each loss, and nothing is on the way
@@ -111,11 +111,11 @@ pub fn a_retry_leaves_the_others()
 pub fn all_ready_commands_can_be_retried()
     ensures { (config : Config) (w : LosingFrameWorld) (events : List (LosingEvent Action)) (room : ℕ)
         → IsDistinct same_atom (names_of config) → LosingReaches config events w → LossesSeen config w
-        → HasRoomLive config w (live_open config w + room)
+        → AllHaveRoom config w (live_open config w + room)
         → (retries : List (Event Action)) × (v : LosingFrameWorld) × OnlyRetries retries
         × LosingLeads (losing_frame_machine config) last_notice w (all_steps retries) v
         × EachIsRetried config w retries × OnlyReady config w retries
-        × NoneReadyLive config v × HasRoomLive config v room }
+        × NoneReadyLive config v × AllHaveRoom config v room }
 {}
 
 /// A world comes to rest, whoever was lost. While a packet or a last notice is on the way to a node that is not lost,
@@ -124,13 +124,13 @@ pub fn all_ready_commands_can_be_retried()
 pub fn a_world_comes_to_rest_past_losses()
     ensures goes_on { (config : Config) (w : LosingFrameWorld) (events : List (LosingEvent Action)) (x y : ℕ)
         (packet : Stamped (Noticed Message)) (rest : List (Stamped (Noticed Message)))
-        → IsDistinct same_atom (names_of config) → LosingReaches config events w → HasRoomLive config w 1
+        → IsDistinct same_atom (names_of config) → LosingReaches config events w → AllHaveRoom config w 1
         → is_pair (length config) x y ≡ true → w.gone y ≡ false → w.world.wire x y ≡ packet ∷ rest
         → (v : LosingFrameWorld)
         × (losing_happens (losing_frame_machine config) last_notice w (Step (Take y x)) ≡ Some v) }
     ensures rests { (config : Config) (w : LosingFrameWorld) (events : List (LosingEvent Action))
         → IsDistinct same_atom (names_of config) → LosingReaches config events w
-        → HasRoomLive config w (most_takes_live config w + 1)
+        → AllHaveRoom config w (most_takes_live config w + 1)
         → (takes : List (Event Action)) × (v : LosingFrameWorld) × OnlyTakes takes
         × LosingLeads (losing_frame_machine config) last_notice w (all_steps takes) v × IsQuietLive config v }
 {}

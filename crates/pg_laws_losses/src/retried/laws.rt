@@ -16,8 +16,8 @@ ghost use Rattle.pg_laws.specs.Counted.{is_open};
 ghost use Rattle.pg_laws.specs.Quiet.{OnlyTakes, OnlyTakesAndRetries};
 ghost use Rattle.pg_laws_losses.specs.Quiet.{IsQuietLive};
 ghost use Rattle.pg_laws_losses.specs.Reached.{LosingReaches};
-ghost use Rattle.pg_laws_losses.specs.Readiness.Ready.{HasRoomLive, NoLockLive, NoneReadyLive};
-ghost use Rattle.pg_laws_losses.specs.Retrying.Retried.{FreesLocks, HasRoomAmongLive, IsFreeLive, NoneOpenLive};
+ghost use Rattle.pg_laws_losses.specs.Readiness.Ready.{AllHaveRoom, NoLockLive, NoneReadyLive};
+ghost use Rattle.pg_laws_losses.specs.Retrying.Retried.{FreesLocks, LiveHaveRoom, IsFreeLive, NoneOpenLive};
 ghost use Rattle.pg_laws_losses.specs.Retrying.Retried.{RetryGoesPastLosses, live_peer_count, most_events_live, most_events_to_free};
 
 /// A retry is answered, whoever was lost. Where nothing is on the way to a live node, each open command of such a node can
@@ -38,7 +38,7 @@ pub fn a_retry_is_answered_past_losses()
         → IsDistinct same_atom (names_of config) → LosingReaches config events w → IsQuietLive config w
         → is_place (length config) i ≡ true → w.gone i ≡ false
         → (w.world.node i).state.stages op ≡ Waiting update → IsFreeLive config w (name_of update)
-        → HasRoomAmongLive config w (1 + 5 * live_peer_count config w) → OnlyTakes takes
+        → LiveHaveRoom config w (1 + 5 * live_peer_count config w) → OnlyTakes takes
         → LosingLeads (losing_frame_machine config) last_notice w (all_steps (Do i (Retry op) ∷ takes)) v
         → RetryGoesPastLosses config w i op (length takes) v }
 {}
@@ -51,7 +51,7 @@ pub fn retries_are_answered_where_none_is_ready()
         → IsDistinct same_atom (names_of config) → LosingReaches config events w → IsQuietLive config w
         → NoneReadyLive config w → is_place (length config) i ≡ true → w.gone i ≡ false
         → is_open ((w.world.node i).state.stages op) ≡ true
-        → HasRoomAmongLive config w (1 + 5 * live_peer_count config w) → OnlyTakes takes
+        → LiveHaveRoom config w (1 + 5 * live_peer_count config w) → OnlyTakes takes
         → LosingLeads (losing_frame_machine config) last_notice w (all_steps (Do i (Retry op) ∷ takes)) v
         → RetryGoesPastLosses config w i op (length takes) v }
     ensures unready { (config : Config) (w v : LosingFrameWorld) (events : List (LosingEvent Action))
@@ -65,7 +65,7 @@ pub fn retries_are_answered_where_none_is_ready()
         → IsDistinct same_atom (names_of config) → LosingReaches config events w → IsQuietLive config w
         → NoneReadyLive config w → is_place (length config) i ≡ true → w.gone i ≡ false
         → is_open ((w.world.node i).state.stages op) ≡ true
-        → HasRoomAmongLive config w (1 + 5 * live_peer_count config w) → OnlyTakes takes
+        → LiveHaveRoom config w (1 + 5 * live_peer_count config w) → OnlyTakes takes
         → LosingLeads (losing_frame_machine config) last_notice w (all_steps (Do i (Retry op) ∷ takes)) v
         → length takes ≡ 5 * live_peer_count config w → NoLockLive config v }
 {}
@@ -76,7 +76,7 @@ pub fn retries_are_answered_where_none_is_ready()
 pub fn every_lock_can_be_freed_past_losses()
     ensures { (config : Config) (w : LosingFrameWorld) (events : List (LosingEvent Action))
         → IsDistinct same_atom (names_of config) → LosingReaches config events w
-        → HasRoomLive config w (most_events_to_free config w + 1) → FreesLocks config w }
+        → AllHaveRoom config w (most_events_to_free config w + 1) → FreesLocks config w }
 {}
 
 /// Nothing is stuck, whoever was lost. From each world takes and retries alone lead to one in which each command is answered that
@@ -84,7 +84,7 @@ pub fn every_lock_can_be_freed_past_losses()
 pub fn every_command_can_be_answered_past_losses()
     ensures { (config : Config) (w : LosingFrameWorld) (events : List (LosingEvent Action))
         → IsDistinct same_atom (names_of config) → LosingReaches config events w
-        → HasRoomLive config w (most_events_live config w + 1)
+        → AllHaveRoom config w (most_events_live config w + 1)
         → (more : List (Event Action)) × (v : LosingFrameWorld) × OnlyTakesAndRetries more
         × LosingLeads (losing_frame_machine config) last_notice w (all_steps more) v
         × NoneOpenLive config v × IsQuietLive config v }

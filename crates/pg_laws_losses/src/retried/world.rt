@@ -8,6 +8,10 @@ ghost use Rattle.pg_laws.specs.PgStep.Step.{Action};
 ghost use Rattle.pg_laws_losses.specs.Reached.{LosingReaches};
 ghost use Rattle.pg_laws_losses.specs.Retrying.Survived.{LossesSurvived};
 
+use crate::lasting::{
+    answers_stay_past_losses, ends_stay_taken_past_losses, formed_nodes_stay_formed_past_losses,
+    lost_nodes_are_not_heard, lost_nodes_do_nothing, seen_losses_stay_seen,
+};
 use crate::left::{
     ended_processes_were_finished_past_losses, losses_take_along, nodes_that_heard_the_lost_agree,
     tables_are_made_of_what_was_taken,
@@ -22,7 +26,13 @@ use crate::retried::laws::{
     a_retry_is_answered_past_losses, every_command_can_be_answered_past_losses,
     every_lock_can_be_freed_past_losses, retries_are_answered_where_none_is_ready,
 };
-use crate::world::each_world_keeps_past_losses;
+use crate::steps::{
+    commands_are_refused_exactly_past_losses, processes_are_fresh_past_losses,
+    queries_read_the_table_past_losses, references_have_one_use_past_losses,
+    updates_are_applied_once_past_losses,
+};
+use crate::survival::a_quiet_node_is_formed_past_losses;
+use crate::world::one_history_past_losses;
 
 /// What worlds and clusters promise of each world that their runs lead to, whoever is lost and whenever.
 pub fn each_world_past_losses()
@@ -30,7 +40,7 @@ pub fn each_world_past_losses()
         → IsDistinct same_atom (names_of config) → LosingReaches config events w
         → LossesSurvived config events w }
 {
-    each_world_keeps_past_losses();
+    one_history_past_losses();
     tables_are_made_of_what_was_taken();
     losses_take_along();
     nodes_that_heard_the_lost_agree();
@@ -47,4 +57,16 @@ pub fn each_world_past_losses()
     retries_are_answered_where_none_is_ready();
     every_lock_can_be_freed_past_losses();
     every_command_can_be_answered_past_losses();
+    answers_stay_past_losses();
+    formed_nodes_stay_formed_past_losses();
+    a_quiet_node_is_formed_past_losses();
+    ends_stay_taken_past_losses();
+    seen_losses_stay_seen();
+    lost_nodes_are_not_heard();
+    lost_nodes_do_nothing();
+    processes_are_fresh_past_losses();
+    references_have_one_use_past_losses();
+    queries_read_the_table_past_losses();
+    commands_are_refused_exactly_past_losses();
+    updates_are_applied_once_past_losses();
 }

@@ -1,8 +1,8 @@
-use Rattle.pg_laws_losses.proofs.world.each_world_keeps_past_losses.Goals as goal
+use Rattle.pg_laws_losses.proofs.world.one_history_past_losses.Goals as goal
 
 pub returns : goal.returns
 returns c = λ config w events apart l. record {
-  survives = λ at_losses. c.losses_are_survived.ensures config w events apart l at_losses;
+  survives = λ at_losses. c.tables_are_replayed_past_losses.ensures config w events apart l at_losses;
   applies = λ i name there left. c.histories_are_thinned.ensures config w events i name apart l there left;
   unheld = λ i there. c.no_lock_of_the_lost.ensures config w events i apart l there;
   stands = record {
