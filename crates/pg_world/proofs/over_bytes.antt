@@ -4,6 +4,6 @@ pub mod Leading
 pub mod Lost
 pub mod Opened
 pub mod Past
-pub mod Running
+pub mod RunningOn
 pub mod Seen
 pub mod Unplaced

@@ -1,7 +1,10 @@
 -- What is behind a world of bytes: the events that led to it from the start of its configuration, and what holds of them.
-use Rattle.std.specs.Prelude.{◌≡◌, ◌↔◌, ℕ, Bool, true, List, Result}
+use Rattle.std.specs.Prelude.{◌≡◌, ◌↔◌, ◌++◌, ℕ, Bool, true, List, Result}
 use Rattle.pg_term.specs.declared.term.Term.{Term}
+use Rattle.pg_world_packets.specs.PgStep.Machines.Losing.{LosingEvent}
 use Rattle.pg_world_packets.specs.PgStep.Config.{Config}
+use Rattle.pg_world_packets.specs.PgStep.LossLaws.{LosingFrameWorld}
+use Rattle.pg_world_packets.specs.PgStep.Step.{Action}
 use Rattle.pg_world_packets.specs.PgLaws.History.{Entry}
 use Rattle.pg_world_packets.specs.PgLaws.WithLosses.{FormedAtLosses}
 use Rattle.pg_world_packets.specs.PgLawsLosses.Remains.Missed.{missed}
@@ -10,10 +13,10 @@ use Rattle.pg_world.specs.declared.step.Step.{Step}
 use Rattle.pg_world_packets.specs.declared.step.Stepped.{Stepped}
 use Rattle.pg_world.specs.BytesLosing.{ShowsLosingBytes, StepLeaves}
 use Rattle.pg_world.specs.BytesLosingRuns.{bytes_past_losses}
-use Rattle.pg_world.specs.CrossingRuns.{AreLeft, CrossesAll}
+use Rattle.pg_world.specs.CrossingRuns.{CrossesAll}
 use Rattle.pg_world.specs.Crossings.{Crossing}
 use Rattle.pg_world_packets.specs.PgWorldAccount.Histories.{Account}
-use Rattle.pg_world_packets.specs.Past.{HasPast, PastGoesOn, RunsOn}
+use Rattle.pg_world_packets.specs.Past.{HasPast, IsPast, PastGoesOn}
 
 -- nodes and the bytes on the way between them, of which these are lost, and what is kept of the updates, have a past
 abbrev pub BytesHavePast : Config → Crossing → Account → List ℕ → Type 0
@@ -34,12 +37,14 @@ abbrev pub BytesGoOn : Config → Crossing → Account → List ℕ → Step →
 BytesGoOn given old account lost step result new later now =
     PastGoesOn bytes_past_losses given (λ config u. ShowsLosingBytes config old account lost u) (λ config u. ShowsLosingBytes config new later now u) step result (λ config u Shown. StepLeaves config u step result Shown)
 
--- what steps made of them, one after another
-abbrev pub BytesRunOn : Config → Crossing → Account → List ℕ → List Step → List ℕ → Crossing → Account → List ℕ → Type 0
-BytesRunOn given old account lost all numbers new later now =
-    RunsOn bytes_past_losses given (λ config u. ShowsLosingBytes config old account lost u) (λ config u. ShowsLosingBytes config new later now u) all numbers
-
--- the same, and what each step changed; the rings have room for so many bytes
-pub record BytesCrossOn (given : Config) (room : ℕ) (old : Crossing) (account : Account) (lost : List ℕ) (all : List Step) (numbers : List ℕ) (new : Crossing) (later : Account) (now : List ℕ) : Type 0 where
-  pub on : BytesRunOn given old account lost all numbers new later now
-  pub crosses : CrossesAll on.config room old on.u all numbers (AreLeft on.config new later now)
+-- What steps made of them, one after another, where the rings have room for so many bytes: the numbers of the steps, and the events of those
+-- that happened, which led on from the world u to which the past led, and are the last of the past of what was left.
+pub record BytesRunOn (given : Config) (room : ℕ) (old : Crossing) (account : Account) (lost : List ℕ) (all : List Step) (numbers : List ℕ) (new : Crossing) (after : Account) (now : List ℕ) : Type 0 where
+  pub config : Config
+  pub events : List (LosingEvent Action)
+  pub u : LosingFrameWorld
+  pub past : IsPast given (λ config u. ShowsLosingBytes config old account lost u) config events u
+  pub more : List (LosingEvent Action)
+  pub v : LosingFrameWorld
+  pub chain : CrossesAll config room old u all numbers more new v
+  pub later : IsPast given (λ config u. ShowsLosingBytes config new after now u) config (events ++ more) v

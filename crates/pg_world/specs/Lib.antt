@@ -3,7 +3,6 @@ pub mod ByteWorlds
 pub mod BytesLosing
 pub mod BytesLosingRuns
 pub mod BytesPast
-pub mod BytesRuns
 pub mod BytesStart
 pub mod Changes
 pub mod CrossingRuns

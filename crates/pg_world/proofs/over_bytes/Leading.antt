@@ -44,10 +44,10 @@ use Rattle.pg_world_packets.proofs.Counted.{place_there}
 use Rattle.pg_world_packets.proofs.Peering.{known, named, own_place, peer_name, same_place}
 use Rattle.pg_world_packets.proofs.Turning.{is_pair_so}
 use Rattle.pg_world_packets.specs.Losing.{Telling, formed_after, formed_with, losing_of, told_take, told_own, told_sight}
-use Rattle.pg_world_packets.specs.LosingRuns.{LosingGoesTo, IsToldEvent}
+use Rattle.pg_world_packets.specs.LosingRuns.{IsToldEvent}
 use Rattle.pg_world_packets.specs.Past.{Adds, HistoriesGrow, missed_in}
 use Rattle.pg_world.specs.Bars.{bytes_formed_after}
-use Rattle.pg_world.specs.BytesPast.{BytesFormedFirst, BytesHavePast, BytesGoOn, BytesMissed, BytesRunOn}
+use Rattle.pg_world.specs.BytesPast.{BytesFormedFirst, BytesHavePast, BytesGoOn, BytesMissed}
 use Rattle.pg_world_packets.specs.Pending.{AgreeOn, pending_of, sees_free}
 use Rattle.pg_world_packets.specs.PgWorldConfig.Seen.{Seen}
 use Rattle.pg_world_packets.specs.PgWorldAccount.Histories.{Account}
@@ -56,10 +56,10 @@ use Rattle.pg_world_packets.specs.Worlds.{TimedFrameWorld, ShowsNodes}
 use Rattle.pg_world_packets.proofs.AtLosses.{ToldBehind, none_told}
 use Rattle.pg_world_packets.proofs.FormedSeen.{ToldOf, loss_told, told_both}
 use Rattle.pg_world_packets.proofs.Leading.{Near, NearBy, Here, Next, Lists, Survive, AreApart, goes_on}
-use Rattle.pg_world_packets.proofs.Leading.{past_after, past_of, runs_on, comes_on, some_comes, with_added}
+use Rattle.pg_world_packets.proofs.Leading.{past_after, past_of, comes_on, some_comes, with_added}
 use Rattle.pg_world_packets.proofs.Leading.{histories_grow, history_is, applied_there, agreed_there, missed_there}
 use Rattle.pg_world_packets.proofs.Ordered.{ordered_length}
-use Rattle.pg_world_packets.proofs.LosingRunning.{losing_leads, start_is}
+use Rattle.pg_world_packets.proofs.LosingRunning.{start_is}
 use Rattle.pg_world.proofs.over_bytes.Past.{move_mapped}
 
 -- ---- the worlds to which a step leads
@@ -293,14 +293,7 @@ module _ (given : Config) (survive : Survive) (old : Crossing) (account : Accoun
   bytes_past past = past_after given After apart survive bytes_past_losses step result account.formed later.formed Before Comes onward_from
       (λ config u Q leaves. some_leaves config u Q step result leaves) past (λ config u events reached shows. came config u (events, reached) shows)
 
--- ---- steps, one after another, and the start
-
-pub bytes_run_on : (given : Config) → Survive → (old : Crossing) (account : Account) (lost : List ℕ) (all : List Step) (numbers : List ℕ) (new : Crossing) (later : Account) (now : List ℕ)
-    → ((config : Config) (u : LosingFrameWorld) → IsReachedLosing config u → ShowsLosingBytes config old account lost u → LosingGoesTo bytes_past_losses config u all numbers (ShowsLosingBytes config new later now))
-    → BytesHavePast given old account lost → BytesRunOn given old account lost all numbers new later now
-bytes_run_on given survive old account lost all numbers new later now came past =
-    runs_on bytes_past_losses given (λ config u. ShowsLosingBytes config old account lost u) (λ config u. ShowsLosingBytes config new later now u) all numbers (λ config u shows. shows.shows.traffic.nodes.apart) survive account.formed past
-    (λ config u events reached shows. came config u (events, reached) shows)
+-- ---- the start
 
 pub bytes_begin : (survive : Survive) (given : Config) (crossing : Crossing) (account : Account) (lost : List ℕ) → lost ≡ [] → account.formed ≡ true → length given ≤ 16 → BytesBegin given crossing account → BytesHavePast given crossing account lost
 bytes_begin survive given crossing account lost none formed few begins =
@@ -324,18 +317,13 @@ bytes_begin survive given crossing account lost none formed few begins =
 
 -- ---- what is known of a world with a past
 
-shown_history : (config : Config) (crossing : Crossing) (account : Account) (lost : List ℕ) (u : LosingFrameWorld) → ShowsLosingBytes config crossing account lost u → (name : Term) → account.histories name ≡ history name u.world.reported
+pub shown_history : (config : Config) (crossing : Crossing) (account : Account) (lost : List ℕ) (u : LosingFrameWorld) → ShowsLosingBytes config crossing account lost u → (name : Term) → account.histories name ≡ history name u.world.reported
 shown_history config crossing account lost u shows = history_is config crossing.nodes account lost shows.frames u shows.shows.traffic.nodes shows.shows.updates shows.is
 
 pub bytes_step_grows : (given : Config) (old new : Crossing) (account later : Account) (lost now : List ℕ) (step : Step) (result : Result Stepped NodeFault) → BytesGoOn given old account lost step result new later now → HistoriesGrow account later
 bytes_step_grows given old new account later lost now step result goes =
     let led = some_leaves goes.config goes.u _ step result goes.comes in
     histories_grow goes.config account later goes.u led.0 led.1.more (shown_history goes.config old account lost goes.u goes.past.shows) (shown_history goes.config new later now led.0 led.1.past.shows) led.1.led
-
-pub bytes_run_grows : (given : Config) (old new : Crossing) (account later : Account) (lost now : List ℕ) (all : List Step) (numbers : List ℕ) → BytesRunOn given old account lost all numbers new later now → HistoriesGrow account later
-bytes_run_grows given old new account later lost now all numbers ran =
-    histories_grow ran.config account later ran.u ran.v ran.more (shown_history ran.config old account lost ran.u ran.past.shows) (shown_history ran.config new later now ran.v ran.later.shows)
-    (losing_leads bytes_past_losses ran.config all numbers ran.u ran.v ran.more ran.runs)
 
 pub bytes_applied_all : (given : Config) (crossing : Crossing) (account : Account) (lost : List ℕ) (x : ℕ) (node : Seen) (name : Term) → BytesHavePast given crossing account lost → lost ≡ [] → slice_get crossing.nodes x ≡ Some node
     → node.state.state.locks name ≡ None → x < length crossing.nodes → (i : ℕ) → i < length crossing.nodes → account.applied i name ≡ length (account.histories name)
