@@ -30,7 +30,7 @@ use Rattle.pg_world_packets.specs.Past.{Adds}
 use Rattle.pg_world.specs.BytesStart.{BytesBegin, OpensBytes}
 use Rattle.pg_world.specs.Changes.{StepChanges}
 use Rattle.pg_world.specs.Crossings.{Crossing}
-use Rattle.pg_world.specs.CrossingRuns.{Crosses, CrossesAll, CrossesTo, RanBytes, number_of}
+use Rattle.pg_world.specs.CrossingRuns.{CrossesAll, CrossesTo, RanBytes, number_of}
 use Rattle.pg_world_packets.specs.PgWorldAccount.Histories.{Account}
 use Rattle.pg_world_packets.proofs.Leading.{Near, Here, Next, Survive, leads_on, past_of}
 use Rattle.pg_world_packets.proofs.LosingRunning.{losing_reached_on, start_is}
