@@ -110,7 +110,10 @@ fn ended_of_a_node(rt: HostRuntime) {
     for (place, range) in LISTED {
         are_listed(&rt, rt.alloc(), &ended, &pids, *place, *range, false);
     }
+    holds(&rt, ended.count() == 3, "counted", 3);
+    put_twice(&rt, &mut ended, &pids, End::Pid(0));
     put_twice(&rt, &mut ended, &pids, End::Node(1));
+    holds(&rt, ended.count() == 3, "counted behind a second end", 3);
     are_listed(&rt, rt.alloc(), &ended, &pids, 1, (1, 3), true);
     drop(ended);
     drop(pids);
