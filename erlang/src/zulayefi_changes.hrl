@@ -1,0 +1,11 @@
+%% waits: not given to the program, or to none that runs; given: it has it; begun: its effect was read; over: begun with a program that was stopped.
+-type status() :: waits | given | begun | over.
+
+-record(change, {
+    from :: gen_server:from(),
+    word :: create | delete | join | leave,
+    name :: term(),
+    wrapped :: zulayefi_term:wrapped(),
+    pid :: pid() | none,
+    status = waits :: status()
+}).

@@ -1,0 +1,181 @@
+%% @doc One run of the program: this node's part of a generation. It carries the bytes of the others, and says what each body of the program means.
+-module(zulayefi_run).
+-export([start/2, bring/2, stop/2, opened/2, lost/2, take/4, denied/3, ask/4, heard/2, beat/1, is_idle/1, second/1, is_of/2]).
+-export([os_pid/1, waiting/1, open/1]).
+-export_type([run/0, event/0]).
+
+%% What the first byte of a body says, below it are places of peers.
+-define(PLACES, 16).
+-define(TICK, 16).
+-define(CLOCK, 17).
+-define(DENIED, 19).
+-define(GROUPS, 20).
+-define(VERSION, 21).
+-define(FORMED, 22).
+-define(ASSIGNED, 23).
+-define(TERM, 131).
+
+%% So many processes of this node the program may be told of: all that it can number.
+-define(MADE, "268435455").
+-define(SECONDS_BETWEEN_CLOCKS, 5).
+
+-record(run, {
+    program :: zulayefi_port:program(),
+    peers :: tuple(),
+    places :: #{pid() => non_neg_integer()},
+    creations :: zulayefi_term:creations(),
+    %% peers whose stream has begun, with the number of the bytes that come next, and of those that go next
+    streams = #{} :: #{pid() => non_neg_integer()},
+    sent = #{} :: #{pid() => non_neg_integer()},
+    desk = zulayefi_desk:new() :: zulayefi_desk:desk(),
+    %% whether the clock is asked for, whether anything came in this second, and for how many seconds nothing came since it was asked for
+    asks_clock = false :: boolean(),
+    heard = false :: boolean(),
+    silent = 0 :: non_neg_integer(),
+    seconds = 0 :: non_neg_integer()
+}).
+-opaque run() :: #run{}.
+
+%% What a body of the program means.
+-type event() ::
+    {version, binary()}
+    | {send, pid(), Number :: non_neg_integer(), binary()}
+    | {assigned, [zulayefi_table:assignment()]}
+    | formed
+    | {clock, non_neg_integer()}
+    | {denied, Port :: pos_integer()}
+    | {replied, What :: term(), Reply :: term()}
+    | {has_ended, What :: term()}
+    | {stop, Why :: term()}.
+
+%% @doc Starts a program among these servers, in their order. Further words make it record.
+-spec start([pid()], [unicode:chardata()]) -> {ok, run()} | {error, term()}.
+start(Set, Words) ->
+    Peers = Set -- [self()],
+    Names = [atom_to_list(node(Pid)) || Pid <- Peers],
+    PeersWords = case Names of [] -> []; _ -> ["--peers", lists:join(",", Names)] end,
+    case zulayefi_port:start(["--own", atom_to_list(node()), "--made", ?MADE, "--ports", integer_to_list(zulayefi_desk:ports())] ++ PeersWords ++ Words) of
+        {ok, Program} ->
+            zulayefi_killer:started(zulayefi_port:os_pid(Program)),
+            {ok, #run{
+                program = Program,
+                peers = list_to_tuple(Peers),
+                places = maps:from_list(lists:zip(Peers, lists:seq(0, length(Peers) - 1))),
+                creations = maps:from_list([{atom_to_binary(node(Pid)), zulayefi_term:creation(Pid)} || Pid <- Set])
+            }};
+        Error -> Error
+    end.
+
+%% @doc The groups that this node brings, first of all.
+-spec bring([{zulayefi_term:wrapped(), [pid()]}], run()) -> run().
+bring(Groups, Run) -> give([?GROUPS, zulayefi_term:to_program(Groups)], Run).
+
+give(Body, #run{program = Program} = Run) -> Run#run{program = zulayefi_port:give(Body, Program)}.
+
+-spec stop(hangs | unneeded, run()) -> ok.
+stop(How, #run{program = Program}) -> zulayefi_port:stop(How, Program).
+
+%% ---- the others
+
+%% @doc A peer told that it begins: from now on its bytes are taken.
+-spec opened(pid(), run()) -> run().
+opened(Pid, #run{places = Places, streams = Streams} = Run) when is_map_key(Pid, Places), not is_map_key(Pid, Streams) ->
+    Run#run{streams = Streams#{Pid => 0}};
+opened(_, Run) -> Run.
+
+%% @doc A peer is not heard any more.
+-spec lost(pid(), run()) -> run().
+lost(Pid, #run{streams = Streams} = Run) -> Run#run{streams = maps:remove(Pid, Streams)}.
+
+%% @doc Bytes of a peer, with their number.
+-spec take(pid(), non_neg_integer(), binary(), run()) -> {ok, run()} | ignored | gap.
+take(Pid, Number, Bytes, #run{streams = Streams, places = Places} = Run) ->
+    case Streams of
+        #{Pid := Number} -> {ok, give([map_get(Pid, Places), Bytes], Run#run{streams = Streams#{Pid := Number + 1}})};
+        #{Pid := _} -> gap;
+        _ -> ignored
+    end.
+
+%% @doc Another node was denied the lock of a group.
+-spec denied(pid(), pos_integer(), run()) -> run().
+denied(Pid, Port, #run{streams = Streams} = Run) when is_map_key(Pid, Streams) -> give([?DENIED, Port], Run);
+denied(_, _, Run) -> Run.
+
+%% ---- requests
+
+-spec ask(pos_integer(), term(), term(), run()) -> run().
+ask(Port, Command, What, #run{desk = Desk} = Run) ->
+    {Bodies, Desk1} = zulayefi_desk:ask(Port, Command, What, Desk),
+    lists:foldl(fun give/2, Run#run{desk = Desk1}, Bodies).
+
+%% ---- what the program says
+
+-spec heard(binary(), run()) -> {event(), run()}.
+heard(Body, Run) -> meaning(Body, Run#run{heard = true}).
+
+meaning(<<Place, Bytes/binary>>, #run{peers = Peers, sent = Sent} = Run) when Place < ?PLACES ->
+    Pid = element(Place + 1, Peers),
+    Number = maps:get(Pid, Sent, 0),
+    {{send, Pid, Number, Bytes}, Run#run{sent = Sent#{Pid => Number + 1}}};
+meaning(<<?ASSIGNED, Terms/binary>>, #run{creations = Creations} = Run) ->
+    {{assigned, [unwrapped(Each) || Each <- zulayefi_term:from_program(Terms, Creations)]}, Run};
+meaning(<<?TERM, _/binary>> = Body, Run) -> said(binary_to_term(Body), Run);
+meaning(<<?DENIED, Port>>, Run) -> {{denied, Port}, Run};
+meaning(<<?CLOCK, Clock:32>>, Run) -> {{clock, Clock}, Run#run{asks_clock = false}};
+meaning(<<?FORMED>>, Run) -> {formed, Run};
+meaning(<<?VERSION, Format, Version/binary>>, Run) ->
+    case zulayefi_port:format() of
+        Format -> {{version, Version}, Run};
+        Ours -> {{stop, {format, Format, Ours}}, Run}
+    end.
+
+unwrapped(Assignment) -> setelement(1, Assignment, zulayefi_term:unwrapped(element(1, Assignment))).
+
+said({_, Port, Number, Reply}, #run{desk = Desk} = Run) ->
+    {What, Bodies, Desk1} = zulayefi_desk:answered(Port, Number, Desk),
+    {{replied, What, Reply}, lists:foldl(fun give/2, Run#run{desk = Desk1}, Bodies)};
+said({has_ended, {_, Port, Number}}, #run{desk = Desk} = Run) -> {{has_ended, zulayefi_desk:what(Port, Number, Desk)}, Run};
+said(Notice, Run) -> {{stop, Notice}, Run}.
+
+%% ---- time
+
+%% @doc Each two milliseconds where something is open or waits: a tick, and what waits is tried again.
+-spec beat(run()) -> run().
+beat(#run{program = Program, desk = Desk} = Run) ->
+    Run1 = Run#run{program = zulayefi_port:again(Program)},
+    case zulayefi_desk:open(Desk) > 0 andalso zulayefi_port:is_idle(Run1#run.program) of
+        true -> give(<<?TICK>>, Run1);
+        false -> Run1
+    end.
+
+-spec is_idle(run()) -> boolean().
+is_idle(#run{program = Program, desk = Desk}) -> zulayefi_desk:open(Desk) =:= 0 andalso zulayefi_port:is_idle(Program).
+
+%% @doc Each second. The clock is asked for from time to time; a program that says nothing for long while it is asked for hangs.
+-spec second(run()) -> {ok | hangs, run()}.
+second(#run{asks_clock = true, heard = false, silent = Silent} = Run) ->
+    State = case Silent + 1 >= zulayefi_app:parameter(seconds_of_silence) of
+        true -> hangs;
+        false -> ok
+    end,
+    {State, Run#run{silent = Silent + 1}};
+second(#run{asks_clock = false, seconds = Seconds} = Run) when Seconds >= ?SECONDS_BETWEEN_CLOCKS ->
+    {ok, give(<<?CLOCK>>, Run#run{asks_clock = true, heard = false, silent = 0, seconds = 0})};
+second(#run{seconds = Seconds} = Run) -> {ok, Run#run{heard = false, silent = 0, seconds = Seconds + 1}}.
+
+-spec is_of(port(), run() | none) -> boolean().
+is_of(_, none) -> false;
+is_of(Port, #run{program = Program}) -> zulayefi_port:is_of(Port, Program).
+
+%% ---- for whoever looks
+
+-spec os_pid(run()) -> pos_integer() | none.
+os_pid(#run{program = Program}) -> zulayefi_port:os_pid(Program).
+
+%% @doc How many bodies wait for a busy port.
+-spec waiting(run()) -> non_neg_integer().
+waiting(#run{program = Program}) -> zulayefi_port:waiting(Program).
+
+%% @doc How many requests are open.
+-spec open(run()) -> non_neg_integer().
+open(#run{desk = Desk}) -> zulayefi_desk:open(Desk).
