@@ -4,7 +4,7 @@
 -export([all/0]).
 -export([answers/1, names/1, start_refused/1, seen_everywhere/1, ends/1, others_processes/1, node_dies/1, program_dies/1, server_dies/1, parted/1, callers_wait/1,
     hanging_program/1, set_full/1, system_limit/1, new_name/1, recorded/1, notices/1, same_as_former/1, workers/1]).
--import(zulayefi_cluster, [with/2, with/3, boot/2, connect/1, formed/1, is_formed/2, call/4, stop/1, kill/1, signal/2, kill_program/1, kill_server/1, part/2, soon/1,
+-import(zulayefi_cluster, [with/2, with/3, with_nodes/3, boot/2, connect/1, formed/1, is_formed/2, call/4, stop/1, kill/1, signal/2, kill_program/1, kill_server/1, part/2, soon/1,
     members_everywhere/2, holder/1, holders/2, program/1]).
 
 all() ->
@@ -136,7 +136,7 @@ others_processes(_) ->
         ok = call(One, pg2, create, [g]),
         Dead = call(Two, erlang, spawn, [erlang, self, []]),
         Earlier = binary_to_term(<<131, 88, 119, (byte_size(atom_to_binary(Name))), (atom_to_binary(Name))/binary, 90:32, 0:32, 7:32>>),
-        Gone = binary_to_term(<<131, 88, 119, 11, "gone@nowhere", 90:32, 0:32, 7:32>>),
+        Gone = binary_to_term(<<131, 88, 119, 12, "gone@nowhere", 90:32, 0:32, 7:32>>),
         Long = binary_to_term(<<131, 88, 119, (byte_size(atom_to_binary(Name))), (atom_to_binary(Name))/binary, 0:32, 8192:32, 7:32>>),
         [ok = call(Node, pg2, Word, [g, Pid]) || Word <- [join, leave], Pid <- [Dead, Earlier, Gone], Node <- [One, Two]],
         [[]] = members_everywhere([One, Two], g),
@@ -265,9 +265,7 @@ hanging_program(_) ->
 
 %% A node beyond the most is outside, until another goes.
 set_full(_) ->
-    Nodes = boot([list_to_atom(lists:concat([Letter, "_", os:getpid(), "_", erlang:unique_integer([positive])])) || Letter <- [a, b, c]], [{set_size, 2}]),
-    try
-        [A, B, {_, Name} = C] = Nodes,
+    with_nodes([zulayefi_cluster:name(I) || I <- [1, 2, 3]], [{set_size, 2}], fun([A, B, {_, Name} = C] = Nodes) ->
         ok = call(C, pg2, create, [of_c]),
         Pid = holder(C),
         ok = call(C, pg2, join, [of_c, Pid]),
@@ -285,9 +283,7 @@ set_full(_) ->
         ok = call(A, pg2, join, [g, Pid]),
         [[Pid]] = members_everywhere([A, C], g),
         ok
-    after
-        [stop(Node) || Node <- Nodes]
-    end.
+    end).
 
 %% Names and memberships that would not fit an exchange are refused.
 system_limit(_) ->
@@ -317,22 +313,19 @@ joined(Node, Pid, Count) ->
 
 %% A node without a name is a set of one. Once it has one it begins anew, with its groups and members.
 new_name(_) ->
-    with(1, fun([{_, Old} = Node]) ->
-        ok = call(Node, pg2, create, [g]),
-        Pid = holder(Node),
-        ok = call(Node, net_kernel, stop, []),
-        ok = call(Node, pg2, join, [g, call(Node, erlang, list_to_pid, [local_text(Pid)])]),
+    with_nodes([none], [], fun([Node]) ->
         'nonode@nohost' = maps:get(node, call(Node, zulayefi, info, [])),
-        {ok, _} = call(Node, net_kernel, start, [[list_to_atom(hd(string:lexemes(atom_to_list(Old), "@"))), shortnames]]),
-        ok = call(Node, pg2, create, [h]),
-        soon(fun() -> is_formed([Node], [Old]) end),
-        1 = length(call(Node, pg2, get_local_members, [g])),
-        ok
+        ok = call(Node, erlang, apply, [fun() ->
+            ok = pg2:create(g),
+            Pid = spawn(zulayefi_cluster, hold, []),
+            [ok = pg2:join(Name, Pid) || Name <- [g, g]],
+            {ok, _} = net_kernel:start([zulayefi_cluster:name(1), shortnames]),
+            ok = pg2:join(g, Pid),
+            [Pid, Pid, Pid] = pg2:get_local_members(g),
+            ok
+        end, []]),
+        soon(fun() -> is_formed([Node], [call(Node, erlang, node, [])]) end)
     end).
-
-local_text(Pid) ->
-    [_, Rest] = string:split(pid_to_list(Pid), "."),
-    "<0." ++ Rest.
 
 %% Each program of the set records, from the next generation on, until that is ended or a file is full.
 recorded(_) ->

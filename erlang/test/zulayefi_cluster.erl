@@ -1,17 +1,23 @@
 %% Clusters of nodes on this machine for tests. Their standard input and output control them, so they also answer where they are connected to nobody, and
 %% end with this node.
 -module(zulayefi_cluster).
--export([with/2, with/3, boot/2, connect/1, formed/1, is_formed/2, call/4, call/5, stop/1, kill/1, signal/2, kill_program/1, kill_server/1, part/2, soon/1, soon/2]).
+-export([with/2, with/3, with_nodes/3, boot/2, connect/1, formed/1, is_formed/2, call/4, call/5, stop/1, kill/1, signal/2, kill_program/1, kill_server/1, part/2, soon/1, soon/2]).
 -export([members_everywhere/2, tables/1, table/0, holder/1, hold/0, holders/2, program/1, name/1]).
 
 %% Runs a test in a cluster of so many nodes, or in one of the nodes with these parameters.
 with(Number, Test) -> with(Number, [], Test).
 
 with(Number, Parameters, Test) ->
-    Nodes = boot([name(I) || I <- lists:seq(1, Number)], Parameters),
-    try
+    with_nodes([name(I) || I <- lists:seq(1, Number)], Parameters, fun(Nodes) ->
         connect(Nodes),
         formed(Nodes),
+        Test(Nodes)
+    end).
+
+%% Runs a test with nodes that are not connected. One without a name is told so by `none'.
+with_nodes(Names, Parameters, Test) ->
+    Nodes = boot(Names, Parameters),
+    try
         Test(Nodes)
     after
         [stop(Node) || Node <- Nodes]
@@ -30,8 +36,12 @@ started(Name, Parameters) ->
     {Application, Others} = lists:partition(fun({Key, _}) -> is_atom(Key) end, Parameters),
     Words = lists:append([["-zulayefi", atom_to_list(Key), lists:flatten(io_lib:format("~0p", [Value]))] || {Key, Value} <- Application])
         ++ lists:append([[Key | Value] || {Key, Value} <- Others]),
-    {ok, Peer, Node} = peer:start(#{name => Name, connection => standard_io, peer_down => continue, wait_boot => 60000,
-        args => Paths ++ ["+S", "2:2", "+sbwt", "none", "+sbwtdcpu", "none", "+sbwtdio", "none", "-kernel", "logger_level", "emergency"] ++ Words}),
+    Options = #{connection => standard_io, peer_down => continue, wait_boot => 60000,
+        args => Paths ++ ["+S", "2:2", "+sbwt", "none", "+sbwtdcpu", "none", "+sbwtdio", "none", "-kernel", "logger_level", "emergency"] ++ Words},
+    {Peer, Node} = case Name of
+        none -> {ok, Started, _} = peer:start(Options), {Started, none};
+        _ -> {ok, Started, Full} = peer:start(Options#{name => Name}), {Started, Full}
+    end,
     {ok, _} = peer:call(Peer, application, ensure_all_started, [zulayefi], 60000),
     {Peer, Node}.
 

@@ -1,7 +1,7 @@
 %% Load for tests: workers that change groups and know what has to come of it, and a comparison with the former pg2.
 -module(zulayefi_load).
 -compile({nowarn_removed, [pg2]}).
--export([faults/2, start/4, results/1, judge/2, differences/2, worker/5]).
+-export([faults/2, start/4, results/1, judge/3, differences/2, worker/5]).
 
 -record(worker, {
     id :: term(),
@@ -22,7 +22,7 @@
 
 %% What is wrong after so many milliseconds of three workers at each node.
 faults(Nodes, Ms) ->
-    judge(Nodes, results(start(Nodes, [1, 2, 3], Ms, [Node || {_, Node} <- Nodes]))).
+    judge(Nodes, results(start(Nodes, [1, 2, 3], Ms, [Node || {_, Node} <- Nodes])), false).
 
 %% Starts workers at nodes; those at `readers' see what is answered at once.
 start(Nodes, Ids, Ms, Readers) ->
@@ -40,8 +40,9 @@ groups() -> [{common, I} || I <- lists:seq(1, 4)].
 %% What became of each worker, with its node.
 results(Started) -> [{Node, receive {Ref, Result} -> Result after 160000 -> late end} || {Ref, Node} <- Started].
 
-%% What is wrong with the tables of nodes that are at rest, by what the workers know that have ended there.
-judge(Nodes, Results) ->
+%% What is wrong with the tables of nodes that are at rest, by what the workers know that have ended there. Where nodes have parted, a group that was deleted at
+%% one side may be back with the other, and its members of before.
+judge(Nodes, Results, MayReturn) ->
     [Table | _] = Tables = zulayefi_cluster:tables(Nodes),
     Names = [Node || {_, Node} <- Nodes],
     Ended = [Worker || {Node, #worker{} = Worker} <- Results, lists:member(Node, Names)],
@@ -50,10 +51,13 @@ judge(Nodes, Results) ->
     Living = lists:append([Worker#worker.pids || Worker <- Ended]),
     Failed
         ++ [{tables_differ, Tables} || length(lists:usort(Tables)) > 1]
-        ++ [{count, Name, Pid, wanted, Count, found, count(Name, Pid, Table)} || {{Name, Pid}, Count} <- maps:to_list(Counts), count(Name, Pid, Table) =/= Count]
+        ++ [{count, Name, Pid, wanted, Count, found, count(Name, Pid, Table)} || {{Name, Pid}, Count} <- maps:to_list(Counts), count(Name, Pid, Table) =/= Count,
+            not (MayReturn andalso Count =:= 0 andalso element(1, Name) =:= own)]
         ++ [{no_living_member, Name, Pid} || {Name, Members} <- Table, Pid <- lists:usort(Members), not lists:member(Pid, Living)]
-        ++ [{unwanted, Name, Pid} || {{Kind, _} = Name, Members} <- Table, Kind =/= shared, Pid <- lists:usort(Members), not is_map_key({Name, Pid}, Counts)]
-        ++ [{group, Name, wanted, Wanted} || Worker <- Ended, {Name, Wanted} <- maps:to_list(Worker#worker.own), Wanted =/= unknown, (Wanted =:= yes) =/= lists:keymember(Name, 1, Table)]
+        ++ [{unwanted, Name, Pid} || {{Kind, _} = Name, Members} <- Table, Kind =/= shared, not (MayReturn andalso Kind =:= own), Pid <- lists:usort(Members),
+            not is_map_key({Name, Pid}, Counts)]
+        ++ [{group, Name, wanted, Wanted} || Worker <- Ended, {Name, Wanted} <- maps:to_list(Worker#worker.own), Wanted =/= unknown,
+            not (MayReturn andalso Wanted =:= no), (Wanted =:= yes) =/= lists:keymember(Name, 1, Table)]
         ++ lists:append([Worker#worker.faults || Worker <- Ended]).
 
 count(Name, Pid, Table) ->

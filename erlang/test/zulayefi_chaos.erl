@@ -1,0 +1,101 @@
+%% Clusters under load whose nodes, programs and servers are killed by chance. In the end the tables have to be the same, and as the workers know.
+-module(zulayefi_chaos).
+-export([run/1]).
+-import(zulayefi_cluster, [boot/2, connect/1, formed/1, call/4, stop/1, kill/1, signal/2, program/1, kill_program/1, kill_server/1, part/2, soon/1]).
+
+-define(WORK_MS, 2500).
+
+-record(chaos, {alive :: [{pid(), node()}], dead = [] :: [node()], started = [] :: [term()], done = [] :: [term()]}).
+
+%% Runs clusters until so many seconds are over; gives how many there were, and the faults that they left.
+run(Seconds) -> run(erlang:monotonic_time(second) + Seconds, 1, []).
+
+run(Until, Round, Failed) ->
+    case erlang:monotonic_time(second) >= Until of
+        true -> {Round - 1, lists:reverse(Failed)};
+        false ->
+            rand:seed(exsss, {Round, 3, 7}),
+            case round(Round, one_of([gentle, parting])) of
+                [] -> run(Until, Round + 1, Failed);
+                Faults -> run(Until, Round + 1, [{Round, Faults} | Failed])
+            end
+    end.
+
+%% Where no node parts from another, what was answered is seen at once by all that are left. A group that one side has deleted may come back with another.
+kinds(gentle) -> [kill, program, program, stopped_program];
+kinds(parting) -> [kill, program, server, part, blink, come, back, hang].
+
+round(Round, Way) ->
+    Nodes = boot([zulayefi_cluster:name(I) || I <- lists:seq(1, 2 + rand:uniform(3))], parameters()),
+    connect(Nodes),
+    formed(Nodes),
+    Readers = case Way of
+        gentle -> [Name || {_, Name} <- Nodes];
+        parting -> []
+    end,
+    Chaos = faults(rand:uniform(4), Way, #chaos{alive = Nodes, started = zulayefi_load:start(Nodes, [1, 2, 3], ?WORK_MS, Readers)}),
+    Faults = try judged(Way, Chaos)
+    catch Class:Reason:Trace -> [{Class, Reason, Trace, [catch call(Node, zulayefi, info, []) || Node <- Chaos#chaos.alive]}]
+    end,
+    io:format("~b ~ts, ~b nodes: ~0tp: ~ts~n", [Round, Way, length(Nodes), lists:reverse(Chaos#chaos.done), case Faults of [] -> "ok"; _ -> io_lib:format("~0tp", [Faults]) end]),
+    [stop(Node) || Node <- Chaos#chaos.alive],
+    Faults.
+
+parameters() -> [{seconds_of_silence, 2}, {"-kernel", ["net_ticktime", "8"]}].
+
+judged(Way, #chaos{alive = Alive, started = Started}) ->
+    Results = zulayefi_load:results(Started),
+    soon(fun() -> connect(Alive) =/= [] orelse true end),
+    formed(Alive),
+    soon(fun() -> lists:all(fun(Node) -> maps:get(open, call(Node, zulayefi, info, [])) =:= 0 end, Alive) end),
+    soon(fun() -> length(lists:usort(zulayefi_cluster:tables(Alive))) =:= 1 end),
+    zulayefi_load:judge(Alive, Results, Way =:= parting).
+
+faults(0, _, Chaos) -> Chaos;
+faults(Left, Way, Chaos) ->
+    timer:sleep(one_of([0, rand:uniform(60), rand:uniform(800)])),
+    Kind = one_of(kinds(Way)),
+    faults(Left - 1, Way, (fault(Kind, Chaos))#chaos{done = [Kind | Chaos#chaos.done]}).
+
+fault(kill, #chaos{alive = [_, _ | _] = Alive, dead = Dead} = Chaos) ->
+    {_, Name} = Node = one_of(Alive),
+    kill(Node),
+    Chaos#chaos{alive = Alive -- [Node], dead = [Name | Dead]};
+fault(program, Chaos) -> at_one(fun(Node) -> kill_program(Node) end, Chaos);
+fault(stopped_program, Chaos) -> at_one(fun(Node) -> signal("STOP", program(Node)) end, Chaos);
+fault(server, Chaos) -> at_one(fun(Node) -> kill_server(Node) end, Chaos);
+fault(hang, Chaos) ->
+    at_one(fun(Node) ->
+        OsPid = call(Node, os, getpid, []),
+        signal("STOP", OsPid),
+        timer:sleep(one_of([500, 2000, 10000])),
+        signal("CONT", OsPid)
+    end, Chaos);
+fault(part, #chaos{alive = [_, _ | _] = Alive} = Chaos) ->
+    [One, Other] = two_of(Alive),
+    part(One, Other),
+    Chaos;
+fault(blink, #chaos{alive = [_, _ | _] = Alive} = Chaos) ->
+    [One, {_, Name} = Other] = two_of(Alive),
+    part(One, Other),
+    call(One, net_adm, ping, [Name]),
+    Chaos;
+fault(come, Chaos) -> come(zulayefi_cluster:name(9), Chaos);
+fault(back, #chaos{dead = [Name | Dead]} = Chaos) -> come(list_to_atom(hd(string:lexemes(atom_to_list(Name), "@"))), Chaos#chaos{dead = Dead});
+fault(_, Chaos) -> Chaos.
+
+at_one(Fault, #chaos{alive = Alive} = Chaos) ->
+    catch Fault(one_of(Alive)),
+    Chaos.
+
+%% A node comes, and works too.
+come(Name, #chaos{alive = Alive, started = Started} = Chaos) ->
+    [Node] = boot([Name], parameters()),
+    [call(Node, net_adm, ping, [Other]) || {_, Other} <- Alive],
+    Chaos#chaos{alive = [Node | Alive], started = zulayefi_load:start([Node], [4], ?WORK_MS div 2, []) ++ Started}.
+
+two_of(List) ->
+    One = one_of(List),
+    [One, one_of(List -- [One])].
+
+one_of(List) -> lists:nth(rand:uniform(length(List)), List).
