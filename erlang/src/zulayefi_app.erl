@@ -9,7 +9,7 @@ start(_, _) ->
     case {zulayefi_port:check(), file:read_file(File)} of
         {{ok, _}, {ok, Code}} ->
             Started = zulayefi_sup:start_link(),
-            put_in_place(File, Code),
+            ok = put_in_place(File, Code),
             Started;
         {{ok, _}, {error, Reason}} -> {error, {Reason, File}};
         {Error, _} -> Error
@@ -19,7 +19,8 @@ start(_, _) ->
 put_in_place(File, Code) ->
     _ = code:unstick_mod(pg2),
     _ = code:purge(pg2),
-    {module, pg2} = code:load_binary(pg2, File, Code).
+    {module, pg2} = code:load_binary(pg2, File, Code),
+    ok.
 
 stop(_) -> ok.
 

@@ -2,7 +2,8 @@
 -type status() :: waits | given | begun | over.
 
 -record(change, {
-    from :: gen_server:from(),
+    %% (undefined until the server has it)
+    from :: gen_server:from() | undefined,
     word :: create | delete | join | leave,
     name :: term(),
     wrapped :: zulayefi_term:wrapped(),

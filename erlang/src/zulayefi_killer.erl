@@ -62,7 +62,9 @@ keep(Programs) ->
 
 kill(OsPid, Began) ->
     case Began =/= none andalso began(OsPid) =:= Began of
-        true -> os:cmd("kill -9 " ++ integer_to_list(OsPid)), ok;
+        true ->
+            _ = os:cmd("kill -9 " ++ integer_to_list(OsPid)),
+            ok;
         false -> ok
     end.
 

@@ -22,7 +22,7 @@
     view :: zulayefi_view:view(),
     links = zulayefi_links:new() :: zulayefi_links:links(),
     %% what all others were told last
-    said :: zulayefi_view:told() | undefined,
+    said :: {state, zulayefi_view:generation(), zulayefi_view:stage(), [pid()]} | undefined,
 
     %% the greatest generation that was heard of, its set and where it is recorded; its run, where this node's program runs
     generation = zulayefi_view:first() :: zulayefi_view:generation(),

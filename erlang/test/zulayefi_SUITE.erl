@@ -124,9 +124,13 @@ ends(_) ->
         ok = call(One, pg2, join, [g, B]),
         ok = call(One, pg2, delete, [g]),
         soon(fun() -> maps:get(watched, call(Two, zulayefi, info, [])) =:= 0 end),
-        Many = holders(One, 1500),
-        [ok = call(One, pg2, join, [h, Pid]) || Pid <- Many],
-        [call(One, erlang, exit, [Pid, kill]) || Pid <- Many],
+        %% more at once than a port of the program takes
+        ok = call(One, erlang, apply, [fun() ->
+            Many = [spawn(zulayefi_cluster, hold, []) || _ <- lists:seq(1, 1200)],
+            [ok = pg2:join(h, Pid) || Pid <- Many],
+            [exit(Pid, kill) || Pid <- Many],
+            ok
+        end, []]),
         soon(fun() -> members_everywhere(Nodes, h) =:= [[]] end)
     end).
 
