@@ -1,10 +1,10 @@
 #!/usr/bin/env escript
-%% The folder of the beams, and for how many seconds clusters are disturbed.
+%% The folder of the beams, for how many seconds clusters are disturbed, and the seed of the first.
 -mode(compile).
 
-main([Folder, Seconds]) ->
+main([Folder, Seconds, Seed]) ->
     [true = code:add_patha(filename:join(Folder, Part)) || Part <- ["ebin", "test"]],
     logger:set_primary_config(level, critical),
-    {Rounds, Failed} = zulayefi_chaos:run(list_to_integer(Seconds)),
-    io:format("~b rounds, ~b failed~n", [Rounds, length(Failed)]),
+    {Rounds, Failed} = zulayefi_chaos:run(list_to_integer(Seconds), list_to_integer(Seed)),
+    io:format("~b clusters, ~b failed~s~n", [Rounds, length(Failed), [[", seed ", integer_to_list(Each)] || Each <- Failed]]),
     halt(case Failed of [] -> 0; _ -> 1 end).

@@ -2,13 +2,13 @@
 -module(zulayefi_SUITE).
 -compile({nowarn_removed, [pg2]}).
 -export([all/0]).
--export([answers/1, names/1, start_refused/1, seen_everywhere/1, ends/1, others_processes/1, node_dies/1, program_dies/1, server_dies/1, parted/1, callers_wait/1,
+-export([answers/1, names/1, start_refused/1, found/1, seen_everywhere/1, ends/1, others_processes/1, node_dies/1, program_dies/1, server_dies/1, parted/1, callers_wait/1,
     hanging_program/1, set_full/1, system_limit/1, new_name/1, recorded/1, notices/1, same_as_former/1, workers/1]).
 -import(zulayefi_cluster, [with/2, with/3, with_nodes/3, boot/2, connect/1, formed/1, is_formed/2, call/4, stop/1, kill/1, signal/2, kill_program/1, kill_server/1, part/2, soon/1,
     members_everywhere/2, holder/1, holders/2, program/1]).
 
 all() ->
-    [answers, names, start_refused, seen_everywhere, ends, others_processes, node_dies, program_dies, server_dies, parted, callers_wait, hanging_program, set_full,
+    [answers, names, start_refused, found, seen_everywhere, ends, others_processes, node_dies, program_dies, server_dies, parted, callers_wait, hanging_program, set_full,
      system_limit, new_name, recorded, notices, same_as_former, workers].
 
 %% The manual's answers, at a node alone.
@@ -87,6 +87,37 @@ refused(Node, Program, Reason) ->
     _ = call(Node, zulayefi, stop, []),
     ok = call(Node, application, set_env, [zulayefi, program, Program]),
     {error, {zulayefi, {Reason, _}}} = call(Node, application, ensure_all_started, [zulayefi]).
+
+%% However a node finds the application, pg2 comes into the place of kernel's module, also where that was loaded, and in a release.
+found(_) ->
+    Ebin = filename:absname(filename:dirname(code:which(zulayefi_server))),
+    Folder = string:trim(os:cmd("mktemp -d")),
+    try
+        ok = file:make_symlink(filename:dirname(Ebin), filename:join(Folder, "zulayefi")),
+        ok = file:write_file(filename:join(Folder, "tried.rel"), io_lib:format("~tp.~n", [release()])),
+        ok = systools:make_script(filename:join(Folder, "tried"), [local, no_warn_sasl, {path, [Ebin]}]),
+        Used = "ok = pg2:create(g), [g] = pg2:which_groups(), ",
+        Started = "{ok, _} = application:ensure_all_started(zulayefi), ",
+        Empty = "undef = try pg2:create(g) catch error:Reason -> Reason end, ",
+        [{Way, "held"} = {Way, os:cmd(lists:concat(["cd ", Folder, "; ", Way, " -noshell -kernel logger_level error -eval '", Text, "io:put_chars(\"held\"), halt().'"]))}
+            || {Way, Text} <- [
+                {"erl -pa " ++ Ebin, Started ++ Used},
+                {"erl -pa " ++ Ebin, Empty ++ Started ++ Used},
+                {"ERL_LIBS=" ++ Folder ++ " erl", Empty ++ Started ++ Used},
+                {"erl -mode embedded -boot tried", Used}
+            ]],
+        ok
+    after
+        file:del_dir_r(Folder)
+    end.
+
+release() ->
+    Version = fun(Application) ->
+        _ = application:load(Application),
+        {ok, Text} = application:get_key(Application, vsn),
+        {Application, Text}
+    end,
+    {release, {"tried", "1"}, {erts, erlang:system_info(version)}, [Version(Application) || Application <- [kernel, stdlib, zulayefi]]}.
 
 %% What is answered anywhere is seen everywhere.
 seen_everywhere(_) ->

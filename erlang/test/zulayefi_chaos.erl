@@ -1,23 +1,23 @@
 %% Clusters under load whose nodes, programs and servers are killed by chance. In the end the tables have to be the same, and as the workers know.
 -module(zulayefi_chaos).
--export([run/1]).
+-export([run/2]).
 -import(zulayefi_cluster, [boot/2, connect/1, formed/1, call/4, stop/1, kill/1, signal/2, program/1, kill_program/1, kill_server/1, part/2, soon/1]).
 
 -define(WORK_MS, 2500).
 
 -record(chaos, {alive :: [{pid(), node()}], dead = [] :: [node()], started = [] :: [term()], done = [] :: [term()]}).
 
-%% Runs clusters until so many seconds are over; gives how many there were, and the faults that they left.
-run(Seconds) -> run(erlang:monotonic_time(second) + Seconds, 1, []).
+%% Runs clusters until so many seconds are over, each by a seed of its own, from this one on; gives how many there were, and the seeds of those that failed.
+run(Seconds, Seed) -> run(erlang:monotonic_time(second) + Seconds, Seed, 0, []).
 
-run(Until, Round, Failed) ->
+run(Until, Seed, Rounds, Failed) ->
     case erlang:monotonic_time(second) >= Until of
-        true -> {Round - 1, lists:reverse(Failed)};
+        true -> {Rounds, lists:reverse(Failed)};
         false ->
-            rand:seed(exsss, {Round, 3, 7}),
-            case round(Round, one_of([gentle, parting])) of
-                [] -> run(Until, Round + 1, Failed);
-                Faults -> run(Until, Round + 1, [{Round, Faults} | Failed])
+            rand:seed(exsss, {Seed, 3, 7}),
+            case round(Seed, one_of([gentle, parting])) of
+                [] -> run(Until, Seed + 1, Rounds + 1, Failed);
+                _ -> run(Until, Seed + 1, Rounds + 1, [Seed | Failed])
             end
     end.
 
@@ -25,7 +25,7 @@ run(Until, Round, Failed) ->
 kinds(gentle) -> [kill, program, program, stopped_program];
 kinds(parting) -> [kill, program, server, part, blink, come, back, hang].
 
-round(Round, Way) ->
+round(Seed, Way) ->
     Nodes = boot([zulayefi_cluster:name(I) || I <- lists:seq(1, 2 + rand:uniform(3))], parameters()),
     connect(Nodes),
     formed(Nodes),
@@ -37,7 +37,7 @@ round(Round, Way) ->
     Faults = try judged(Way, Chaos)
     catch Class:Reason:Trace -> [{Class, Reason, Trace, [catch call(Node, zulayefi, info, []) || Node <- Chaos#chaos.alive]}]
     end,
-    io:format("~b ~ts, ~b nodes: ~0tp: ~ts~n", [Round, Way, length(Nodes), lists:reverse(Chaos#chaos.done), case Faults of [] -> "ok"; _ -> io_lib:format("~0tp", [Faults]) end]),
+    io:format("~b ~ts, ~b nodes: ~0tp: ~ts~n", [Seed, Way, length(Nodes), lists:reverse(Chaos#chaos.done), case Faults of [] -> "ok"; _ -> io_lib:format("~0tp", [Faults]) end]),
     [stop(Node) || Node <- Chaos#chaos.alive],
     Faults.
 
