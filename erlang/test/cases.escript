@@ -1,12 +1,13 @@
 #!/usr/bin/env escript
-%% Runs cases of the suite where there is no Common Test: the folders of the beams, then the names of cases, or none for all. A line for each.
+%% Runs cases of the suite without Common Test: the folder of the beams, then the names of cases; none for the short ones, `all' for all. A line for each.
 -mode(compile).
 
 main([Folder | Words]) ->
     [true = code:add_patha(filename:join(Folder, Part)) || Part <- ["ebin", "test"]],
     logger:set_primary_config(level, error),
     Cases = case Words of
-        [] -> zulayefi_SUITE:all();
+        [] -> zulayefi_SUITE:short();
+        ["all"] -> zulayefi_SUITE:all();
         _ -> [list_to_atom(Word) || Word <- Words]
     end,
     Failed = [Case || Case <- Cases, not holds(Case)],

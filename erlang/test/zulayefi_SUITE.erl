@@ -1,13 +1,17 @@
 %% The cases of the application: a suite of Common Test, which the script beside it also runs where there is none.
 -module(zulayefi_SUITE).
 -compile({nowarn_removed, [pg2]}).
--export([all/0]).
+-export([all/0, short/0]).
 -export([answers/1, names/1, start_refused/1, found/1, seen_everywhere/1, ends/1, others_processes/1, node_dies/1, program_dies/1, server_dies/1, parted/1, callers_wait/1,
-    hanging_program/1, set_full/1, system_limit/1, new_name/1, recorded/1, notices/1, same_as_former/1, workers/1]).
+    hanging_program/1, set_full/1, system_limit/1, new_name/1, recorded/1, notices/1, same_as_former/1, workers/1,
+    same_for_long/1, workers_of_five/1, workers_of_eight/1]).
 -import(zulayefi_cluster, [with/2, with/3, with_nodes/3, boot/2, connect/1, formed/1, is_formed/2, call/4, stop/1, kill/1, signal/2, kill_program/1, kill_server/1, part/2, soon/1,
     members_everywhere/2, holder/1, holders/2, program/1]).
 
-all() ->
+all() -> short() ++ [same_for_long, workers_of_five, workers_of_eight].
+
+%% Those that take a minute together.
+short() ->
     [answers, names, start_refused, found, seen_everywhere, ends, others_processes, node_dies, program_dies, server_dies, parted, callers_wait, hanging_program, set_full,
      system_limit, new_name, recorded, notices, same_as_former, workers].
 
@@ -413,13 +417,19 @@ say(Notice) ->
     Server ! {Port, {data, term_to_binary(Notice)}}.
 
 %% The former pg2 says the same to calls one after another.
-same_as_former(_) ->
+same_as_former(_) -> same(400).
+same_for_long(_) -> same(10000).
+
+same(Calls) ->
     with(3, fun(Nodes) ->
         [{ok, _} = call(Node, former_pg2, start, []) || Node <- Nodes],
-        0 = zulayefi_load:differences(Nodes, 400),
+        0 = zulayefi_load:differences(Nodes, Calls),
         ok
     end).
 
 %% Workers change groups of all nodes at once: what is answered is seen by a read at another node, and in the end the tables are as each worker knows.
-workers(_) ->
-    with(3, fun(Nodes) -> [] = zulayefi_load:faults(Nodes, 2000) end).
+workers(_) -> workers(3, 2000).
+workers_of_five(_) -> workers(5, 5000).
+workers_of_eight(_) -> workers(8, 5000).
+
+workers(Number, Ms) -> with(Number, fun(Nodes) -> [] = zulayefi_load:faults(Nodes, Ms) end).
