@@ -57,10 +57,10 @@ faults(Left, Way, Chaos) ->
     Kind = one_of(kinds(Way)),
     faults(Left - 1, Way, (fault(Kind, Chaos))#chaos{done = [Kind | Chaos#chaos.done]}).
 
-fault(kill, #chaos{alive = [_, _ | _] = Alive, dead = Dead} = Chaos) ->
+fault(kill, #chaos{alive = [_, _ | _] = Alive, dead = Dead, started = Started} = Chaos) ->
     {_, Name} = Node = one_of(Alive),
     kill(Node),
-    Chaos#chaos{alive = Alive -- [Node], dead = [Name | Dead]};
+    Chaos#chaos{alive = Alive -- [Node], dead = [Name | Dead], started = [Each || {_, At} = Each <- Started, At =/= Name]};
 fault(program, Chaos) -> at_one(fun(Node) -> kill_program(Node) end, Chaos);
 fault(stopped_program, Chaos) -> at_one(fun(Node) -> signal("STOP", program(Node)) end, Chaos);
 fault(server, Chaos) -> at_one(fun(Node) -> kill_server(Node) end, Chaos);
