@@ -96,11 +96,11 @@ waiting(#program{waiting = Waiting}) -> queue:len(Waiting).
 -spec os_pid(program()) -> pos_integer() | none.
 os_pid(#program{os_pid = OsPid}) -> OsPid.
 
-%% @doc Ends it. What was not read of it is void. One that hangs is killed at once, another if it does not end by itself.
+%% @doc Ends it. What was not read of it is void. One that hangs is killed at once, another if it does not end by itself; so closing never waits for long.
 -spec stop(hangs | unneeded, program()) -> ok.
 stop(How, #program{port = Port, os_pid = OsPid}) ->
-    close(Port),
-    zulayefi_killer:stopped(OsPid, How).
+    ok = zulayefi_killer:stopped(OsPid, How),
+    close(Port).
 
 close(Port) ->
     catch port_close(Port),

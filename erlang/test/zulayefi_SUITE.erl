@@ -2,7 +2,7 @@
 -module(zulayefi_SUITE).
 -compile({nowarn_removed, [pg2]}).
 -export([all/0, short/0]).
--export([answers/1, names/1, start_refused/1, found/1, seen_everywhere/1, ends/1, others_processes/1, node_dies/1, program_dies/1, server_dies/1, parted/1, callers_wait/1,
+-export([answers/1, names/1, start_refused/1, found/1, seen_everywhere/1, ends/1, others_processes/1, node_dies/1, program_dies/1, server_dies/1, parted/1, partial_mesh/1, first_call/1, callers_wait/1,
     hanging_program/1, set_full/1, system_limit/1, new_name/1, recorded/1, notices/1, same_as_former/1, workers/1,
     same_for_long/1, workers_of_five/1, workers_of_eight/1]).
 -import(zulayefi_cluster, [with/2, with/3, with_nodes/3, boot/2, connect/1, formed/1, is_formed/2, call/4, stop/1, kill/1, signal/2, kill_program/1, kill_server/1, part/2, soon/1,
@@ -12,7 +12,7 @@ all() -> short() ++ [same_for_long, workers_of_five, workers_of_eight].
 
 %% Those that take a minute together.
 short() ->
-    [answers, names, start_refused, found, seen_everywhere, ends, others_processes, node_dies, program_dies, server_dies, parted, callers_wait, hanging_program, set_full,
+    [answers, names, start_refused, found, seen_everywhere, ends, others_processes, node_dies, program_dies, server_dies, parted, partial_mesh, first_call, callers_wait, hanging_program, set_full,
      system_limit, new_name, recorded, notices, same_as_former, workers].
 
 %% The manual's answers, at a node alone.
@@ -272,6 +272,27 @@ parted(_) ->
         formed(Nodes),
         Both = lists:sort([A, B]),
         [Both] = members_everywhere(Nodes, h),
+        ok
+    end).
+
+%% Two nodes of three see each other no more: the third has the one connect the other.
+partial_mesh(_) ->
+    with(3, [{"-kernel", ["prevent_overlapping_partitions", "false"]}], fun([One, Two, Three] = Nodes) ->
+        part(One, Two),
+        ok = call(Three, pg2, create, [g]),
+        formed(Nodes),
+        [[g]] = lists:usort([call(Node, pg2, which_groups, []) || Node <- Nodes]),
+        ok
+    end).
+
+%% A node that starts among others answers nothing from a set of its own.
+first_call(_) ->
+    with(2, fun([One, Two] = Nodes) ->
+        ok = call(One, pg2, create, [g]),
+        ok = call(Two, zulayefi, stop, []),
+        Pid = holder(Two),
+        ok = call(Two, erlang, apply, [fun() -> {ok, _} = application:ensure_all_started(zulayefi), pg2:join(g, Pid) end, []]),
+        [[Pid]] = members_everywhere(Nodes, g),
         ok
     end).
 

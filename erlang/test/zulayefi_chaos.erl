@@ -5,7 +5,8 @@
 
 -define(WORK_MS, 2500).
 
--record(chaos, {alive :: [{pid(), node()}], dead = [] :: [node()], started = [] :: [term()], done = [] :: [term()]}).
+%% (programs that were stopped end with their server, but not where its node is killed before: they go on in the end, and then end)
+-record(chaos, {alive :: [{pid(), node()}], dead = [] :: [node()], stopped = [] :: [pos_integer()], started = [] :: [term()], done = [] :: [term()]}).
 
 %% Runs clusters until so many seconds are over, each by a seed of its own, from this one on; gives how many there were, and the seeds of those that failed.
 run(Seconds, Seed) -> run(erlang:monotonic_time(second) + Seconds, Seed, 0, []).
@@ -39,6 +40,7 @@ round(Seed, Way) ->
     end,
     io:format("~b ~ts, ~b nodes: ~0tp: ~ts~n", [Seed, Way, length(Nodes), lists:reverse(Chaos#chaos.done), case Faults of [] -> "ok"; _ -> io_lib:format("~0tp", [Faults]) end]),
     [stop(Node) || Node <- Chaos#chaos.alive],
+    [signal("CONT", OsPid) || OsPid <- Chaos#chaos.stopped],
     Faults.
 
 parameters() -> [{seconds_of_silence, 2}, {"-kernel", ["net_ticktime", "8"]}].
@@ -62,7 +64,10 @@ fault(kill, #chaos{alive = [_, _ | _] = Alive, dead = Dead, started = Started} =
     kill(Node),
     Chaos#chaos{alive = Alive -- [Node], dead = [Name | Dead], started = [Each || {_, At} = Each <- Started, At =/= Name]};
 fault(program, Chaos) -> at_one(fun(Node) -> kill_program(Node) end, Chaos);
-fault(stopped_program, Chaos) -> at_one(fun(Node) -> signal("STOP", program(Node)) end, Chaos);
+fault(stopped_program, #chaos{alive = Alive, stopped = Stopped} = Chaos) ->
+    OsPid = program(one_of(Alive)),
+    signal("STOP", OsPid),
+    Chaos#chaos{stopped = [OsPid | Stopped]};
 fault(server, Chaos) -> at_one(fun(Node) -> kill_server(Node) end, Chaos);
 fault(hang, Chaos) ->
     at_one(fun(Node) ->
