@@ -316,7 +316,7 @@ refused(Notice, S) ->
 
 %% A process joins whose number has ended in this generation. One that lives has a number that came again.
 has_ended(#change{pid = Pid}, S) ->
-    case is_process_alive(Pid) of
+    case is_alive(Pid) of
         true -> consider(stop(number_again, S));
         false -> S
     end.
@@ -402,18 +402,20 @@ next(_, #state{is_formed = false} = S) -> S;
 next(Name, #state{changes = Changes} = S) ->
     case zulayefi_changes:first(Name, Changes) of
         #change{status = waits} = Change ->
-            case is_void(Change) of
+            case is_void(Change, S) of
                 true -> next(Name, answer(Name, void(Name), S));
                 false -> give(Change, S)
             end;
         _ -> S
     end.
 
-%% A process that has ended, maybe in an earlier life of this node, joins and leaves nothing.
-is_void(#change{pid = none}) -> false;
-is_void(#change{pid = Pid}) ->
-    try not is_process_alive(Pid)
-    catch error:badarg -> true
+%% A process that has ended, maybe in an earlier life of this node, joins and leaves nothing. One that is watched has not, as far as is known.
+is_void(#change{pid = none}, _) -> false;
+is_void(#change{pid = Pid}, #state{watch = Watch}) -> not (zulayefi_watch:has(Pid, Watch) orelse is_alive(Pid)).
+
+is_alive(Pid) ->
+    try is_process_alive(Pid)
+    catch error:badarg -> false
     end.
 
 void(Name) ->
