@@ -1,7 +1,7 @@
 %% @doc The program as a port: its start, what it is given, its end. Nothing is given by a call that may suspend: what a busy port does not take
 %% waits here, and is tried again.
 -module(zulayefi_port).
--export([path/0, check/0, start/1, give/2, again/1, is_of/2, is_idle/1, waiting/1, os_pid/1, stop/2, format/0]).
+-export([check/0, start/1, give/2, again/1, is_of/2, is_idle/1, waiting/1, os_pid/1, stop/2, format/0]).
 -export_type([program/0]).
 
 %% The format of bodies that this application knows.
@@ -14,8 +14,7 @@
 -spec format() -> pos_integer().
 format() -> ?FORMAT.
 
-%% @doc The parameter `program', else PG2SIM of the environment, else what stands in priv.
--spec path() -> file:filename().
+%% The parameter `program', else PG2SIM of the environment, else what stands in priv.
 path() ->
     case {application:get_env(zulayefi, program), os:getenv("PG2SIM")} of
         {{ok, Path}, _} -> Path;

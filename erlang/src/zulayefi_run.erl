@@ -1,7 +1,7 @@
 %% @doc One run of the program: this node's part of a generation. It carries the bytes of the others, and says what each body of the program means.
 -module(zulayefi_run).
--export([start/2, bring/2, stop/2, opened/2, lost/2, take/4, denied/3, ask/4, heard/2, beat/1, is_idle/1, second/1, is_of/2]).
--export([os_pid/1, waiting/1, open/1]).
+-export([start/2, bring/2, stop/2, opened/2, take/4, denied/3, ask/4, heard/2, beat/1, is_idle/1, second/1, is_of/2]).
+-export([os_pid/1, waiting/1]).
 -export_type([run/0, event/0]).
 
 %% What the first byte of a body says, below it are places of peers.
@@ -82,10 +82,6 @@ stop(How, #run{program = Program}) -> zulayefi_port:stop(How, Program).
 opened(Pid, #run{places = Places, streams = Streams} = Run) when is_map_key(Pid, Places), not is_map_key(Pid, Streams) ->
     Run#run{streams = Streams#{Pid => 0}};
 opened(_, Run) -> Run.
-
-%% @doc A peer is not heard any more.
--spec lost(pid(), run()) -> run().
-lost(Pid, #run{streams = Streams} = Run) -> Run#run{streams = maps:remove(Pid, Streams)}.
 
 %% @doc Bytes of a peer, with their number.
 -spec take(pid(), non_neg_integer(), binary(), run()) -> {ok, run()} | ignored | gap.
@@ -175,7 +171,3 @@ os_pid(#run{program = Program}) -> zulayefi_port:os_pid(Program).
 %% @doc How many bodies wait for a busy port.
 -spec waiting(run()) -> non_neg_integer().
 waiting(#run{program = Program}) -> zulayefi_port:waiting(Program).
-
-%% @doc How many requests are open.
--spec open(run()) -> non_neg_integer().
-open(#run{desk = Desk}) -> zulayefi_desk:open(Desk).

@@ -365,7 +365,7 @@ formed(#state{rows = Rows, ended = Ended, generation = Generation, stopped_at = 
 tell_formed(#state{generation = Generation, set = Set, pause = Pause, room = Room}) ->
     ?LOG_NOTICE("zulayefi: generation ~b of ~0tp formed after ~b ms", [zulayefi_view:number(Generation), [node(Pid) || Pid <- Set], Pause]),
     zulayefi_room:is_passed(Room) andalso
-        ?LOG_ERROR("zulayefi: the table is larger than what a node can bring: ~0tp; nothing can be added, and the next generation may not form", [zulayefi_room:brought(Room)]).
+        ?LOG_ERROR("zulayefi: the table is larger than what a node can bring, so the next generation may not form; delete groups: ~0tp", [zulayefi_room:brought(Room)]).
 
 %% A process of this node that was watched has ended.
 finish(Pid, #state{is_formed = false, ended = Ended} = S) -> S#state{ended = [Pid | Ended]};

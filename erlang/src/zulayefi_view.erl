@@ -3,8 +3,8 @@
 %% A generation is one run of a program on each node of a set. Generations are ordered by their number, then by the node of the server that
 %% proposed them, then by that server. The set is the servers with the least names of a view, as many as may be.
 -module(zulayefi_view).
--export([new/1, servers/1, others/1, set/1, has/2, of_node/2, met/3, lost/2, learned/2]).
--export([greeted/2, greeted_by_all/1, is_greeted/1, unseen/1]).
+-export([new/1, servers/1, others/1, set/1, has/2, of_node/2, met/3, lost/2]).
+-export([greeted/2, greeted_by_all/1, unseen/1]).
 -export([first/0, number/1, is_greater/2, next_number/2, wants/4, told_formed/3]).
 -export_type([view/0, generation/0, stage/0, told/0]).
 
@@ -67,10 +67,6 @@ lost(Pid, #view{servers = Servers} = View) ->
     demonitor(Monitor, [flush]),
     with_set(View#view{servers = Others}).
 
-%% @doc What a server told last.
--spec learned(pid(), view()) -> told().
-learned(Pid, #view{servers = Servers}) -> element(2, map_get(Pid, Servers)).
-
 %% ---- the start
 
 %% @doc A node told its state, or its server is not there: by its name, or by the monitor.
@@ -86,9 +82,6 @@ greeted(Monitor, #view{awaited = Awaited} = View) -> View#view{awaited = maps:re
 greeted_by_all(#view{awaited = Awaited} = View) ->
     [demonitor(Monitor, [flush]) || Monitor <- maps:keys(Awaited)],
     View#view{awaited = #{}}.
-
--spec is_greeted(view()) -> boolean().
-is_greeted(#view{awaited = Awaited}) -> map_size(Awaited) =:= 0.
 
 %% @doc Nodes whose servers others see, and to which there is no connection.
 -spec unseen(view()) -> [node()].
@@ -113,14 +106,15 @@ order({Number, Pid}) -> {Number, node(Pid), Pid}.
 -spec next_number(generation(), view()) -> pos_integer().
 next_number(Own, View) -> 1 + lists:max([number(Own) | [number(Generation) || {Generation, _, _} <- told_by_set(View)]]).
 
-told_by_set(#view{set = Set} = View) -> [learned(Pid, View) || Pid <- Set, Pid =/= self()].
+%% What each other server of the set told last.
+told_by_set(#view{set = Set, servers = Servers}) -> [element(2, map_get(Pid, Servers)) || Pid <- Set, Pid =/= self()].
 
 %% @doc Whether this server has to propose a generation: its name is the least, all others of the set choose the same set, and the one that
 %% runs is not of this set, has stopped here or there, or is not the greatest. Of a smaller one the start is on its way.
 -spec wants(generation(), [pid()], stage(), view()) -> boolean().
 wants(Own, Running, Stage, #view{set = [Least | _] = Set, most = Most} = View) when Least =:= self() ->
     Told = told_by_set(View),
-    is_greeted(View)
+    map_size(View#view.awaited) =:= 0
         andalso lists:all(fun({_, _, Seen}) -> chosen(Seen, Most) =:= Set end, Told)
         andalso (Stage =:= none orelse Running =/= Set orelse lists:any(fun(Each) -> calls_for_another(Each, Own) end, Told));
 wants(_, _, _, _) -> false.

@@ -2,18 +2,18 @@
 -module(zulayefi_SUITE).
 -compile({nowarn_removed, [pg2]}).
 -export([all/0, short/0]).
--export([answers/1, names/1, start_refused/1, found/1, seen_everywhere/1, ends/1, others_processes/1, node_dies/1, program_dies/1, server_dies/1, parted/1, partial_mesh/1, first_call/1, callers_wait/1,
-    hanging_program/1, set_full/1, system_limit/1, new_name/1, recorded/1, notices/1, same_as_former/1, workers/1,
-    same_for_long/1, workers_of_five/1, workers_of_eight/1]).
--import(zulayefi_cluster, [with/2, with/3, with_nodes/3, boot/2, connect/1, formed/1, is_formed/2, call/4, stop/1, kill/1, signal/2, kill_program/1, kill_server/1, part/2, soon/1,
-    members_everywhere/2, holder/1, holders/2, program/1]).
+-export([answers/1, names/1, start_refused/1, found/1, seen_everywhere/1, ends/1, others_processes/1, node_dies/1, program_dies/1, server_dies/1, parted/1]).
+-export([partial_mesh/1, first_call/1, callers_wait/1, hanging_program/1, no_program/1, set_full/1, system_limit/1, new_name/1, recorded/1, notices/1]).
+-export([same_as_former/1, workers/1, same_for_long/1, workers_of_five/1, workers_of_eight/1]).
+-import(zulayefi_cluster, [with/2, with/3, with_nodes/3, boot/2, connect/1, formed/1, is_formed/2, call/4, stop/1, kill/1, signal/2]).
+-import(zulayefi_cluster, [kill_program/1, kill_server/1, part/2, soon/1, members_everywhere/2, holder/1, holders/2, program/1]).
 
 all() -> short() ++ [same_for_long, workers_of_five, workers_of_eight].
 
 %% Those that take a minute together.
 short() ->
-    [answers, names, start_refused, found, seen_everywhere, ends, others_processes, node_dies, program_dies, server_dies, parted, partial_mesh, first_call, callers_wait, hanging_program, set_full,
-     system_limit, new_name, recorded, notices, same_as_former, workers].
+    [answers, names, start_refused, found, seen_everywhere, ends, others_processes, node_dies, program_dies, server_dies, parted, partial_mesh, first_call,
+     callers_wait, hanging_program, no_program, set_full, system_limit, new_name, recorded, notices, same_as_former, workers].
 
 %% The manual's answers, at a node alone.
 answers(_) ->
@@ -54,8 +54,8 @@ answers(_) ->
 names(_) ->
     with(2, fun([One, Two]) ->
         Deep = lists:foldl(fun(_, Term) -> {Term} end, deep, lists:seq(1, 100)),
-        Names = ["", "text", lists:duplicate(600, $a), 1.5, #{a => [1.0]}, <<1:3>>, {'$erlang', <<>>}, 1 bsl 80, -1, 255, 256, -(1 bsl 63), [x | y], Deep, {a, "b", <<"c">>},
-            self(), make_ref(), 'ünïcode', lists:duplicate(200, 7), <<0:7900>>],
+        Names = ["", "text", lists:duplicate(600, $a), 1.5, #{a => [1.0]}, <<1:3>>, {'$erlang', <<>>}, 1 bsl 80, -1, 255, 256, -(1 bsl 63), [x | y], Deep,
+            {a, "b", <<"c">>}, self(), make_ref(), 'ünïcode', lists:duplicate(200, 7), <<0:7900>>],
         [ok = call(One, pg2, create, [Name]) || Name <- Names],
         Pid = holder(One),
         [ok = call(Two, pg2, join, [Name, Pid]) || Name <- Names],
@@ -323,6 +323,21 @@ hanging_program(_) ->
         soon(fun() -> not filelib:is_dir("/proc/" ++ integer_to_list(OsPid)) end)
     end).
 
+%% A program that is there no more, and comes back.
+no_program(_) ->
+    with(2, fun([One, Two] = Nodes) ->
+        ok = call(One, application, set_env, [zulayefi, program, "/no/such/program"]),
+        kill_program(One),
+        Me = self(),
+        spawn_link(fun() -> Me ! {created, call(Two, pg2, create, [g])} end),
+        soon(fun() -> #{no_program := _} = maps:get(why, call(One, zulayefi, info, [])), true end),
+        receive {created, _} -> exit(too_early) after 200 -> ok end,
+        [] = call(One, pg2, which_groups, []),
+        ok = call(One, application, unset_env, [zulayefi, program]),
+        receive {created, ok} -> ok end,
+        formed(Nodes)
+    end).
+
 %% A node beyond the most is outside, until another goes.
 set_full(_) ->
     with_nodes([zulayefi_cluster:name(I) || I <- [1, 2, 3]], [{set_size, 2}], fun([A, B, {_, Name} = C] = Nodes) ->
@@ -333,7 +348,8 @@ set_full(_) ->
         formed([A, B]),
         soon(fun() -> call(C, pg2, which_groups, []) =:= {error, {set_full, 2}} end),
         [{error, {set_full, 2}} = call(C, pg2, Function, Args)
-            || {Function, Args} <- [{create, [g]}, {delete, [of_c]}, {join, [of_c, Pid]}, {leave, [of_c, Pid]}, {get_members, [of_c]}, {get_local_members, [of_c]}, {get_closest_pid, [of_c]}]],
+            || {Function, Args} <- [{create, [g]}, {delete, [of_c]}, {join, [of_c, Pid]}, {leave, [of_c, Pid]}, {get_members, [of_c]}, {get_local_members, [of_c]},
+                {get_closest_pid, [of_c]}]],
         ok = call(A, pg2, create, [g]),
         {error, {not_in_set, Name}} = call(A, pg2, join, [g, Pid]),
         none = program(C),

@@ -15,7 +15,8 @@ rates(Times) ->
         [{ok, _} = call(Node, former_pg2, start, []) || Node <- Nodes],
         [{ok, _} = call(Node, pg, start, [pg]) || Node <- Nodes],
         [create(Nodes, Module, one) || Module <- modules()],
-        Kinds = [{Kind, Clients} || Kind <- [one_group, own_groups], Clients <- ?CLIENTS] ++ [{Query, Clients} || Query <- [get_members, get_closest_pid], Clients <- [1, 4]],
+        Kinds = [{Kind, Clients} || Kind <- [one_group, own_groups], Clients <- ?CLIENTS]
+            ++ [{Query, Clients} || Query <- [get_members, get_closest_pid], Clients <- [1, 4]],
         _ = [rate(Nodes, Module, Kind) || Kind <- Kinds, Module <- modules()],
         Rates = [{{Kind, Module}, rate(Nodes, Module, Kind)} || _ <- lists:seq(1, Times), Kind <- Kinds, Module <- modules(), is_there(Kind, Module)],
         [print(Kind, Module, [Rate || {Key, Rate} <- Rates, Key =:= {Kind, Module}]) || Kind <- Kinds, Module <- modules(), is_there(Kind, Module)]

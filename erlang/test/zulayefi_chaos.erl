@@ -38,7 +38,8 @@ round(Seed, Way) ->
     Faults = try judged(Way, Chaos)
     catch Class:Reason:Trace -> [{Class, Reason, Trace, [catch call(Node, zulayefi, info, []) || Node <- Chaos#chaos.alive]}]
     end,
-    io:format("~b ~ts, ~b nodes: ~0tp: ~ts~n", [Seed, Way, length(Nodes), lists:reverse(Chaos#chaos.done), case Faults of [] -> "ok"; _ -> io_lib:format("~0tp", [Faults]) end]),
+    Said = case Faults of [] -> "ok"; _ -> io_lib:format("~0tp", [Faults]) end,
+    io:format("~b ~ts, ~b nodes: ~0tp: ~ts~n", [Seed, Way, length(Nodes), lists:reverse(Chaos#chaos.done), Said]),
     [stop(Node) || Node <- Chaos#chaos.alive],
     [signal("CONT", OsPid) || OsPid <- Chaos#chaos.stopped],
     Faults.

@@ -1,8 +1,8 @@
 %% Clusters of nodes on this machine for tests. Their standard input and output control them, so they also answer where they are connected to nobody, and
 %% end with this node.
 -module(zulayefi_cluster).
--export([with/2, with/3, with_nodes/3, boot/2, connect/1, formed/1, is_formed/2, call/4, call/5, stop/1, kill/1, signal/2, kill_program/1, kill_server/1, part/2, soon/1, soon/2]).
--export([members_everywhere/2, tables/1, table/0, holder/1, hold/0, holders/2, program/1, name/1]).
+-export([with/2, with/3, with_nodes/3, boot/2, connect/1, formed/1, is_formed/2, call/4, call/5, stop/1, kill/1, signal/2]).
+-export([kill_program/1, kill_server/1, part/2, soon/1, soon/2, members_everywhere/2, tables/1, table/0, holder/1, hold/0, holders/2, program/1, name/1]).
 
 %% Runs a test in a cluster of so many nodes, or in one of the nodes with these parameters.
 with(Number, Test) -> with(Number, [], Test).
