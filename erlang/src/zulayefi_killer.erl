@@ -2,7 +2,7 @@
 %% see to it. So each is noted here, with the time at which it began: a process with the same number that began at another time is another.
 -module(zulayefi_killer).
 -behaviour(gen_server).
--export([start_link/0, started/1, stopped/2, kill/1]).
+-export([start_link/0, started/1, stopped/2, began/1, kill/2]).
 -export([init/1, handle_call/3, handle_cast/2, handle_info/2, terminate/2]).
 
 %% How long a program has to end by itself.
@@ -20,10 +20,6 @@ started(OsPid) -> gen_server:cast(?MODULE, {started, OsPid, self()}).
 %% @doc The calling server has closed its port.
 -spec stopped(os_pid(), hangs | unneeded) -> ok.
 stopped(OsPid, How) -> gen_server:cast(?MODULE, {stopped, OsPid, How}).
-
-%% @doc Kills a program that was just started.
--spec kill(os_pid()) -> ok.
-kill(OsPid) -> kill(OsPid, began(OsPid)).
 
 %% Programs outlive this process in the table: each has the time at which it began, and its server.
 init([]) ->
@@ -60,6 +56,8 @@ keep(Programs) ->
     zulayefi_table:keep(programs, Programs),
     Programs.
 
+%% @doc Kills a process of the machine, if it is the one that began then.
+-spec kill(os_pid(), binary() | none) -> ok.
 kill(OsPid, Began) ->
     case Began =/= none andalso began(OsPid) =:= Began of
         true ->
@@ -68,8 +66,9 @@ kill(OsPid, Began) ->
         false -> ok
     end.
 
-%% The time at which a process of the machine began, in ticks since the machine did: the twentieth field behind the name, which ends at the last
+%% @doc The time at which a process of the machine began, in ticks since the machine did: the twentieth field behind the name, which ends at the last
 %% parenthesis. One that has ended, but is not waited for, is none.
+-spec began(os_pid()) -> binary() | none.
 began(none) -> none;
 began(OsPid) ->
     case file:read_file("/proc/" ++ integer_to_list(OsPid) ++ "/stat") of

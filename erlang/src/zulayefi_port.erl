@@ -26,7 +26,8 @@ path() ->
 -spec check() -> {ok, binary()} | {error, term()}.
 check() ->
     case start(["--own", "none"]) of
-        {ok, #program{port = Port} = Program} ->
+        {ok, #program{port = Port, os_pid = OsPid}} ->
+            Began = zulayefi_killer:began(OsPid),
             Checked = receive
                 {Port, {data, <<?VERSION, ?FORMAT, Version/binary>>}} -> {ok, Version};
                 {Port, {data, <<?VERSION, Theirs, _/binary>>}} -> {error, {format, Theirs, ?FORMAT}};
@@ -35,7 +36,7 @@ check() ->
             after 1000 * zulayefi_app:parameter(seconds_to_start) -> {error, timeout}
             end,
             close(Port),
-            zulayefi_killer:kill(Program#program.os_pid),
+            zulayefi_killer:kill(OsPid, Began),
             Checked;
         Error -> Error
     end.
