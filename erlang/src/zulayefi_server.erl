@@ -34,9 +34,10 @@
     %% what the table becomes once it is formed, and processes of this node that ended meanwhile
     rows = #{} :: #{term() => zulayefi_table:row()},
     ended = [] :: [pid()],
-    %% of which generation the table is, and how many assignments of it were read; the file in which the run is recorded
-    table_of = zulayefi_view:first() :: zulayefi_view:generation(),
+    %% how many assignments of the run were read; of which generation the table is that it began with, and how many of that one had been read
     read = 0 :: non_neg_integer(),
+    brought = {zulayefi_view:first(), 0} :: {zulayefi_view:generation(), non_neg_integer()},
+    %% the file in which the run is recorded
     file = none :: file:filename() | none,
 
     changes = zulayefi_changes:new() :: zulayefi_changes:changes(),
@@ -243,7 +244,8 @@ opened(Pid, #state{run = Run} = S) -> S#state{run = zulayefi_run:opened(Pid, Run
 
 %% Drops what runs, tells the others, and starts a program with all names of the table and this node's living members alone.
 begin_run(Generation, Set, Recording, S) ->
-    S1 = (stop_run(unneeded, S))#state{generation = Generation, set = Set, recording = Recording, begun = S#state.begun + 1, rows = #{}, ended = [], is_settled = false},
+    S1 = (stop_run(unneeded, S))#state{generation = Generation, set = Set, recording = Recording, begun = S#state.begun + 1, read = 0, rows = #{}, ended = [],
+        is_settled = false},
     S2 = send_all(Set -- [self()], {start, Generation, Set, Recording}, S1),
     {Words, S3} = recording_words(S2),
     case zulayefi_run:start(Set, Words) of
@@ -268,11 +270,11 @@ because(Why, #state{why = Counts} = S) -> S#state{why = maps:update_with(Why, fu
 stop_run(_, #state{run = none} = S) -> S;
 stop_run(How, #state{run = Run, changes = Changes, is_formed = IsFormed} = S) ->
     ok = zulayefi_run:stop(How, Run),
-    StoppedAt = case IsFormed of
-        true -> now_ms();
-        false -> S#state.stopped_at
+    S1 = case IsFormed of
+        true -> S#state{stopped_at = now_ms(), brought = {S#state.generation, S#state.read}};
+        false -> S
     end,
-    S#state{run = none, is_formed = false, rows = #{}, file = none, changes = zulayefi_changes:stopped(Changes), stopped_at = StoppedAt}.
+    S1#state{run = none, is_formed = false, rows = #{}, file = none, changes = zulayefi_changes:stopped(Changes)}.
 
 program_ended(Port, Reason, #state{run = Run} = S) ->
     case zulayefi_run:is_of(Port, Run) of
@@ -293,7 +295,7 @@ came(Port, Body, #state{run = Run} = S) ->
     end.
 
 on({send, Pid, Number, Bytes}, #state{generation = Generation} = S) -> send(Pid, {bytes, Generation, Number, Bytes}, S);
-on({assigned, Assignments}, #state{read = Read} = S) -> lists:foldl(fun assigned/2, S#state{read = Read + 1}, Assignments);
+on({assigned, Assignments}, #state{read = Read} = S) -> lists:foldl(fun assigned/2, S#state{read = Read + length(Assignments)}, Assignments);
 on({replied, {change, Name}, Reply}, S) -> next(Name, answer(Name, real(Reply, Name), S));
 on({replied, finish, ok}, S) -> S;
 on({replied, finish, Reply}, S) -> refused(Reply, S);
@@ -351,13 +353,12 @@ noticed(Name, Before, After, #state{changes = Changes} = S) ->
     end.
 
 %% All rows come into their place at once. No name is missing among them, as this node brought its own. Then what has waited goes on.
-formed(#state{rows = Rows, ended = Ended, generation = Generation, stopped_at = StoppedAt} = S) ->
+formed(#state{rows = Rows, ended = Ended, stopped_at = StoppedAt} = S) ->
     Old = maps:from_list([{Name, Row} || {Name, _, _} = Row <- zulayefi_table:rows()]),
     S1 = maps:fold(fun(Name, Row, Next) -> follow(maps:get(Name, Old, none), Row, Next) end, S, Rows),
     zulayefi_table:put(maps:values(Rows)),
     zulayefi_table:is_open() orelse zulayefi_table:open(),
-    S2 = S1#state{is_formed = true, rows = #{}, ended = [], proposal = none, table_of = Generation, read = 0,
-                  formed = S#state.formed + 1, pause = now_ms() - StoppedAt},
+    S2 = S1#state{is_formed = true, rows = #{}, ended = [], proposal = none, formed = S#state.formed + 1, pause = now_ms() - StoppedAt},
     tell_formed(S2),
     S3 = lists:foldl(fun finish/2, S2, Ended),
     lists:foldl(fun next/2, S3, zulayefi_changes:names(S3#state.changes)).
@@ -526,10 +527,10 @@ record(Dir, #state{view = View, recording = Recording} = S) ->
     end.
 
 recording_words(#state{recording = none} = S) -> {[], S};
-recording_words(#state{recording = Dir, generation = Generation, table_of = Brought, read = Read} = S) ->
+recording_words(#state{recording = Dir, generation = Generation, brought = Brought} = S) ->
     File = zulayefi_recording:file(Dir, node(), Generation),
     case zulayefi_recording:can_be_made(File) of
-        ok -> {zulayefi_recording:words(File, Generation, {Brought, Read}), S#state{file = File}};
+        ok -> {zulayefi_recording:words(File, Generation, Brought), S#state{file = File}};
         {error, Reason} ->
             ?LOG_ERROR("zulayefi: ~ts cannot be made: ~tp", [File, Reason]),
             self() ! {?PROTOCOL, none, {record, none}},
