@@ -73,9 +73,16 @@ count(_, Error) -> Error.
 
 worker(Id, Common, Ms, Others, Readers) ->
     rand:seed(exsss),
-    [safe(fun() -> pg2:create(Name) end) || Name <- Common],
+    [created(Name) || Name <- Common],
     work(#worker{id = Id, common = Common, until = now_ms() + Ms, others = Others, readers = Readers, pids = [new(), new(), new()],
                  own = maps:from_list([{{own, {Id, I}}, no} || I <- [1, 2]])}).
+
+%% (again where the server was killed meanwhile)
+created(Name) ->
+    case safe(fun() -> pg2:create(Name) end) of
+        {raised, _, _} -> created(Name);
+        ok -> ok
+    end.
 
 now_ms() -> erlang:monotonic_time(millisecond).
 new() -> spawn(zulayefi_cluster, hold, []).
