@@ -5,7 +5,7 @@ use Rattle.std.specs.List.{AllByRecursion, flat_map}
 use Rattle.std.proofs.lemmas.List.Folds.{flat_map-map}
 use Rattle.pg_frame.proofs.Readings.{written_is_read}
 use Rattle.pg_frame.specs.Frames.{IsBody, bodies_of, frame}
-use Rattle.pg_node_process.specs.Outputs.{Output, OutputsAreHeard, IsFramed, IsSayable, Version, Bytes, Said, Clock, Formed, Denied, body_said, heard, said, term_heard}
+use Rattle.pg_node_process.specs.Outputs.{Output, OutputsAreHeard, IsFramed, IsSayable, Version, Bytes, Said, Clock, Formed, Denied, Mirrored, body_said, heard, mirrored_heard, said, term_heard}
 
 one : (output : Output) → IsSayable output → heard (body_said output) ≡ Some output
 one (Version format text) sayable = refl
@@ -14,6 +14,7 @@ one (Said term) sayable = ap term_heard sayable
 one (Clock clock) sayable = ap (λ (number : ℕ). Some (Clock number)) (from_be_bytes-to_be_bytes_4 clock sayable)
 one Formed sayable = refl
 one (Denied port) sayable = refl
+one (Mirrored term) sayable = ap mirrored_heard sayable
 
 are_bodies : (outputs : List Output) → AllByRecursion IsFramed outputs → AllByRecursion IsBody (map body_said outputs)
 are_bodies [] all = tt

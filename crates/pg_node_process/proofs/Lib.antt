@@ -3,8 +3,11 @@ pub mod Brought
 pub mod Few
 pub mod Fits
 pub mod Framed
+pub mod Gathered
 pub mod Heard
 pub mod Logged
+pub mod Mirroring
 pub mod Passed
+pub mod Said
 pub mod Turns
 pub mod Ways

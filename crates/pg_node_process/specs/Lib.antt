@@ -3,6 +3,7 @@ pub mod Configs
 pub mod Desks
 pub mod Groups
 pub mod Logs
+pub mod Mirrors
 pub mod Outputs
 pub mod Parcels
 pub mod Passing

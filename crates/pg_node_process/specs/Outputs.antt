@@ -13,7 +13,7 @@ use Rattle.pg_step.specs.PgTermIo.Writing.{written, IsWritable}
 use Rattle.pg_node_requests.specs.Replies.{numbered_term, refused_term}
 
 -- the number of the format and the version; bytes for the peer at a place; a term, as a reply or a notice; the clock; that the node is formed; that a change was denied
--- its lock, by the number of its port from 1
+-- its lock, by the number of its port from 1; what the table has become
 pub data Output : Type 0 where
   Version : (format : ℕ) → (text : List ℕ) → Output
   Bytes : (peer : ℕ) → List ℕ → Output
@@ -21,6 +21,7 @@ pub data Output : Type 0 where
   Clock : ℕ → Output
   Formed : Output
   Denied : (port : ℕ) → Output
+  Mirrored : Term → Output
 
 -- the body of each
 abbrev pub body_said : Output → List ℕ
@@ -30,6 +31,7 @@ body_said (Said term) = written term
 body_said (Clock clock) = 17 ∷ to_be_bytes w32 clock
 body_said Formed = 22 ∷ []
 body_said (Denied port) = 19 ∷ port ∷ []
+body_said (Mirrored term) = 23 ∷ written term
 
 -- and its frame
 abbrev pub said : Output → List ℕ
@@ -52,6 +54,10 @@ port_heard bytes = None
 abbrev pub clock_heard : List ℕ → Option Output
 clock_heard bytes = if length bytes == 4 then Some (Clock (from_be_bytes w32 bytes)) else None
 
+abbrev pub mirrored_heard : Result Term TermFault → Option Output
+mirrored_heard (Ok term) = Some (Mirrored term)
+mirrored_heard (Err fault) = None
+
 abbrev pub formed_heard : List ℕ → Option Output
 formed_heard [] = Some Formed
 formed_heard (byte ∷ bytes) = None
@@ -64,6 +70,7 @@ heard_by first rest =
     else if first == 19 then port_heard rest
     else if first == 21 then version_heard rest
     else if first == 22 then formed_heard rest
+    else if first == 23 then mirrored_heard (term_of rest)
     else None
 
 -- the output that a body is
@@ -79,6 +86,7 @@ IsSayable (Said term) = term_of (written term) ≡ Ok term
 IsSayable (Clock clock) = clock < 2 ^ 32
 IsSayable Formed = ⊤
 IsSayable (Denied port) = ⊤
+IsSayable (Mirrored term) = term_of (written term) ≡ Ok term
 
 -- and a frame holds it
 pub record IsFramed (output : Output) : Type 0 where

@@ -28,6 +28,8 @@ pub struct ProcessConfig {
     pub made: u32,
     /// What the host calls the run, at most 255 bytes.
     pub label: Vec<u8>,
+    /// Whether the host mirrors the node's table.
+    pub mirrored: bool,
 }
 
 impl ProcessConfig {

@@ -22,6 +22,9 @@ const VERSION: u8 = 21;
 /// The body that tells that the node is formed.
 const FORMED: u8 = 22;
 
+/// The first byte of a body that tells what the table has become.
+const MIRRORED: u8 = 23;
+
 /// Where a reply goes: the name of the node, the number of the port from 1, and that of the request.
 #[derive(Clone, Copy)]
 pub struct Address<'a> {
@@ -43,13 +46,13 @@ pub struct Outlet {
 }
 
 impl Outlet {
-    ghost use Rattle.std.specs.Prelude.{◌≡◌, ◌≤◌, ◌<◌, ◌+◌, ◌∷◌, ◌++◌, [], IfOk, IfSome, IfNone, IsOk, OnOk, OnErr, length};
+    ghost use Rattle.std.specs.Prelude.{◌≡◌, ◌≤◌, ◌<◌, ◌+◌, ◌∷◌, ◌++◌, [], IfOk, IfSome, IfNone, IsOk, OnOk, OnErr, length, take};
     ghost use Rattle.std.specs.Int.{w32, to_be_bytes};
     ghost use Rattle.pg_frame.specs.Frames.{frame};
     ghost use Rattle.pg_frame.specs.Limits.{max_body};
-    ghost use Rattle.pg_step.specs.PgTermIo.Writing.{written};
+    ghost use Rattle.pg_step.specs.PgTermIo.Writing.{IsWritable, written};
     ghost use Rattle.pg_node_requests.specs.Replies.{numbered_term, refused_term};
-    ghost use Rattle.pg_node_process.specs.Outputs.{Bytes, Clock, Denied, Formed, IsUntellable, Said, Says, SaysReply, Version, said, untellable_number};
+    ghost use Rattle.pg_node_process.specs.Outputs.{Bytes, Clock, Denied, Formed, IsUntellable, Mirrored, Said, Says, SaysReply, Version, said, untellable_number};
     ghost use Rattle.pg_node_process.specs.Rooms.{HasRoomFor, KeepsRoom, body_room};
 
     /// One in which nothing is gathered.
@@ -83,6 +86,15 @@ impl Outlet {
         ensures body { body_room self.new ≡ body_room self.old }
     {
         self.gathered.clear();
+    }
+
+    /// Lets go what was gathered behind so many bytes.
+    ///
+    /// Cost: no memory.
+    pub fn cut(&mut self, len: usize)
+        ensures { self.new.gathered.items ≡ take len self.old.gathered.items }
+    {
+        self.gathered.truncate(len);
     }
 
     /// The number of the format, and the version of the program, of at most 16,777,214 bytes.
@@ -147,6 +159,29 @@ impl Outlet {
         ensures room { KeepsRoom result self.old self.new 2 }
     {
         self.put(&[DENIED], &[port])
+    }
+
+    /// What the table has become, as a term of which a host's mirror is told.
+    ///
+    /// Errors: `AllocError`, which adds nothing: also where no frame holds the term behind its first byte.
+    pub fn put_mirrored(&mut self, term: &Term) -> Result<(), AllocError>
+        ensures ok { OnOk result (Says self.old.gathered.items self.new.gathered.items (Mirrored term.now)) }
+        ensures err { OnErr result (self.new.gathered.items ≡ self.old.gathered.items) }
+
+        // Only room can be missing, and of a term that a frame holds behind its first byte.
+        ensures succeeds { IsWritable term.now → length (written term.now) + 1 ≤ max_body → HasRoomFor self.old (length (written term.now) + 1) → IsOk result }
+    {
+        self.body.clear();
+        self.body.reserve(1)?;
+        self.body.extend_reserved(&[MIRRORED]);
+        match encode_into(term, &mut self.body) {
+            Ok(()) => {}
+            Err(_) => return Err(AllocError),
+        }
+        match frame_into(&mut self.gathered, self.body.as_slice()) {
+            Ok(()) => Ok(()),
+            Err(_) => Err(AllocError),
+        }
     }
 
     /// A notice: `None`, or the number of the fault by which no frame holds the term, which then adds nothing. It is 4 (`TooDeep`), where the
