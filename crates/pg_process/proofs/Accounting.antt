@@ -11,7 +11,7 @@ use Rattle.pg_node_run.specs.Acts.{Act, ActLeads, Did, Given, Saw, Standing, act
 use Rattle.pg_process.specs.Accounts.{AreInTurn, ChainsAccount, LostNone, act_of, acts_of, answers_in, at_this, fed_in, fed_of, happened_in, happened_of, said_of, sent_in}
 use Rattle.pg_process.specs.Accounts.{sent_of, HandsGo, hands_in, hands_of, issued_of}
 use Rattle.pg_process.specs.Chains.{AllDo, Step}
-use Rattle.pg_process.specs.Deeds.{Answered, Asked, Blamed, Broke, Declined, Deed, Denied, Does, Fed, Formed, Handed, Looked, Queued, Read, Sent, Shared, Timed, Took, Tried}
+use Rattle.pg_process.specs.Deeds.{Aged, Answered, Asked, Blamed, Broke, Brought, Crowded, Declined, Deed, Denied, Does, Fed, Formed, Handed, Looked, Queued, Read, Sent, Shared, Timed, Took, Tried}
 use Rattle.pg_process.specs.Deeds.{IsOf, is_lost}
 use Rattle.pg_process.specs.Situations.{Setting, Situation, at_place}
 use Rattle.pg_process.proofs.Parts.{NodeGoes, LinksGo, PortsGo, node_rests, node_acts, node_says, node_on, links_rest, links_feed, links_break, links_send, links_did}
@@ -87,6 +87,7 @@ handed_there port a b change is next =
 
 moves_by : (set : Setting) (a : Situation) (deed : Deed) (said : List Output) (b : Situation) → LostNone a → Does set a deed said b → DeedMoves set deed a b
 moves_by set a (Read body) said b sound does = still set a b _ does.1 refl refl refl
+moves_by set a Brought said b sound does = still set a b _ does.1 refl refl refl
 moves_by set a Blamed said b sound does = still set a b _ does.1 refl refl refl
 moves_by set a Timed said b sound does = still set a b _ does.1 refl refl refl
 moves_by set a (Shared port) said b sound does = still set a b _ does.1 refl refl refl
@@ -137,6 +138,8 @@ moves_by set a (Answered port answer) said b sound does = record {
       (λ place. refl);
 }
 moves_by set a Formed said b sound does = still set a b _ does.3 refl refl refl
+moves_by set a Aged said b sound does = still set a b _ does.3 refl refl refl
+moves_by set a (Crowded count) said b sound does = still set a b _ does.4 refl refl refl
 moves_by set a (Sent peer bytes) said b sound does = record {
   node = node_rests set a.node b.node (ap (λ (s : Situation). s.node) does.after);
   links = links_send peer bytes a.links b.links does.first (ap (λ (s : Situation). s.links) does.after);

@@ -2,7 +2,7 @@
 use Rattle.std.proofs.Common.{◌≡◌, ◌∙◌, ℕ, List, [], ◌∷◌, ◌++◌, refl, sym, ap, subst, append-nil}
 use Rattle.std.specs.Prelude.{Result, Ok, Err, Option, Some, None}
 use Rattle.std.specs.Option.{option_map, unwrap_or}
-use Rattle.std.specs.List.{flat_map}
+use Rattle.std.specs.List.{AllByRecursion, flat_map}
 use Rattle.pg_node.specs.PgGroup.declared.table.GroupTable.{Ghosts}
 use Rattle.pg_node.specs.PgStep.Machines.Clocked.{Timed}
 use Rattle.pg_node.specs.PgNodeSends.contracts.framing.FramedOutgoing.TheImpl as frames
@@ -28,6 +28,7 @@ use Rattle.pg_node_process.specs.declared.desk.Numbered.{Numbered}
 use Rattle.pg_node_process.specs.Logs.{Entry, entry_bytes}
 use Rattle.pg_node_run.specs.Acts.{Act, ActLeads, Did, Standing}
 use Rattle.pg_node_run.proofs.Acting.{happened_by}
+use Rattle.pg_node_process.specs.Outputs.{IsFramed, Output, said as bytes_said}
 use Rattle.pg_process.specs.declared.process.Process.{Process}
 use Rattle.pg_process.specs.Chains.{Makes}
 use Rattle.pg_process.specs.Deeds.{Deed, Does, logged, number_of}
@@ -45,29 +46,33 @@ module _ {T : Type 0} {g : Ghosts T} where
     pub leads : ActLeads (names_of (held_by n)) (ports_of (held_by n)) (standing_of n) act (standing_of m)
     pub links : (place : ℕ) → links_of m place ≡ sent_out act.sends (links_of n) place
 
+  -- and what it began is what the event told
   pub did_act : (n m m2 : Node T g) (action : Action) (done : FramedDone)
       → Comes (names_of (held_by n)) (step_act (nodes_of (held_by n)) (ports_of (held_by n)) action (state_of (held_by n)))
       (Ok done) (state_of (held_by m)) (answers_of (held_by n)) (answers_of (held_by m))
       → AreSendable (names_of (held_by n)) (listed_of done.sends) → AreSmallFrames (listed_of done.sends)
       → ((place : ℕ) → links_of m place ≡ sent_out (listed_of done.sends) (links_of n) place)
-      → held_by m2 ≡ held_by m → links_of m2 ≡ links_of m → DidAct n m2 action
+      → held_by m2 ≡ held_by m → links_of m2 ≡ links_of m → (did : DidAct n m2 action) × (done.began ≡ did.act.turn.reported.began)
   did_act n m m2 action done came fits small sent same wires =
       let happened = happened_by (names_of (held_by n)) (step_act (nodes_of (held_by n)) (ports_of (held_by n)) action (state_of (held_by n)))
-      done (state_of (held_by m)) (answers_of (held_by n)) (answers_of (held_by m)) came in record {
-        act = record { input = Did action; turn = happened.turn; sends = listed_of done.sends; came = [] };
-        given = refl;
-        leads = record {
-          there = tt;
-          made = happened.made;
-          state = ap state_of same ∙ happened.happens.state;
-          answers = subst (λ (x : NodeState T g). Gave (name_at (names_of (held_by n)) 0) happened.turn.reported.gave (answers_of (held_by n)) (answers_of x)) (sym same) happened.happens.answers;
-          sends = happened.happens.told.sends;
-          fits = fits;
-          small = small;
-          came = refl;
-        };
-        links = λ place. ap (λ (ls : ℕ → Link). ls place) wires ∙ sent place;
-      }
+      done (state_of (held_by m)) (answers_of (held_by n)) (answers_of (held_by m)) came in (
+        record {
+          act = record { input = Did action; turn = happened.turn; sends = listed_of done.sends; came = [] };
+          given = refl;
+          leads = record {
+            there = tt;
+            made = happened.made;
+            state = ap state_of same ∙ happened.happens.state;
+            answers = subst (λ (x : NodeState T g). Gave (name_at (names_of (held_by n)) 0) happened.turn.reported.gave (answers_of (held_by n)) (answers_of x)) (sym same) happened.happens.answers;
+            sends = happened.happens.told.sends;
+            fits = fits;
+            small = small;
+            came = refl;
+          };
+          links = λ place. ap (λ (ls : ℕ → Link). ls place) wires ∙ sent place;
+        },
+        happened.happens.told.began,
+      )
 
 -- ---- it is refused
 
@@ -93,16 +98,16 @@ setting_with names ports = record { names = names; ports = ports }
 pub alike_settings : (xs ys : List Name) (m n : ℕ) → xs ≡ ys → m ≡ n → setting_with xs m ≡ setting_with ys n
 alike_settings xs ys m n e f = ap (λ (w : List Name). setting_with w m) e ∙ ap (λ (k : ℕ). setting_with ys k) f
 
--- ---- a deed that says nothing, and is marked
+-- ---- a deed that is marked
 
-pub marked_only : (a b : Process) (deed : Deed) (mid : Situation) (entry : Entry) → logged deed ≡ entry ∷ [] → situation_of b ≡ mid → setting_of b ≡ setting_of a
-    → b.outlet.gathered.items ≡ a.outlet.gathered.items → b.journal.gathered.items ≡ a.journal.gathered.items ++ entry_bytes entry
-    → Does (setting_of a) (situation_of a) deed [] mid → Makes deed a b
-marked_only a b deed mid entry is same kept gathered journal does = record {
-  said = [];
-  does = subst (λ (s : Situation). Does (setting_of a) (situation_of a) deed [] s) (sym same) does;
-  heard = tt;
-  gathered = gathered ∙ sym (append-nil a.outlet.gathered.items);
+pub marked_deed : (a b : Process) (deed : Deed) (mid : Situation) (entry : Entry) (said : List Output) → logged deed ≡ entry ∷ [] → situation_of b ≡ mid → setting_of b ≡ setting_of a
+    → AllByRecursion IsFramed said → b.outlet.gathered.items ≡ a.outlet.gathered.items ++ flat_map bytes_said said → b.journal.gathered.items ≡ a.journal.gathered.items ++ entry_bytes entry
+    → Does (setting_of a) (situation_of a) deed said mid → Makes deed a b
+marked_deed a b deed mid entry said is same kept framed gathered journal does = record {
+  said = said;
+  does = subst (λ (s : Situation). Does (setting_of a) (situation_of a) deed said s) (sym same) does;
+  heard = framed;
+  gathered = gathered;
   journal = journal ∙ ap (λ w. a.journal.gathered.items ++ w) (sym (append-nil (entry_bytes entry)) ∙ ap (λ es. flat_map entry_bytes es) (sym is));
   setting = kept;
 }

@@ -259,7 +259,8 @@ tried op false a b did = work_rests a b did.0
 
 pub tried_until : (op : OpId) (fault : ProcessFault) (a b : Process) → StopsTrying op fault a b → WorksUntil fault a b
 tried_until op ClockFull a b stops = until_ends ClockFull a b (silent_ends ClockFull a b stops.0 (inr (Retry op, stops.1)))
-tried_until op OutOfMemory a b stops = until_ends OutOfMemory a b (silent_ends OutOfMemory a b stops tt)
+tried_until op OutOfMemory a b (inl stops) = until_ends OutOfMemory a b (silent_ends OutOfMemory a b stops tt)
+tried_until op OutOfMemory a b (inr stops) = fails_until (Tried op.port stops.0) OutOfMemory a b stops.1
 
 -- a hand, or none
 pub handed : (port : ℕ) (did : Bool) (a b : Process) → HandsOver port did a b → Works a b

@@ -20,7 +20,7 @@ use Rattle.pg_node_run.proofs.Moving.{link_else, link_there}
 use Rattle.pg_node_process.specs.Outputs.{Output}
 use Rattle.pg_process.specs.declared.process.Process.{Process}
 use Rattle.pg_process.specs.Chains.{AllDo, AreWork, IsWork, Step, Works}
-use Rattle.pg_process.specs.Deeds.{Acts, Answered, Asked, Blamed, Broke, Declined, Deed, Denied, Does, Fed, Formed, Handed, IsOf, Looked, Queued, Read, Sent, Shared, Takes, Timed, Took, Tried, is_lost}
+use Rattle.pg_process.specs.Deeds.{Acts, Aged, Answered, Asked, Blamed, Broke, Brought, Crowded, Declined, Deed, Denied, Does, Fed, Formed, Handed, IsOf, Looked, Queued, Read, Sent, Shared, Takes, Timed, Took, Tried, is_lost}
 use Rattle.pg_process.specs.Situations.{Setting, Situation, setting_of, situation_of}
 use Rattle.pg_process.specs.Takings.{HasNone}
 use Rattle.pg_process.proofs.Unseen.{act_unseen, take_sound, take_unseen}
@@ -125,6 +125,7 @@ none_took set a p act b takes peer none = by act.input takes.given takes.leads.m
 
 none_by : (set : Setting) (a : Situation) (deed : Deed) (said : List Output) (b : Situation) → IsWork deed → Does set a deed said b → (peer : ℕ) → NoneIn set a peer → NoneIn set b peer
 none_by set a (Read body) said b work does peer none = absurd work
+none_by set a Brought said b work does peer none = absurd work
 none_by set a Blamed said b work does peer none = absurd work
 none_by set a Timed said b work does peer none = absurd work
 none_by set a (Shared port) said b work does peer none = absurd work
@@ -140,6 +141,8 @@ none_by set a (Tried port act) said b work does peer none = none_acted set a act
 none_by set a (Denied port) said b work does peer none = subst (λ (s : Situation). NoneIn set s peer) (sym does.3) none
 none_by set a (Answered port answer) said b work does peer none = subst (λ (s : Situation). NoneIn set s peer) (sym does.after) none
 none_by set a Formed said b work does peer none = subst (λ (s : Situation). NoneIn set s peer) (sym does.3) none
+none_by set a Aged said b work does peer none = subst (λ (s : Situation). NoneIn set s peer) (sym does.3) none
+none_by set a (Crowded count) said b work does peer none = subst (λ (s : Situation). NoneIn set s peer) (sym does.4) none
 none_by set a (Sent p bytes) said b work does peer none =
     let change = λ (link : Link). without_front link (length bytes) in
     subst (λ (s : Situation). NoneIn set s peer) (sym does.after)

@@ -1,5 +1,5 @@
 -- What is done once, and stays so.
-use Rattle.std.proofs.Common.{◌≡◌, ◌≢◌, ◌⊎◌, ◌<◌, ◌+◌, ◌∙◌, ℕ, Bool, cond, drop, length, List, [], inl, inr, refl, sym, ap, subst, arith}
+use Rattle.std.proofs.Common.{◌≡◌, ◌≢◌, ◌⊎◌, ◌<◌, ◌≤◌, ◌+◌, ◌∙◌, ℕ, Bool, cond, drop, length, List, [], inl, inr, refl, sym, ap, subst, arith}
 use Rattle.std.specs.Prelude.{Result, Ok, Err, OnOk}
 use Rattle.std.proofs.lemmas.Bool.{cases_eq, ne_eqb}
 use Rattle.pg_node.specs.Links.{Link, without_front}
@@ -14,10 +14,12 @@ use Rattle.pg_node_run.specs.Acts.{Standing}
 use Rattle.pg_node_run.proofs.Moving.{link_else, link_there}
 use Rattle.pg_process.specs.declared.fault.ProcessFault.{ProcessFault}
 use Rattle.pg_process.specs.declared.process.Process.{Process}
+use Rattle.pg_term.specs.declared.pid.Pid.{Pid}
+use Rattle.pg_node.specs.PgGroup.Ended.{IsEndedCount}
 use Rattle.pg_process.specs.Chains.{Makes, Rests, Works}
-use Rattle.pg_process.specs.Deeds.{Answered, Formed, Sent}
+use Rattle.pg_process.specs.Deeds.{Aged, Answered, Crowded, Formed, OLD_CLOCK, Sent}
 use Rattle.pg_process.specs.Locks.{IsDenied, is_formed}
-use Rattle.pg_process.specs.Settled.{AllToldDenied, IsSettled, IsToldFormed, NoneComes, NoneKeeps, NoneUnsaid, NoneWaits, OnlyDenied, OnlyLinks, OnlySends, OnlyTold}
+use Rattle.pg_process.specs.Settled.{AllToldDenied, IsSettled, IsToldAll, IsToldFormed, IsToldMany, IsToldOld, NoneComes, NoneKeeps, NoneUnsaid, NoneWaits, OnlyDenied, OnlyLinks, OnlySends, OnlyTold}
 use Rattle.pg_process.specs.Situations.{Setting, Situation, setting_of, situation_of}
 use Rattle.pg_process.specs.Takings.{HasNone}
 use Rattle.pg_process.proofs.Lasting.{none_lasts}
@@ -155,8 +157,53 @@ said_denied_then (Ok done) a b said works only = said_denied a b works.goes.sett
 said_denied_then (Err fault) a b said works only = tt
 
 -- what follows was done
+-- it stays told where nothing but what waits for peers, or what is told, is another
+pub told_all_stays : (a b : Process) → setting_of b ≡ setting_of a → OnlyLinks a b → IsToldAll a → IsToldAll b
+told_all_stays a b set only told = record {
+  formed = stays_told a b set only told.formed;
+  old = λ old. ap (λ (s : Situation). s.told.old_clock) only ∙ told.old (subst (λ (n : ℕ). OLD_CLOCK ≤ n) (ap (λ (s : Situation). s.node.state.clock) only) old);
+  many = (
+    told.many.0,
+    subst (λ (ended : Pid → Bool). IsEndedCount ended told.many.0) (sym (ap (λ (s : Situation). s.node.state.state.ended) only)) told.many.1,
+    λ more. ap (λ (s : Situation). s.told.many_ended) only ∙ told.many.2 more,
+  );
+}
+
+pub told_only : (a b c : Process) → OnlyTold a b → OnlyTold b c → OnlyTold a c
+told_only a b c one other = other ∙ ap (λ (s : Situation). record s { told = c.told }) one
+
+-- each was told, one behind the other
+pub told_once : (result : Result (Unit {0}) ProcessFault) (b c d : Process) → Works b c → OnOk result (Works c d) → OnlyTold b c → OnOk result (OnlyTold c d)
+    → IsToldFormed (setting_of b) (situation_of b) → c.told.formed ≡ b.told.formed → IsToldOld (situation_of c) → OnOk result (d.told.formed ≡ c.told.formed)
+    → OnOk result (d.told.old_clock ≡ c.told.old_clock) → OnOk result (IsToldMany (situation_of d)) → OnOk result (IsToldAll d)
+told_once (Ok done) b c d first second one other formed same old formed2 old2 many = record {
+  formed = λ is. formed2 ∙ (same ∙ formed (ap (λ (s : Situation). is_formed (setting_of b) s) (sym (told_only b c d one other))
+      ∙ (ap (λ (s : Setting). is_formed s (situation_of d)) (sym (second.goes.setting ∙ first.goes.setting)) ∙ is)));
+  old = λ late. old2 ∙ old (subst (λ (n : ℕ). OLD_CLOCK ≤ n) (ap (λ (s : Situation). s.node.state.clock) other) late);
+  many = many;
+}
+told_once (Err fault) b c d first second one other formed same old formed2 old2 many = tt
+
+-- where many have ended that is told
+pub crowded_many : (result : Result (Unit {0}) ProcessFault) (count : ℕ) (a b : Process) → OnOk result (Makes (Crowded count) a b) → OnOk result (IsToldMany (situation_of b))
+crowded_many (Ok done) count a b makes = (
+  count,
+  subst (λ (s : Situation). IsEndedCount s.node.state.state.ended count) (sym makes.does.4) makes.does.1,
+  λ more. ap (λ (s : Situation). s.told.many_ended) makes.does.4,
+)
+crowded_many (Err fault) count a b makes = tt
+
+-- a warning leaves all but what is told
+pub aged_rest : (result : Result (Unit {0}) ProcessFault) (a b : Process) → OnOk result (Makes Aged a b) → OnOk result (OnlyTold a b)
+aged_rest (Ok done) a b makes = makes.does.3 ∙ sym (ap (λ (s : Situation). record (situation_of a) { told = s.told }) makes.does.3)
+aged_rest (Err fault) a b makes = tt
+
+pub crowded_rest : (result : Result (Unit {0}) ProcessFault) (count : ℕ) (a b : Process) → OnOk result (Makes (Crowded count) a b) → OnOk result (OnlyTold a b)
+crowded_rest (Ok done) count a b makes = makes.does.4 ∙ sym (ap (λ (s : Situation). record (situation_of a) { told = s.told }) makes.does.4)
+crowded_rest (Err fault) count a b makes = tt
+
 pub settles : (result : Result (Unit {0}) ProcessFault) (a b c d : Process) → NoneComes a → Works a b → NoneUnsaid b → NoneKeeps b → AllToldDenied b → Works b c → OnlyTold b c
-    → IsToldFormed (setting_of c) (situation_of c) → OnOk result (Works c d) → OnOk result (NoneWaits d) → OnOk result (OnlyLinks c d) → OnOk result (IsSettled d)
+    → IsToldAll c → OnOk result (Works c d) → OnOk result (NoneWaits d) → OnOk result (OnlyLinks c d) → OnOk result (IsSettled d)
 settles (Ok done) a b c d none serves said keeps denied forms rest told works unsent links =
     let same = works.goes.setting ∙ forms.goes.setting in
     let ports = ap (λ (s : Situation). s.ports) links ∙ ap (λ (s : Situation). s.ports) rest in
@@ -166,7 +213,9 @@ settles (Ok done) a b c d none serves said keeps denied forms rest told works un
       answered = stays_said c d works.goes.setting (ap (λ (s : Situation). s.node.answers) links) (stays_said b c forms.goes.setting (ap (λ (s : Situation). s.node.answers) rest) said);
       handed = keeps_stays b d same ports (λ port. ap (λ (f : ℕ → Courtesy). gives_way (f port)) courtesies) keeps;
       denied = told_stays b d same node courtesies denied;
-      formed = stays_told c d works.goes.setting links told;
+      formed = (told_all_stays c d works.goes.setting links told).formed;
+      old = (told_all_stays c d works.goes.setting links told).old;
+      many = (told_all_stays c d works.goes.setting links told).many;
       unsent = unsent;
     }
 settles (Err fault) a b c d none serves said keeps denied forms rest told works unsent links = tt

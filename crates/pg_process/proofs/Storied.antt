@@ -21,9 +21,9 @@ use Rattle.pg_node_process.specs.Whom.{Whom}
 use Rattle.pg_process.specs.declared.fault.EndFault.{EndFault}
 use Rattle.pg_process.specs.declared.fault.EndFault.TheVariants as ends
 use Rattle.pg_process.specs.declared.process.Process.{Process}
-use Rattle.pg_process.specs.Chains.{AllDo, Fails, IsCause, IsWork, Makes, Step, Works, WorksUntil, logged_in, said_in}
+use Rattle.pg_process.specs.Chains.{Goes, AllDo, Fails, IsCause, IsWork, Makes, Step, Works, WorksUntil, logged_in, said_in}
 use Rattle.pg_process.specs.declared.fault.ProcessFault.{ProcessFault}
-use Rattle.pg_process.specs.Deeds.{Deed, Read, logged}
+use Rattle.pg_process.specs.Deeds.{Brought, Deed, Read, logged}
 use Rattle.pg_process.specs.Hearing.{deeds_of, heeded, whom_of}
 use Rattle.pg_process.specs.Parties.{whom_of as whom_by}
 use Rattle.pg_process.specs.Turns.{Attends, HearsInTurn}
@@ -34,7 +34,9 @@ use Rattle.pg_process.specs.Stories.{CantHear, CantHearFirst, HasServed, HearsFi
 use Rattle.pg_node.specs.PgStep.Machines.Clocked.{Timed}
 use Rattle.pg_node.specs.PgStep.State.{State}
 use Rattle.pg_process.specs.Accounts.{Accounts}
+use Rattle.pg_process.specs.declared.process.Told.{Told}
 use Rattle.pg_process.proofs.Accounting.{chains_account}
+use Rattle.pg_process.proofs.Whole.{whole_mirror}
 use Rattle.pg_process.proofs.Chained.{all_then, deeds_then, do_then, ends_on, fails_ends, makes_goes, step_of, work_deeds}
 use Rattle.pg_process.proofs.Chained.{goes_on as goes_on_after}
 
@@ -64,7 +66,7 @@ heard_all_then whom first xs ys ds es p q = record {
   work = p.work;
   later = p.later ++ es;
   follows = p.follows;
-  parts = ap (λ (zs : List Deed). zs ++ es) p.parts ∙ ap (λ (zs : List Deed). Read first ∷ zs) (append_assoc p.work p.later es);
+  parts = ap (λ (zs : List Deed). zs ++ es) p.parts ∙ ap (λ (zs : List Deed). Read first ∷ Brought ∷ zs) (append_assoc p.work p.later es);
   heard = heard_then whom xs ys p.later es p.heard q;
 }
 
@@ -113,12 +115,12 @@ body_in (Err fault) = []
 same_body : (x y : List ℕ) → ◌≡◌ {A = Result (Option (List ℕ)) TooLong} (Ok (Some x)) (Ok (Some y)) → x ≡ y
 same_body x y is = ap body_in is
 
-first_heard : (whom : Whom) (first : List ℕ) (deeds work : List Deed) → deeds ≡ Read first ∷ work → AllByRecursion IsWork work → AreAllHeard whom first [] deeds
+first_heard : (whom : Whom) (first : List ℕ) (deeds work : List Deed) → deeds ≡ Read first ∷ Brought ∷ work → AllByRecursion IsWork work → AreAllHeard whom first [] deeds
 first_heard whom first deeds work is follows = record {
   work = work;
   later = [];
   follows = follows;
-  parts = is ∙ ap (λ (ds : List Deed). Read first ∷ ds) (sym (append-nil work));
+  parts = is ∙ ap (λ (ds : List Deed). Read first ∷ Brought ∷ ds) (sym (append-nil work));
   heard = refl;
 }
 
@@ -135,7 +137,7 @@ module _ {W L : Type 0} (contents : W → Option (List ℕ)) (flushed : W → Ty
         passed = [];
         kept = hears.steps;
         hears = record {
-          heard = first_heard (whom_in story.set) story.first (deeds_of hears.steps ++ []) hears.work (append-nil (deeds_of hears.steps) ∙ (hears.deeds ∙ ap (λ (body : List ℕ). Read body ∷ hears.work) first)) hears.follows;
+          heard = first_heard (whom_in story.set) story.first (deeds_of hears.steps ++ []) hears.work (append-nil (deeds_of hears.steps) ∙ (hears.deeds ∙ ap (λ (body : List ℕ). Read body ∷ Brought ∷ hears.work) first)) hears.follows;
           does = subst (λ (s : Situation). AllDo story.set s hears.steps (situation_of b)) new.start (subst (λ (set : Setting). AllDo set (situation_of a) hears.steps (situation_of b)) new.set hears.goes.does);
           framed = hears.goes.heard;
         };
@@ -146,6 +148,8 @@ module _ {W L : Type 0} (contents : W → Option (List ℕ)) (flushed : W → Ty
           setting = new.set;
           start = new.start;
           notes = subst (λ (body : List ℕ). Makes (Read body) a hears.noted) first hears.notes;
+          mirrored = hears.mirrored;
+          brings = hears.brings;
           attends = hears.attends;
           others = refl;
         };
@@ -171,7 +175,7 @@ module _ {W L : Type 0} (contents : W → Option (List ℕ)) (flushed : W → Ty
           missing = halts.missing;
           now = halts.ends.last;
           hears = record {
-            heard = first_heard (whom_in story.set) story.first (deeds_of halts.steps ++ halts.missing) halts.work (halts.deeds ∙ ap (λ (body : List ℕ). Read body ∷ halts.work) first) halts.follows;
+            heard = first_heard (whom_in story.set) story.first (deeds_of halts.steps ++ halts.missing) halts.work (halts.deeds ∙ ap (λ (body : List ℕ). Read body ∷ Brought ∷ halts.work) first) halts.follows;
             does = subst (λ (s : Situation). AllDo story.set s halts.steps halts.ends.last) new.start (subst (λ (set : Setting). AllDo set (situation_of a) halts.steps halts.ends.last) new.set halts.ends.does);
             framed = halts.ends.heard;
           };
@@ -212,6 +216,8 @@ module _ {W L : Type 0} (contents : W → Option (List ℕ)) (flushed : W → Ty
           setting = p.turns.setting;
           start = p.turns.start;
           notes = p.turns.notes;
+          mirrored = p.turns.mirrored;
+          brings = p.turns.brings;
           attends = p.turns.attends;
           others = turns_then story.set p.bodies next.body (situation_of p.turns.served) a b p.turns.others p.set next.turn;
         };
@@ -498,6 +504,7 @@ module _ {W L : Type 0} (contents : W → Option (List ℕ)) (flushed : W → Ty
           hears = p.hears;
           turns = p.turns;
           accounts = accounts_so (p.passed ++ p.kept) [] p.bodies (situation_of a) p.hears;
+          mirror = λ is. whole_mirror story.set story.start story.first p.bodies (p.passed ++ p.kept) (situation_of a) p.hears (ap (λ (t : Told). t.mirrored) story.starts.starts.told ∙ is);
           rest = subst (λ (set : Setting). IsAtRest set (situation_of a)) p.set served.rest;
           wrote = subst (λ (bytes : List ℕ). Appends (contents story.out) (contents w) bytes)
               (sym (out_then p.passed p.kept ∙ (ap (λ (bytes : List ℕ). out_of p.passed ++ bytes) (sym p.gathered ∙ served.gone.0) ∙ append-nil (out_of p.passed)))) p.wrote;
@@ -517,22 +524,34 @@ at_rest a settled =
       handed = settled.handed;
       denied = settled.denied;
       formed = settled.formed;
+      old = settled.old;
+      many = settled.many;
       unsent = λ peer there. settled.unsent peer (omega (arith, there, names));
     }
 
-pub hears_first : (unread unread2 body : List ℕ) (a b d : Process) → front_of unread ≡ Ok (Some body) → unread2 ≡ after_front unread → Makes (Read body) a b → Works b d → Attends false b d → IsSettled d
-    → HearsFirst unread unread2 a d
-hears_first unread unread2 body a b d front behind noted works attends settled = record {
+-- the first two deeds
+abbrev two_steps : (body : List ℕ) (a b c : Process) → Makes (Read body) a b → Makes Brought b c → List Step
+two_steps body a b c noted brought = step_of (Read body) a b noted ∷ step_of Brought b c brought ∷ []
+
+two_go : (body : List ℕ) (a b c : Process) (noted : Makes (Read body) a b) (brought : Makes Brought b c) → Goes (two_steps body a b c noted brought) a c
+two_go body a b c noted brought =
+    goes_on_after (step_of (Read body) a b noted ∷ []) (step_of Brought b c brought ∷ []) a b c (makes_goes (Read body) a b noted) (makes_goes Brought b c brought)
+
+pub hears_first : (unread unread2 body : List ℕ) (a b c d : Process) → front_of unread ≡ Ok (Some body) → unread2 ≡ after_front unread → Makes (Read body) a b → Makes Brought b c
+    → Works c d → Attends false c d → IsSettled d → HearsFirst unread unread2 a d
+hears_first unread unread2 body a b c d front behind noted brought works attends settled = record {
   body = body;
   front = front;
   behind = behind;
-  steps = step_of (Read body) a b noted ∷ works.steps;
+  steps = two_steps body a b c noted brought ++ works.steps;
   work = deeds_of works.steps;
   deeds = refl;
   follows = work_deeds works.steps works.work;
-  goes = goes_on_after (step_of (Read body) a b noted ∷ []) works.steps a b d (makes_goes (Read body) a b noted) works.goes;
+  goes = goes_on_after (two_steps body a b c noted brought) works.steps a c d (two_go body a b c noted brought) works.goes;
   noted = b;
   notes = noted;
+  mirrored = c;
+  brings = brought;
   attends = attends;
   rest = at_rest d settled;
 }
@@ -542,23 +561,36 @@ unnoted_first unread body fault a b front fails = record {
   body = body;
   front = front;
   steps = [];
-  missing = Read body ∷ [];
+  missing = Read body ∷ Brought ∷ [];
   work = [];
   deeds = refl;
   follows = tt;
   ends = fails_ends (Read body) fault a b fails;
 }
 
-pub unfinished_first : (unread body : List ℕ) (fault : ProcessFault) (a b d : Process) → front_of unread ≡ Ok (Some body) → Makes (Read body) a b → WorksUntil fault b d → HearsFirstUntil unread fault a d
-unfinished_first unread body fault a b d front noted works = record {
+pub untold_first : (unread body : List ℕ) (fault : ProcessFault) (a b c : Process) → front_of unread ≡ Ok (Some body) → Makes (Read body) a b → Fails Brought fault b c → HearsFirstUntil unread fault a c
+untold_first unread body fault a b c front noted fails = record {
   body = body;
   front = front;
-  steps = step_of (Read body) a b noted ∷ works.steps;
+  steps = step_of (Read body) a b noted ∷ [];
+  missing = Brought ∷ [];
+  work = [];
+  deeds = refl;
+  follows = tt;
+  ends = ends_on (step_of (Read body) a b noted ∷ []) [] fault a b c (makes_goes (Read body) a b noted) (fails_ends Brought fault b c fails);
+}
+
+pub unfinished_first : (unread body : List ℕ) (fault : ProcessFault) (a b c d : Process) → front_of unread ≡ Ok (Some body) → Makes (Read body) a b → Makes Brought b c → WorksUntil fault c d
+    → HearsFirstUntil unread fault a d
+unfinished_first unread body fault a b c d front noted brought works = record {
+  body = body;
+  front = front;
+  steps = two_steps body a b c noted brought ++ works.steps;
   missing = [];
   work = deeds_of works.steps;
-  deeds = append-nil (Read body ∷ deeds_of works.steps);
+  deeds = append-nil (Read body ∷ Brought ∷ deeds_of works.steps);
   follows = work_deeds works.steps works.work;
-  ends = ends_on (step_of (Read body) a b noted ∷ []) works.steps fault a b d (makes_goes (Read body) a b noted) works.ends;
+  ends = ends_on (two_steps body a b c noted brought) works.steps fault a c d (two_go body a b c noted brought) works.ends;
 }
 
 -- ---- outcomes

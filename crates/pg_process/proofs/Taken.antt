@@ -40,7 +40,7 @@ use Rattle.pg_node_run.proofs.Taking.{next_is, took_packet}
 use Rattle.pg_node_process.specs.Outputs.{IsFramed, Output, said as bytes_said}
 use Rattle.pg_term.specs.declared.term.Term.{Term}
 use Rattle.pg_process.specs.Chains.{Rests}
-use Rattle.pg_process.specs.Deeds.{AsideSame, Takes, Tells, fault_term, told_next}
+use Rattle.pg_process.specs.Deeds.{AsideSame, SaysTaken, Takes, Tells, fault_term, told_next}
 use Rattle.pg_process.specs.Situations.{Setting, Situation, setting_of, situation_of}
 use Rattle.pg_process.specs.Takings.{HasNone, TookOne, tells_full, tells_none}
 use Rattle.pg_process.specs.declared.process.Process.{Process}
@@ -51,13 +51,20 @@ healthy : (damaged : Bool) (r : Result (Option Packet) NodeFault) (packet : Pack
 healthy true r packet e = absurd (cc)
 healthy false r packet e = refl
 
+-- an act takes the packet that is the next of the link
+pub record TakesPacket (set : Setting) (a : Situation) (peer : ℕ) (act : Act) (b : Situation) : Type 0 where
+  pub packet : Packet
+  pub next : next_packet (a.links peer) ≡ Ok (Some packet)
+  pub given : act.input ≡ TookPacket peer (stamped_of packet)
+  pub takes : Takes set a peer act b
+
 pub takes : (set : Setting) (a b : Situation) (peer : ℕ) (done : FramedDone) (s : Timed State) (x : ℕ → List Answer) (links : ℕ → Link)
     → peer + 1 < length set.names
     → TakesNext set.names (told_next set a peer) (Ok (Some done)) a.node.state s a.node.answers x
     → AreSendable set.names (listed_of done.sends) → AreSmallFrames (listed_of done.sends)
     → ((place : ℕ) → links place ≡ at_link peer passed (sent_out (listed_of done.sends) a.links) place)
     → b.node.state ≡ s → b.node.answers ≡ x → b.links ≡ links → AsideSame a b
-    → (act : Act) × Takes set a peer act b
+    → (act : Act) × TakesPacket set a peer act b
 takes set a b peer done s x links there event fits small sent state answers wires aside =
     let link = a.links peer in
     let p = name_at set.names (peer + 1) in
@@ -70,28 +77,33 @@ takes set a b peer done s x links there event fits small sent state answers wire
     let act : Act = record { input = TookPacket peer (stamped_of took.packet); turn = happened.turn; sends = listed_of done.sends; came = front } in (
       act,
       record {
-        leads = record {
-          there = there;
-          made = happened.made;
-          state = state ∙ happened.happens.state;
-          answers = subst (λ (y : ℕ → List Answer). Gave (name_at set.names 0) happened.turn.reported.gave a.node.answers y) (sym answers) happened.happens.answers;
-          sends = happened.happens.told.sends;
-          fits = fits;
-          small = small;
-          came = record {
-            body = is.body;
-            packet = took.packet;
-            front = front_alone link.unread is.body is.front;
-            alone = front_alone_len link.unread is.body is.front;
-            spelled = is.spelled;
-            is = refl;
-          };
-        };
+        packet = took.packet;
+        next = took.next;
         given = refl;
-        sound = healthy link.damaged (packet_at (front_of link.unread)) took.packet took.next;
-        taken = front_taken link.unread is.body is.front ∙ ap (λ w. front ++ w) (sym after);
-        links = λ place. ap (λ (ls : ℕ → Link). ls place) wires ∙ sent place;
-        aside = aside;
+        takes = record {
+          leads = record {
+            there = there;
+            made = happened.made;
+            state = state ∙ happened.happens.state;
+            answers = subst (λ (y : ℕ → List Answer). Gave (name_at set.names 0) happened.turn.reported.gave a.node.answers y) (sym answers) happened.happens.answers;
+            sends = happened.happens.told.sends;
+            fits = fits;
+            small = small;
+            came = record {
+              body = is.body;
+              packet = took.packet;
+              front = front_alone link.unread is.body is.front;
+              alone = front_alone_len link.unread is.body is.front;
+              spelled = is.spelled;
+              is = refl;
+            };
+          };
+          given = refl;
+          sound = healthy link.damaged (packet_at (front_of link.unread)) took.packet took.next;
+          taken = front_taken link.unread is.body is.front ∙ ap (λ w. front ++ w) (sym after);
+          links = λ place. ap (λ (ls : ℕ → Link). ls place) wires ∙ sent place;
+          aside = aside;
+        };
       },
     )
 
@@ -244,18 +256,20 @@ pub took_one : (a b : Process) (peer : ℕ) (done : FramedDone) (s : Timed State
     → ((place : ℕ) → links place ≡ at_link peer passed (sent_out (listed_of done.sends) (links_of a.node)) place)
     → state_of (held_by b.node) ≡ s → answers_of (held_by b.node) ≡ x → links_of b.node ≡ links
     → names_of (held_by b.node) ≡ names_of (held_by a.node) → ports_of (held_by b.node) ≡ ports_of (held_by a.node)
-    → b.outlet.gathered.items ≡ a.outlet.gathered.items → b.journal.gathered.items ≡ a.journal.gathered.items → AsideSame (situation_of a) (situation_of b)
+    → (said : List Output) → ((act : Act) → TakesPacket (setting_of a) (situation_of a) peer act (situation_of b) → SaysTaken (setting_of a) act (situation_of a) (situation_of b) said)
+    → AllByRecursion IsFramed said
+    → b.outlet.gathered.items ≡ a.outlet.gathered.items ++ flat_map bytes_said said → b.journal.gathered.items ≡ a.journal.gathered.items → AsideSame (situation_of a) (situation_of b)
     → TookOne peer a b
-took_one a b peer done s x links within event fits small sent state answers wires names ports gathered journal aside =
+took_one a b peer done s x links within event fits small sent state answers wires names ports said says heard gathered journal aside =
     let there : peer + 1 < length (names_of (held_by a.node)) = omega (arith, ap (λ (ns : List Name). length ns) a.named, within) in
     let t = takes (setting_of a) (situation_of a) (situation_of b) peer done s x links there event fits small sent state answers wires aside in
     inl (
       t.0,
       record {
-        said = [];
-        does = (refl, t.1);
-        heard = tt;
-        gathered = gathered ∙ sym (append-nil a.outlet.gathered.items);
+        said = said;
+        does = (says t.0 t.1, t.1.takes);
+        heard = heard;
+        gathered = gathered;
         journal = journal ∙ sym (append-nil a.journal.gathered.items);
         setting = λ i. record { names = names i; ports = ports i };
       },
@@ -264,16 +278,16 @@ took_one a b peer done s x links within event fits small sent state answers wire
 -- nothing was
 pub took_none : (a b : Process) → state_of (held_by b.node) ≡ state_of (held_by a.node) → answers_of (held_by b.node) ≡ answers_of (held_by a.node)
     → names_of (held_by b.node) ≡ names_of (held_by a.node) → ports_of (held_by b.node) ≡ ports_of (held_by a.node) → links_of b.node ≡ links_of a.node
-    → b.outlet.gathered.items ≡ a.outlet.gathered.items → b.journal.gathered.items ≡ a.journal.gathered.items → AsideSame (situation_of a) (situation_of b)
+    → b.outlet.gathered.items ≡ a.outlet.gathered.items → b.journal.gathered.items ≡ a.journal.gathered.items → AsideSame (situation_of a) (situation_of b) → b.told ≡ a.told
     → Rests a b
-took_none a b state answers names ports links gathered journal aside = record {
+took_none a b state answers names ports links gathered journal aside told = record {
   same = λ i. record {
     node = record { state = state i; answers = answers i };
     links = links i;
     ports = aside.ports i;
     courtesies = aside.courtesies i;
     came = aside.came i;
-    told = aside.told i;
+    told = told i;
   };
   gathered = gathered;
   journal = journal;

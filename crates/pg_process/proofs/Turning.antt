@@ -18,7 +18,7 @@ use Rattle.pg_node_process.specs.Retries.{after_answer, after_look, gives_way, i
 use Rattle.pg_process.specs.declared.process.Process.{Process}
 use Rattle.pg_process.specs.Chains.{AllDo, Makes, Rests, Step}
 use Rattle.pg_process.specs.Changes.{HandsOver, HasNothing, Retries}
-use Rattle.pg_process.specs.Deeds.{Answered, Answers, Asked, Blamed, Broke, Declined, Deed, Denied, Does, Fed, Formed, Handed, Looked, Queued, Read, Sent, Shared, Timed, Took, Tried}
+use Rattle.pg_process.specs.Deeds.{Aged, Answered, Answers, Asked, Blamed, Broke, Brought, Crowded, Declined, Deed, Denied, Does, Fed, Formed, Handed, Looked, Queued, Read, Sent, Shared, Timed, Took, Tried}
 use Rattle.pg_process.specs.Settled.{KeepsNone, OnlyPort}
 use Rattle.pg_process.specs.Situations.{Setting, Situation, at_place, setting_of, situation_of}
 use Rattle.pg_process.specs.Turns.{HandsAt, HandsIf, HandsMany, HandsOne, HandsSome, HandsUpTo, HandsWhere, IsSaidAt, Says, SaysAll, TriesAt, TriesEach, TriesIfDue, TriesWhere, has_next, is_free}
@@ -77,6 +77,7 @@ said_answer set port place answer said a b is does = record {
 
 said_one : (set : Setting) (port : ℕ) (deed : Deed) (said : List Output) (a b : Situation) → IsSaidAt port deed → Does set a deed said b → SaidOnly port a b
 said_one set port (Read body) said a b is does = absurd is
+said_one set port Brought said a b is does = absurd is
 said_one set port Blamed said a b is does = absurd is
 said_one set port Timed said a b is does = absurd is
 said_one set port (Shared place) said a b is does = absurd is
@@ -92,6 +93,8 @@ said_one set port (Tried place act) said a b is does = absurd is
 said_one set port (Denied place) said a b is does = absurd is
 said_one set port (Answered place answer) said a b is does = said_answer set port place answer said a b is does
 said_one set port Formed said a b is does = absurd is
+said_one set port Aged said a b is does = absurd is
+said_one set port (Crowded count) said a b is does = absurd is
 said_one set port (Sent peer bytes) said a b is does = absurd is
 
 said_only : (set : Setting) (port : ℕ) (steps : List Step) (a b : Situation) → AllByRecursion (λ (step : Step). IsSaidAt port step.deed) steps → AllDo set a steps b → SaidOnly port a b

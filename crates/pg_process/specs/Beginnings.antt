@@ -1,5 +1,5 @@
 -- How a process begins.
-use Rattle.std.specs.Prelude.{◌≡◌, ◌≢◌, ◌∷◌, ℕ, List, [], true, false, length, Ok, Err, ⊤}
+use Rattle.std.specs.Prelude.{◌≡◌, ◌≢◌, ◌∷◌, ℕ, Bool, List, [], true, false, length, Ok, Err, ⊤}
 use Rattle.pg_step.specs.PgExchange.GroupList.{GroupList}
 use Rattle.pg_step.specs.Config.{first_table}
 use Rattle.pg_step.specs.Machines.Clocked.{Timed}
@@ -19,7 +19,12 @@ use Rattle.pg_node_process.specs.Retries.{at_first}
 use Rattle.pg_process.specs.declared.fault.BeginFault.{BeginFault}
 use Rattle.pg_process.specs.declared.fault.BeginFault.TheVariants.{BadConfig, Groups, Message, OutOfMemory}
 use Rattle.pg_process.specs.declared.process.Process.{Process}
+use Rattle.pg_process.specs.declared.process.Told.{Told}
 use Rattle.pg_process.specs.Situations.{Setting, Situation, setting_of, situation_of}
+
+-- nothing that is said once only was said
+abbrev pub none_told : Bool → Told
+none_told mirrored = record { formed = false; old_clock = false; many_ended = false; mirrored = mirrored }
 
 -- What a node of a set begins with: its table has these groups, and the frame that announces them waits for each peer. Nothing came, and nothing was said.
 pub record StartsAs (config : ProcessConfig) (groups : GroupList) (set : Setting) (a : Situation) : Type 0 where
@@ -30,7 +35,7 @@ pub record StartsAs (config : ProcessConfig) (groups : GroupList) (set : Setting
   pub ports : a.ports ≡ (λ port. nothing_came)
   pub courtesies : a.courtesies ≡ (λ port. at_first)
   pub came : a.came ≡ 0
-  pub told : a.told.formed ≡ false
+  pub told : a.told ≡ none_told config.mirrored
 
 -- A process begins so, and nothing is gathered.
 pub record Begins (config : ProcessConfig) (groups : GroupList) (process : Process) : Type 0 where
@@ -69,12 +74,12 @@ CantBegin config bytes (Message fault) =
 CantBegin config bytes OutOfMemory = is_config config ≡ true
 
 -- what is kept by a process to whose node nothing came
-abbrev pub first_situation : Timed State → (ℕ → List Answer) → (ℕ → Link) → Situation
-first_situation state answers links = record {
+abbrev pub first_situation : Bool → Timed State → (ℕ → List Answer) → (ℕ → Link) → Situation
+first_situation mirrored state answers links = record {
   node = record { state = state; answers = answers };
   links = links;
   ports = λ port. nothing_came;
   courtesies = λ port. at_first;
   came = 0;
-  told = record { formed = false };
+  told = none_told mirrored;
 }

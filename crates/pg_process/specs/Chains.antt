@@ -10,7 +10,7 @@ use Rattle.pg_node_process.specs.Outputs.{IsFramed, Output, said as bytes_said}
 use Rattle.pg_process.specs.declared.fault.ProcessFault.{ProcessFault}
 use Rattle.pg_process.specs.declared.fault.ProcessFault.TheVariants.{ClockFull, OutOfMemory}
 use Rattle.pg_process.specs.declared.process.Process.{Process}
-use Rattle.pg_process.specs.Deeds.{Asked, Blamed, Deed, Does, Fed, Queued, Read, Shared, Timed, logged, told_next}
+use Rattle.pg_process.specs.Deeds.{Asked, Blamed, Brought, Deed, Does, Fed, Queued, Read, Shared, Timed, logged, told_next}
 use Rattle.pg_process.specs.Situations.{Setting, Situation, setting_of, situation_of}
 
 -- ---- one deed
@@ -77,6 +77,7 @@ pub record Goes (steps : List Step) (a b : Process) : Type 0 where
 -- a deed that no body asks for: it follows from what is kept
 abbrev pub IsWork : Deed → Type 0
 IsWork (Read body) = ⊥
+IsWork Brought = ⊥
 IsWork Blamed = ⊥
 IsWork Timed = ⊥
 IsWork (Shared port) = ⊥

@@ -1,5 +1,5 @@
 -- What comes of a change that is handed over or tried again.
-use Rattle.std.specs.Prelude.{◌≡◌, ◌⊎◌, ◌≢◌, ℕ, Bool, true, false, List, [], ◌∷◌, ◌++◌, ◌+◌, Option, Some, None, Err}
+use Rattle.std.specs.Prelude.{⊤, ◌≡◌, ◌⊎◌, ◌≢◌, ℕ, Bool, true, false, List, [], ◌∷◌, ◌++◌, ◌+◌, Option, Some, None, Err}
 use Rattle.std.specs.List.{AllByRecursion, flat_map}
 use Rattle.pg_node.specs.PgNodeOpens.Places.{whole_in}
 use Rattle.pg_node.specs.PgStep.Step.{Issue, Retry, step_act}
@@ -17,6 +17,11 @@ use Rattle.pg_process.specs.declared.fault.ProcessFault.TheVariants.{ClockFull, 
 use Rattle.pg_process.specs.declared.process.Process.{Process}
 use Rattle.pg_process.specs.Chains.{Fails, Makes, Rests, Silent}
 use Rattle.pg_process.specs.Deeds.{Declined, Handed, IsReply, Tried, number_of}
+use Rattle.pg_term.specs.declared.term.Term.{Term}
+use Rattle.pg_node.specs.PgStep.State.{State}
+use Rattle.pg_node.specs.PgStep.declared.command.Command.{Command}
+use Rattle.pg_node.specs.PgStep.declared.command.Command.TheVariants.{Finish}
+use Rattle.pg_node_process.specs.Mirrors.{AreGroupsOf}
 use Rattle.pg_process.specs.Situations.{at_place, setting_of, situation_of}
 
 -- ---- a change is handed over
@@ -24,6 +29,15 @@ use Rattle.pg_process.specs.Situations.{at_place, setting_of, situation_of}
 -- one is with the node, or none waits
 abbrev pub HasNothing : Port → Type 0
 HasNothing port = (port.current ≢ None) ⊎ (port.waiting ≡ [])
+
+-- the groups that the process of a command leaves, which has not ended
+abbrev pub LeavesBy : Command → State → List Term → Type 0
+LeavesBy (Finish pid) s names = (s.ended pid ≡ false → AreGroupsOf s.table pid names) × (s.ended pid ≡ true → names ≡ [])
+LeavesBy command s names = ⊤
+
+abbrev pub LeavesFor : Bool → Command → State → List Term → Type 0
+LeavesFor true command s names = LeavesBy command s names
+LeavesFor false command s names = ⊤
 
 -- it was taken by the node, or refused
 abbrev pub HandsOver : ℕ → Bool → Process → Process → Type 0
@@ -59,4 +73,4 @@ Retries op false a b = Rests a b × ((refusal : Refusal) × (step_act (whole_in 
 
 abbrev pub StopsTrying : OpId → ProcessFault → Process → Process → Type 0
 StopsTrying op ClockFull a b = Silent a b × (step_act (whole_in (setting_of a).names) (setting_of a).ports (Retry op) (situation_of a).node.state ≡ Err refusals.ClockFull)
-StopsTrying op OutOfMemory a b = Silent a b
+StopsTrying op OutOfMemory a b = Silent a b ⊎ ((act : Act) × Fails (Tried op.port act) OutOfMemory a b)

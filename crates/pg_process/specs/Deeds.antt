@@ -1,7 +1,9 @@
 -- What a process does, one thing after another: what each makes of what it keeps, what it says, and what is logged of it.
-use Rattle.std.specs.Prelude.{◌≡◌, ◌⊎◌, ◌+◌, ◌-◌, ◌^◌, ℕ, min, Bool, true, false, take, length, List, [], ◌∷◌, ◌++◌, Option, Some, None, Result, Err, nat_le}
+use Rattle.std.specs.Prelude.{◌≡◌, ◌⊎◌, ◌≤◌, ◌+◌, ◌-◌, ◌^◌, ℕ, min, Bool, true, false, take, length, List, [], ◌∷◌, ◌++◌, Option, Some, None, Result, Err, nat_le}
+use Rattle.pg_term.specs.declared.pid.Pid.{Pid}
 use Rattle.pg_term.specs.declared.term.Term.{Term}
 use Rattle.pg_term.specs.declared.term.Term.TheVariants.{Atom as Word}
+use Rattle.pg_node.specs.PgGroup.Ended.{IsEndedCount}
 use Rattle.pg_node.specs.Bytes.{damages, marked, passed}
 use Rattle.pg_node.specs.Links.{Link, at_link, with_fed, without_front}
 use Rattle.pg_node.specs.Nodes.{sent_out, step_link}
@@ -14,24 +16,31 @@ use Rattle.pg_node.specs.PgStep.Faults.{refusal_number_of}
 use Rattle.pg_node.specs.PgStep.Step.{Issue, Retry, TimedTurn, step_act}
 use Rattle.pg_node.specs.PgStep.declared.answer.Answer.{Answer}
 use Rattle.pg_node.specs.PgStep.declared.answer.Reply.{Reply}
+use Rattle.pg_node.specs.PgStep.declared.answer.Reply.TheVariants as replies
 use Rattle.pg_node.specs.PgStep.declared.command.Command.{Command}
+use Rattle.pg_node.specs.PgStep.declared.command.Command.TheVariants.{Join}
 use Rattle.pg_node.specs.PgStep.declared.refusal.Refusal.{Refusal}
 use Rattle.pg_node_process.specs.declared.desk.Numbered.{Numbered}
 use Rattle.pg_node_process.specs.declared.retries.Seen.{Seen}
 use Rattle.pg_node_process.specs.Desks.{Answered as Closed, Changing, Handed as Opened, counted, next_number, port_after, with_answer}
 use Rattle.pg_node_process.specs.Logs.{Entry, Read as Logged, Tried as LoggedTrial, Handed as LoggedHand}
+use Rattle.pg_node_process.specs.Mirrors.{TellsTable, no_groups}
 use Rattle.pg_node_process.specs.Outputs.{Output, Bytes, Clock, Denied as DeniedOutput, Formed as FormedOutput, Said, IsUntellable, untold}
 use Rattle.pg_node_process.specs.Retries.{after_answer, after_look, after_share, after_trial}
-use Rattle.pg_node_requests.specs.Replies.{bad_request_term, numbered_term, pair, refused_term, reply_term}
+use Rattle.pg_node_requests.specs.Replies.{bad_request_term, has_ended_term, many_ended_term, numbered_term, old_clock_term, pair, refused_term, reply_term}
 use Rattle.pg_node_run.specs.Acts.{Act, ActLeads, Did, Given, Took as TookPacket}
 use Rattle.pg_process.specs.Locks.{IsDenied, is_formed, seen_of}
-use Rattle.pg_process.specs.Situations.{Setting, Situation, at_place, own_of}
+use Rattle.pg_process.specs.Mirrors.{TellsAct}
+use Rattle.pg_process.specs.declared.process.Told.{Told}
+use Rattle.pg_process.specs.Situations.{Setting, Situation, at_place, own_of, table_of}
 
 -- ---- what is done
 
 pub data Deed : Type 0 where
   -- a body came, and is logged
   Read : (body : List ℕ) → Deed
+  -- the groups that the first body brought are told to a host that mirrors the table
+  Brought : Deed
   -- a body that asks for nothing is told of; the clock is said; another node was denied the lock of a group of a port
   Blamed : Deed
   Timed : Deed
@@ -54,6 +63,9 @@ pub data Deed : Type 0 where
   Answered : (port : ℕ) → Answer → Deed
   -- that the node is formed is said
   Formed : Deed
+  -- it is told that the clock is old, and that many processes have ended
+  Aged : Deed
+  Crowded : (count : ℕ) → Deed
   -- bytes for a peer go out
   Sent : (peer : ℕ) → (bytes : List ℕ) → Deed
 
@@ -80,6 +92,13 @@ IsReply set port number reply said =
 -- {{refused, N}, Node}: what is told of the bytes of a peer
 abbrev pub fault_term : List ℕ → NodeFault → Term
 fault_term peer fault = pair (refused_term (node_number_of fault)) (Word peer)
+
+-- from this clock on it is old, and so many ended processes are many
+abbrev pub OLD_CLOCK : ℕ
+OLD_CLOCK = 2 ^ 29
+
+abbrev pub MANY_ENDED : ℕ
+MANY_ENDED = 1000000
 
 -- the number of the change that is with the node
 abbrev pub number_of : Option Numbered → ℕ
@@ -117,12 +136,27 @@ fed_by false false bytes link = with_fed link bytes
 abbrev pub is_lost : Setting → Situation → ℕ → Bool
 is_lost set a peer = a.node.state.state.lost (name_at set.names (peer + 1))
 
--- nothing but the node and its links is another
+-- nothing but the node, its links and what is said once is another
 pub record AsideSame (a b : Situation) : Type 0 where
   pub ports : b.ports ≡ a.ports
   pub courtesies : b.courtesies ≡ a.courtesies
   pub came : b.came ≡ a.came
-  pub told : b.told ≡ a.told
+
+-- that the node is formed, where it is, and that was not said
+abbrev pub formed_said : (formed told : Bool) → List Output
+formed_said true false = FormedOutput ∷ []
+formed_said formed told = []
+
+abbrev pub told_formed : Bool → Told → Told
+told_formed true told = record told { formed = true }
+told_formed false told = told
+
+-- What an act makes of the table is told, and behind that at once that the node is formed, where it now is.
+pub record SaysTaken (set : Setting) (act : Act) (a b : Situation) (said : List Output) : Type 0 where
+  pub table : List Output
+  pub tells : TellsAct a.told.mirrored act (table_of a) (table_of b) table
+  pub says : said ≡ table ++ formed_said (is_formed set b) a.told.formed
+  pub told : b.told ≡ told_formed (is_formed set b) a.told
 
 abbrev pub IsOf : ℕ → Given → Type 0
 IsOf peer (TookPacket p x) = p ≡ peer
@@ -184,11 +218,38 @@ pub record Tries (set : Setting) (a : Situation) (port : ℕ) (act : Act) (b : S
   pub came : b.came ≡ a.came
   pub told : b.told ≡ a.told
 
+-- the process of a join has ended
+abbrev pub join_of_ended : Command → (Pid → Bool) → Bool
+join_of_ended (Join name pid) ended = ended pid
+join_of_ended command ended = false
+
+-- whether ok is the answer to a join of a process that has ended, which adds nothing
+abbrev pub joins_ended : Option Numbered → Reply → (Pid → Bool) → Bool
+joins_ended (Some change) replies.Ok ended = join_of_ended change.command ended
+joins_ended change reply ended = false
+
+abbrev pub SaysEnded : Bool → Term → List Output → Type 0
+SaysEnded true term said = Tells term said
+SaysEnded false term said = said ≡ []
+
+-- The reply to a request is said, and before it, where that is so, that its process has ended.
+pub record SaysBoth (set : Setting) (port number : ℕ) (has_ended : Bool) (reply : Term) (said : List Output) : Type 0 where
+  pub notice : List Output
+  pub notices : SaysEnded has_ended (has_ended_term (own_of set) (port + 1) number) notice
+  pub answer : List Output
+  pub replies : IsReply set port number reply answer
+  pub says : said ≡ notice ++ answer
+
+-- an answer is said; before that to a join of a process that has ended it is said that it has
+abbrev pub SaysAnswer : Setting → Situation → ℕ → Reply → List Output → Type 0
+SaysAnswer set a port reply said =
+    SaysBoth set port (number_of (a.ports port).current) (joins_ended (a.ports port).current reply a.node.state.state.ended) (reply_term reply) said
+
 -- the first answer at a port is said under the number of the change that is with the node, and forgotten
 pub record Answers (set : Setting) (a : Situation) (port : ℕ) (answer : Answer) (said : List Output) (b : Situation) : Type 0 where
   pub later : List Answer
   pub first : a.node.answers port ≡ answer ∷ later
-  pub says : IsReply set port (number_of (a.ports port).current) (reply_term answer.reply) said
+  pub says : SaysAnswer set a port answer.reply said
   pub after : b ≡ record a {
     node = record a.node { answers = left_at port 1 a.node.answers };
     ports = at_place port with_answer a.ports;
@@ -204,19 +265,24 @@ pub record Sends (a : Situation) (peer : ℕ) (bytes : List ℕ) (said : List Ou
 -- What each deed makes of what is kept, and what it says.
 abbrev pub Does : Setting → Situation → Deed → List Output → Situation → Type 0
 Does set a (Read body) said b = (said ≡ []) × (b ≡ record a { came = next_count a.came })
+Does set a Brought said b = TellsTable a.told.mirrored no_groups (table_of a) said × (b ≡ a)
 Does set a Blamed said b = Tells (bad_request_term a.came) said × (b ≡ a)
 Does set a Timed said b = (said ≡ Clock a.node.state.clock ∷ []) × (b ≡ a)
 Does set a (Shared port) said b = (said ≡ []) × (b ≡ record a { courtesies = at_place port after_share a.courtesies })
 Does set a (Asked port command) said b = Asks set a port command said b
 Does set a (Queued port command) said b = Queues set a port command said b
 Does set a (Fed peer bytes) said b = (said ≡ []) × (b ≡ record a { links = at_link peer (fed_by (is_lost set a peer) (a.links peer).damaged bytes) a.links })
-Does set a (Took peer act) said b = (said ≡ []) × Takes set a peer act b
+Does set a (Took peer act) said b = SaysTaken set act a b said × Takes set a peer act b
 Does set a (Broke peer fault) said b = Breaks set a peer fault said b
-Does set a (Handed port act) said b = (said ≡ []) × Hands set a port act b
+Does set a (Handed port act) said b = TellsAct a.told.mirrored act (table_of a) (table_of b) said × Hands set a port act b
 Does set a (Declined port refusal) said b = Declines set a port refusal said b
 Does set a (Looked port seen is_tick) said b = (said ≡ []) × (seen ≡ seen_of set a port) × (b ≡ record a { courtesies = at_place port (after_look seen is_tick) a.courtesies })
-Does set a (Tried port act) said b = (said ≡ []) × Tries set a port act b
+Does set a (Tried port act) said b = TellsAct a.told.mirrored act (table_of a) (table_of b) said × Tries set a port act b
 Does set a (Denied port) said b = (said ≡ DeniedOutput (port + 1) ∷ []) × IsDenied set a port × ((a.courtesies port).is_told ≡ false) × (b ≡ record a { courtesies = at_place port (λ c. record c { is_told = true }) a.courtesies })
 Does set a (Answered port answer) said b = Answers set a port answer said b
 Does set a Formed said b = (said ≡ FormedOutput ∷ []) × (is_formed set a ≡ true) × (a.told.formed ≡ false) × (b ≡ record a { told = record a.told { formed = true } })
+Does set a Aged said b = Tells (old_clock_term a.node.state.clock) said × (OLD_CLOCK ≤ a.node.state.clock) × (a.told.old_clock ≡ false) × (b ≡ record a { told = record a.told { old_clock = true } })
+Does set a (Crowded count) said b =
+    Tells (many_ended_term count) said × IsEndedCount a.node.state.state.ended count × (MANY_ENDED ≤ count) × (a.told.many_ended ≡ false)
+    × (b ≡ record a { told = record a.told { many_ended = true } })
 Does set a (Sent peer bytes) said b = Sends a peer bytes said b

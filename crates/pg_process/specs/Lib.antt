@@ -5,11 +5,14 @@ pub mod Changes
 pub mod Deeds
 pub mod Faults
 pub mod Hearing
+pub mod Kept
 pub mod Locks
+pub mod Mirrors
 pub mod Parties
 pub mod Serving
 pub mod Settled
 pub mod Situations
 pub mod Stories
+pub mod Tables
 pub mod Takings
 pub mod Turns

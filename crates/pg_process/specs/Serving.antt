@@ -11,6 +11,7 @@ use Rattle.pg_node_process.specs.Bodies.{body_of}
 use Rattle.pg_node_process.specs.Configs.{is_config}
 use Rattle.pg_node_process.specs.Groups.{brought}
 use Rattle.pg_node_process.specs.Logs.{Entry, Head, entry_bytes, head_bytes}
+use Rattle.pg_node_process.specs.Mirrors.{mirror, no_groups}
 use Rattle.pg_node_process.specs.Outputs.{IsFramed, Version, said as bytes_said}
 use Rattle.pg_node_process.specs.Passing.{FailedAt, Passes, WritesPart}
 use Rattle.pg_node_process.specs.Whom.{Whom}
@@ -21,11 +22,11 @@ use Rattle.pg_process.specs.Accounts.{Accounts}
 use Rattle.pg_process.specs.Beginnings.{CantBegin, StartsAs}
 use Rattle.pg_process.specs.declared.process.Process.{Process}
 use Rattle.pg_process.specs.Chains.{AllDo, IsCause, IsWork, Makes, Step, logged_in, said_in}
-use Rattle.pg_process.specs.Deeds.{Deed, Read}
+use Rattle.pg_process.specs.Deeds.{Brought, Deed, Read}
 use Rattle.pg_process.specs.Hearing.{deeds_of, heeded}
 use Rattle.pg_process.specs.Parties.{whom_of}
 use Rattle.pg_process.specs.Settled.{IsAtRest}
-use Rattle.pg_process.specs.Situations.{Setting, Situation, setting_of, situation_of}
+use Rattle.pg_process.specs.Situations.{Setting, Situation, setting_of, situation_of, table_of}
 use Rattle.pg_process.specs.Turns.{Attends, HearsInTurn}
 
 -- ---- bodies, one after another
@@ -40,12 +41,12 @@ AreHeard whom [] deeds = deeds ≡ []
 AreHeard whom (body ∷ bodies) deeds = (work : List Deed) × (later : List Deed) × AllByRecursion IsWork work
     × (deeds ≡ Read body ∷ heeded (body_of whom body) body ++ (work ++ later)) × AreHeard whom bodies later
 
--- The first body, which brought the groups, is logged, and then what follows from that is done. Then the others are heard.
+-- The first body is logged, the groups that it brought are told to a host that mirrors the table, and then what follows is done. Then the others are heard.
 pub record AreAllHeard (whom : Whom) (first : List ℕ) (bodies : List (List ℕ)) (deeds : List Deed) : Type 0 where
   pub work : List Deed
   pub later : List Deed
   pub follows : AllByRecursion IsWork work
-  pub parts : deeds ≡ Read first ∷ (work ++ later)
+  pub parts : deeds ≡ Read first ∷ Brought ∷ (work ++ later)
   pub heard : AreHeard whom bodies later
 
 -- from one situation to another: these bodies are heard, but for what is missing of the last
@@ -59,7 +60,7 @@ abbrev pub TakeTurns : Setting → List (List ℕ) → Situation → Situation �
 TakeTurns set [] a b = b ≡ a
 TakeTurns set (body ∷ bodies) a b = (p : Process) × (q : Process) × (setting_of p ≡ set) × (situation_of p ≡ a) × HearsInTurn body p q × TakeTurns set bodies (situation_of q) b
 
--- The first body is logged, and what follows is done in its order. Then each other is heard in its turn.
+-- The first body is logged, what it brought is told, and what follows is done in its order. Then each other is heard in its turn.
 pub record AllTakeTurns (set : Setting) (a : Situation) (first : List ℕ) (bodies : List (List ℕ)) (b : Situation) : Type 0 where
   pub begun : Process
   pub noted : Process
@@ -67,7 +68,9 @@ pub record AllTakeTurns (set : Setting) (a : Situation) (first : List ℕ) (bodi
   pub setting : setting_of begun ≡ set
   pub start : situation_of begun ≡ a
   pub notes : Makes (Read first) begun noted
-  pub attends : Attends false noted served
+  pub mirrored : Process
+  pub brings : Makes Brought noted mirrored
+  pub attends : Attends false mirrored served
   pub others : TakeTurns set bodies (situation_of served) b
 
 -- a body has groups: its first byte is 20
@@ -140,7 +143,7 @@ module _ {W L : Type 0} (contents : W → Option (List ℕ)) (flushed : W → Ty
     pub none : front_of unread ≡ Ok None
     pub alone : (w ≡ w0) × (l ≡ l0)
 
-  -- All bodies that came whole were heard. All that follows was logged and flushed, written and flushed, and what is due is done.
+  -- All bodies that came whole were heard. All that follows was logged and flushed, written and flushed, and what is due is done. A host that mirrors the table has it.
   pub record IsUpToDate (config : ProcessConfig) (input unread : List ℕ) (w0 w : W) (l0 l : L) : Type 0 where
     pub first : List ℕ
     pub bodies : List (List ℕ)
@@ -154,6 +157,7 @@ module _ {W L : Type 0} (contents : W → Option (List ℕ)) (flushed : W → Ty
     pub hears : HearsAll set start first bodies steps [] now
     pub turns : AllTakeTurns set start first bodies now
     pub accounts : Accounts set start steps now
+    pub mirror : config.mirrored ≡ true → mirror (said_in steps) no_groups ≡ table_of now
     pub rest : IsAtRest set now
     pub wrote : Appends (contents w0) (contents w) (out_of steps)
     pub logged : Appends (entries l0) (entries l) (log_of steps)

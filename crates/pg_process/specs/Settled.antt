@@ -1,11 +1,12 @@
 -- What holds once what follows was done.
-use Rattle.std.specs.Prelude.{◌≡◌, ◌≢◌, ◌⊎◌, ◌<◌, ◌+◌, ℕ, true, length, [], Ok, None}
+use Rattle.std.specs.Prelude.{◌≡◌, ◌≢◌, ◌⊎◌, ◌<◌, ◌≤◌, ◌+◌, ℕ, true, length, [], Ok, None}
 use Rattle.pg_node.specs.Nodes.{held_by, links_of, read_next}
 use Rattle.pg_node.specs.PgNodeState.Issued.{ports_of}
 use Rattle.pg_node.specs.PgNodeState.States.{answers_of}
 use Rattle.pg_node_process.specs.Retries.{gives_way}
 use Rattle.pg_process.specs.declared.process.Process.{Process}
-use Rattle.pg_process.specs.Deeds.{is_lost}
+use Rattle.pg_node.specs.PgGroup.Ended.{IsEndedCount}
+use Rattle.pg_process.specs.Deeds.{MANY_ENDED, OLD_CLOCK, is_lost}
 use Rattle.pg_process.specs.Locks.{IsDenied, is_formed}
 use Rattle.pg_process.specs.Situations.{Setting, Situation, setting_of, situation_of}
 use Rattle.pg_process.specs.Takings.{HasNone}
@@ -13,6 +14,20 @@ use Rattle.pg_process.specs.Takings.{HasNone}
 -- that the node is formed was said, once it is
 abbrev pub IsToldFormed : Setting → Situation → Type 0
 IsToldFormed set a = is_formed set a ≡ true → a.told.formed ≡ true
+
+-- that the clock is old was told, once it is
+abbrev pub IsToldOld : Situation → Type 0
+IsToldOld a = OLD_CLOCK ≤ a.node.state.clock → a.told.old_clock ≡ true
+
+-- that many processes have ended was told, once they are many
+abbrev pub IsToldMany : Situation → Type 0
+IsToldMany a = (count : ℕ) × IsEndedCount a.node.state.state.ended count × (MANY_ENDED ≤ count → a.told.many_ended ≡ true)
+
+-- what is to be told once was told
+pub record IsToldAll (a : Process) : Type 0 where
+  pub formed : IsToldFormed (setting_of a) (situation_of a)
+  pub old : IsToldOld (situation_of a)
+  pub many : IsToldMany (situation_of a)
 
 -- all whole packets of each peer were taken
 abbrev pub NoneComes : Process → Type 0
@@ -69,13 +84,15 @@ pub record OnlySends (peer : ℕ) (a b : Process) : Type 0 where
   pub kept : links_of b.node peer ≡ record (links_of a.node peer) { outbox = (links_of b.node peer).outbox }
 
 -- What follows was done: all whole packets were taken, each answer was said, no port keeps a change that it could hand over, each change that
--- was denied its lock was told to be, and that the node is formed, once it is, and no bytes wait for a peer.
+-- was denied its lock was told to be; that the node is formed was told, once it is, and each warning; and no bytes wait for a peer.
 pub record IsSettled (a : Process) : Type 0 where
   pub taken : NoneComes a
   pub answered : NoneUnsaid a
   pub handed : NoneKeeps a
   pub denied : AllToldDenied a
   pub formed : IsToldFormed (setting_of a) (situation_of a)
+  pub old : IsToldOld (situation_of a)
+  pub many : IsToldMany (situation_of a)
   pub unsent : NoneWaits a
 
 -- the same of what is kept alone
@@ -86,4 +103,6 @@ pub record IsAtRest (set : Setting) (a : Situation) : Type 0 where
   pub handed : (port : ℕ) → port < set.ports → KeepsNone a port
   pub denied : (port : ℕ) → port < set.ports → IsDenied set a port → IsToldDenied a port
   pub formed : IsToldFormed set a
+  pub old : IsToldOld a
+  pub many : IsToldMany a
   pub unsent : (peer : ℕ) → peer + 1 < length set.names → (a.links peer).outbox ≡ []

@@ -3,6 +3,7 @@ use Rattle.std.specs.Prelude.{ℕ, zero, suc, nat_eq, List, [], ◌∷◌}
 use Rattle.pg_node.specs.Links.{Link}
 use Rattle.pg_node.specs.Nodes.{held_by, links_of}
 use Rattle.pg_node.specs.PgGroup.Functions.{upd}
+use Rattle.pg_node.specs.PgGroup.Table.{Table}
 use Rattle.pg_node.specs.PgNodeOpens.Places.{name_at}
 use Rattle.pg_node.specs.PgNodeState.Issued.{ports_of}
 use Rattle.pg_node.specs.PgNodeState.States.{names_of, state_of, answers_of}
@@ -23,7 +24,7 @@ abbrev pub own_of : Setting → Node
 own_of set = name_at set.names 0
 
 -- The node, with the answers that it gave and that were not said; what stands in its links; the requests of each port, and how the port gives
--- way; how many bodies came; and what is said once only.
+-- way; how many bodies came; and what the host was told once, and is told.
 pub record Situation : Type 0 where
   pub node : Standing
   pub links : ℕ → Link
@@ -31,6 +32,10 @@ pub record Situation : Type 0 where
   pub courtesies : ℕ → Courtesy
   pub came : ℕ
   pub told : Told
+
+-- the groups of the node
+abbrev pub table_of : Situation → Table
+table_of a = a.node.state.state.table
 
 -- what is seen of each thing of a list, by its place
 abbrev pub seen_in : {A B : Type 0} → (A → B) → B → List A → ℕ → B

@@ -13,7 +13,7 @@ use Rattle.pg_process.specs.declared.fault.ProcessFault.TheVariants as process
 use Rattle.pg_process.specs.declared.process.Process.{Process}
 use Rattle.pg_process.specs.Beginnings.{BeginsBy, CantBegin}
 use Rattle.pg_process.specs.Chains.{Ends, Goes, IsWork, Makes, Step}
-use Rattle.pg_process.specs.Deeds.{Deed, Read}
+use Rattle.pg_process.specs.Deeds.{Brought, Deed, Read}
 use Rattle.pg_process.specs.Hearing.{Hears, HearsUntil, deeds_of}
 use Rattle.pg_process.specs.Serving.{AllTakeTurns, HasRead, HearsAll, IsHaltedBy, StartsBy, has_groups, log_of, out_of}
 use Rattle.pg_process.specs.Settled.{IsAtRest}
@@ -96,19 +96,21 @@ CantBeginFrom config body (ends.Begin fault) = (bytes : List ℕ) × (body ≡ 2
 CantBeginFrom config body ends.NoGroups = has_groups body ≡ false
 CantBeginFrom config body fault = ⊥
 
--- the first body is logged and taken out, and what follows is done
+-- the first body is logged and taken out, what it brought is told to a host that mirrors the table, and what follows is done
 pub record HearsFirst (unread unread2 : List ℕ) (a b : Process) : Type 0 where
   pub body : List ℕ
   pub front : front_of unread ≡ Ok (Some body)
   pub behind : unread2 ≡ after_front unread
   pub steps : List Step
   pub work : List Deed
-  pub deeds : deeds_of steps ≡ Read body ∷ work
+  pub deeds : deeds_of steps ≡ Read body ∷ Brought ∷ work
   pub follows : AllByRecursion IsWork work
   pub goes : Goes steps a b
   pub noted : Process
   pub notes : Makes (Read body) a noted
-  pub attends : Attends false noted b
+  pub mirrored : Process
+  pub brings : Makes Brought noted mirrored
+  pub attends : Attends false mirrored b
   pub rest : IsAtRest (setting_of b) (situation_of b)
 
 -- a first part of that is done
@@ -118,7 +120,7 @@ pub record HearsFirstUntil (unread : List ℕ) (fault : ProcessFault) (a b : Pro
   pub steps : List Step
   pub missing : List Deed
   pub work : List Deed
-  pub deeds : deeds_of steps ++ missing ≡ Read body ∷ work
+  pub deeds : deeds_of steps ++ missing ≡ Read body ∷ Brought ∷ work
   pub follows : AllByRecursion IsWork work
   pub ends : Ends steps fault a b
 

@@ -2,10 +2,10 @@
 
 use crate::fault::ProcessFault;
 use crate::process::Process;
-use pg_node::Command;
+use pg_node::{Command, Reply};
 use pg_node_ports::query_reply;
 use pg_node_process::Address;
-use pg_node_requests::reply_term;
+use pg_node_requests::{has_ended, reply_term};
 use pg_term::Term;
 
 impl Process {
@@ -19,9 +19,11 @@ impl Process {
     ghost use Rattle.pg_node_process.specs.Outputs.{IsFramed, Output, said as bytes_said};
     ghost use Rattle.pg_process.specs.declared.fault.ProcessFault.TheVariants.{OutOfMemory};
     ghost use Rattle.pg_process.specs.Chains.{Fails, Makes, Rests};
-    ghost use Rattle.pg_process.specs.Deeds.{Answered, Asked, IsReply};
+    ghost use Rattle.pg_node.specs.PgNodeState.States.{kept_by};
+    ghost use Rattle.pg_node_requests.specs.Replies.{has_ended_term};
+    ghost use Rattle.pg_process.specs.Deeds.{Answered, Asked, IsReply, SaysBoth, Tells, join_of_ended, joins_ended};
     ghost use Rattle.pg_process.specs.Hearing.{asked};
-    ghost use Rattle.pg_process.specs.Situations.{setting_of};
+    ghost use Rattle.pg_process.specs.Situations.{own_of, setting_of, situation_of};
 
     /// A request comes in at a port: a query is answered, and a change waits for its turn.
     ///
@@ -73,12 +75,87 @@ impl Process {
             [first, ..] => first.reply.copy(self.alloc)?,
             [] => return Ok(false),
         };
+        let is_ended = self.joins_ended(port, &reply);
         let number = self.desks[port].answered().unwrap_or(0);
         let term = reply_term(self.alloc, reply)?;
-        self.say(port, number, term)?;
+        self.say_answer(port, number, term, is_ended)?;
         self.node.forget_answers(port as u16, 1);
         self.courtesies[port].close();
         Ok(true)
+    }
+
+    /// Whether the answer is ok, to a join of a process that has ended.
+    fn joins_ended(&self, port: usize, reply: &Reply) -> bool
+        requires { port < ports_of (held_by self.now.node) }
+        ensures { result ≡ joins_ended ((situation_of self.now).ports port).current reply.now (kept_by (held_by self.now.node)).ended }
+    {
+        match reply {
+            Reply::Ok => match self.desks[port].current() {
+                Some(change) => self.is_join_of_ended(&change.command),
+                None => false,
+            },
+            _ => false,
+        }
+    }
+
+    /// Whether a command is the join of a process that has ended.
+    fn is_join_of_ended(&self, command: &Command) -> bool
+        ensures { result ≡ join_of_ended command.now (kept_by (held_by self.now.node)).ended }
+    {
+        match command {
+            Command::Join(_, pid) => self.node.state().ended(pid),
+            _ => false,
+        }
+    }
+
+    /// The answer to a change, behind a notice where it joins a process that has ended.
+    fn say_answer(
+        &mut self,
+        port: usize,
+        number: u64,
+        reply: Term,
+        is_ended: bool,
+    ) -> Result<(), ProcessFault>
+        requires { port < ports_of (held_by self.old.node) }
+        ensures said { OnOk result ((outputs : List Output) × SaysBoth (setting_of self.old) port number is_ended reply outputs × AllByRecursion IsFramed outputs
+            × (self.new.outlet.gathered.items ≡ self.old.outlet.gathered.items ++ flat_map bytes_said outputs)) }
+        ensures err { OnErr result (self.new.outlet.gathered.items ≡ self.old.outlet.gathered.items) }
+        ensures memory { IfErr result (λ fault. fault ≡ OutOfMemory) }
+        ensures rest { self.new ≡ record self.old { outlet = self.new.outlet } }
+    {
+        if !is_ended {
+            return self.say(port, number, reply);
+        }
+        let len = self.outlet.bytes().len();
+        match self.tell_ended(port, number) {
+            Ok(()) => {}
+            Err(fault) => {
+                drop(reply);
+                return Err(fault);
+            }
+        }
+        match self.say(port, number, reply) {
+            Ok(()) => Ok(()),
+            Err(fault) => {
+                self.outlet.cut(len);
+                Err(fault)
+            }
+        }
+    }
+
+    /// Tells that the process of a join has ended.
+    fn tell_ended(&mut self, port: usize, number: u64) -> Result<(), ProcessFault>
+        requires { port < ports_of (held_by self.old.node) }
+        ensures said { OnOk result ((outputs : List Output) × Tells (has_ended_term (own_of (setting_of self.old)) (port + 1) number) outputs × AllByRecursion IsFramed outputs
+            × (self.new.outlet.gathered.items ≡ self.old.outlet.gathered.items ++ flat_map bytes_said outputs)) }
+        ensures err { OnErr result (self.new.outlet.gathered.items ≡ self.old.outlet.gathered.items) }
+        ensures memory { IfErr result (λ fault. fault ≡ OutOfMemory) }
+        ensures rest { self.new ≡ record self.old { outlet = self.new.outlet } }
+    {
+        let told = has_ended(self.alloc, self.node.state().own(), port as u16 + 1, number)?;
+        let said = self.tell(&told);
+        drop(told);
+        said
     }
 
     /// The reply to a request.

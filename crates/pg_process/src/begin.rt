@@ -111,6 +111,7 @@ fn begun_with(
         return Err(BeginFault::OutOfMemory);
     };
     let ports = config.ports;
+    let mirrored = config.mirrored;
     let node_config = NodeConfig {
         own: config.own,
         peers: config.peers,
@@ -118,7 +119,7 @@ fn begun_with(
         ports,
     };
     match begun_node(alloc, node_config, groups) {
-        Ok(node) => match assembled(alloc, node, peers, ports) {
+        Ok(node) => match assembled(alloc, node, peers, ports, mirrored) {
             Ok(process) => Ok(process),
             Err(AllocError) => Err(BeginFault::OutOfMemory),
         },
@@ -163,13 +164,14 @@ fn assembled(
     node: Node<IndexTable>,
     peers: Vec<Atom>,
     ports: u16,
+    mirrored: bool,
 ) -> Result<Process, AllocError>
     requires named { names_of (held_by node) ≡ name_at (names_of (held_by node)) 0 ∷ peers.items }
     requires few { length peers.items ≤ 15 }
     requires ports { ports_of (held_by node) ≡ ports }
     requires limit { ports ≤ 64 }
     ensures setting { IfOk result (λ process. setting_of process ≡ record { names = names_of (held_by node); ports = ports }) }
-    ensures situation { IfOk result (λ process. situation_of process ≡ first_situation (state_of (held_by node)) (answers_of (held_by node)) (links_of node)) }
+    ensures situation { IfOk result (λ process. situation_of process ≡ first_situation mirrored (state_of (held_by node)) (answers_of (held_by node)) (links_of node)) }
     ensures outlet { IfOk result (λ process. process.outlet.gathered.items ≡ []) }
     ensures journal { IfOk result (λ process. process.journal.gathered.items ≡ []) }
 {
@@ -184,7 +186,12 @@ fn assembled(
             journal: Journal::new(alloc),
             parcel: Parcel::new(alloc),
             came: 0,
-            told: Told { formed: false },
+            told: Told {
+                formed: false,
+                old_clock: false,
+                many_ended: false,
+                mirrored,
+            },
             alloc,
         }),
         Err(AllocError) => {

@@ -1,12 +1,14 @@
 //! Changes that come in at the ports: they wait, are handed over to the node, and are tried again where they were denied their lock.
 
 use crate::fault::ProcessFault;
+use crate::mirror::{began, ends_by, finished_by, groups_left, tell_applied, tell_finished};
 use crate::process::Process;
-use pg_node::{Command, NodeFault, OpId, Refusal};
-use pg_node_process::{Mark, Numbered, Seen, Taken};
+use pg_node::{Command, Done, Framed, IndexTable, NodeFault, NodeState, OpId, Refusal};
+use pg_node_process::{Mark, Numbered, Outlet, Seen, Taken};
 use pg_node_requests::refused;
 use pg_term::Term;
 use pg_term::faults::BUSY;
+use std::alloc::{AllocError, Global};
 
 impl Process {
     ghost use Rattle.std.specs.Prelude.{◌≡◌, ◌⊎◌, ◌≤◌, ◌<◌, ◌+◌, true, false, None, Ok, Err, IfOk, IfErr, OnOk, OnErr, length, [], option_copied};
@@ -55,22 +57,55 @@ impl Process {
         let Some(change) = self.desks[port].current() else {
             return Ok(false);
         };
+        let left = groups_left_by(
+            self.told.mirrored,
+            self.alloc,
+            self.node.state(),
+            &change.command,
+        );
+        let Ok(names) = left else {
+            return Err(ProcessFault::OutOfMemory);
+        };
         match self.node.command(port as u16, &change.command) {
             Ok(done) => {
+                match self.journal.put_mark(Mark::Handed(port as u8 + 1)) {
+                    Ok(()) => {}
+                    Err(AllocError) => {
+                        drop(done);
+                        drop(names);
+                        return Err(ProcessFault::OutOfMemory);
+                    }
+                }
+                let told = tell_command(
+                    self.told.mirrored,
+                    &mut self.outlet,
+                    self.alloc,
+                    self.node.state(),
+                    &change.command,
+                    names.as_slice(),
+                    &done,
+                );
                 self.node.reuse(done);
-                match self.mark(Mark::Handed(port as u8 + 1)) {
+                drop(names);
+                match told {
                     Ok(()) => Ok(true),
-                    Err(_) => Err(ProcessFault::OutOfMemory),
+                    Err(AllocError) => Err(ProcessFault::OutOfMemory),
                 }
             }
-            Err(NodeFault::Refused(refusal)) => match refusal {
-                Refusal::ClockFull => Err(ProcessFault::ClockFull),
-                _ => match self.decline(port, refusal.number()) {
-                    Ok(()) => Ok(true),
-                    Err(_) => Err(ProcessFault::OutOfMemory),
-                },
-            },
-            Err(NodeFault::OutOfMemory) => Err(ProcessFault::OutOfMemory),
+            Err(NodeFault::Refused(refusal)) => {
+                drop(names);
+                match refusal {
+                    Refusal::ClockFull => Err(ProcessFault::ClockFull),
+                    _ => match self.decline(port, refusal.number()) {
+                        Ok(()) => Ok(true),
+                        Err(_) => Err(ProcessFault::OutOfMemory),
+                    },
+                }
+            }
+            Err(NodeFault::OutOfMemory) => {
+                drop(names);
+                Err(ProcessFault::OutOfMemory)
+            }
             // These are told of what came in only.
             Err(NodeFault::Message(_) | NodeFault::TooLong | NodeFault::Damaged) => unreachable!(),
         }
@@ -155,11 +190,25 @@ impl Process {
     {
         match self.node.retry(op) {
             Ok(done) => {
-                self.node.reuse(done);
                 self.courtesies[usize::from(op.port)].try_now();
-                match self.mark(Mark::Tried(op.port as u8 + 1)) {
+                match self.journal.put_mark(Mark::Tried(op.port as u8 + 1)) {
+                    Ok(()) => {}
+                    Err(AllocError) => {
+                        drop(done);
+                        return Err(ProcessFault::OutOfMemory);
+                    }
+                }
+                let told = tell_trial(
+                    self.told.mirrored,
+                    &mut self.outlet,
+                    self.alloc,
+                    self.node.state(),
+                    &done,
+                );
+                self.node.reuse(done);
+                match told {
                     Ok(()) => Ok(true),
-                    Err(_) => Err(ProcessFault::OutOfMemory),
+                    Err(AllocError) => Err(ProcessFault::OutOfMemory),
                 }
             }
             Err(NodeFault::Refused(Refusal::ClockFull)) => Err(ProcessFault::ClockFull),
@@ -171,8 +220,18 @@ impl Process {
     }
 }
 
-ghost use Rattle.std.specs.Prelude.{◌≡◌, option_copied};
+ghost use Rattle.std.specs.Prelude.{◌≡◌, ℕ, IfOk, OnOk, OnErr, option_copied};
+ghost use Rattle.pg_node.specs.PgGroup.Table.{Table};
+ghost use Rattle.pg_node.specs.PgNodeState.States.{kept_by};
+ghost use Rattle.pg_node.specs.PgStep.State.{State};
+ghost use Rattle.pg_node.specs.PgStep.Step.{Issue, Retry};
+ghost use Rattle.pg_node.specs.PgStep.declared.command.OpId.{OpId};
+ghost use Rattle.pg_node_run.specs.Acts.{Did};
+ghost use Rattle.pg_process.specs.Changes.{LeavesFor};
 ghost use Rattle.pg_process.specs.Locks.{group_of as group_changed};
+ghost use Rattle.pg_process.specs.Mirrors.{KeepsEndedBy};
+ghost use Rattle.pg_process.specs.Tables.{began_update, by_update, table_issued};
+ghost use Rattle.pg_process.specs.Takings.{TellsMade};
 
 /// The name of the group that a command changes.
 fn group_of(command: &Command) -> Option<&Term>
@@ -183,4 +242,65 @@ fn group_of(command: &Command) -> Option<&Term>
         Command::Join(name, _) | Command::Leave(name, _) => Some(name),
         _ => None,
     }
+}
+
+/// The groups that the process of a command leaves, which has not ended, where the host mirrors the table.
+fn groups_left_by(
+    is_mirrored: bool,
+    alloc: Global,
+    state: &NodeState<IndexTable>,
+    command: &Command,
+) -> Result<Vec<Term>, AllocError>
+    ensures { IfOk result (λ names. LeavesFor is_mirrored command.now (kept_by state.now) names.items) }
+{
+    if !is_mirrored {
+        return Ok(Vec::new(alloc));
+    }
+    groups_left(alloc, state, ends_by(state, command))
+}
+
+/// Tells what a command made of the table, where the host mirrors it. `names`: the groups that its process left.
+///
+/// Errors: `AllocError`, which says nothing.
+fn tell_command(
+    is_mirrored: bool,
+    outlet: &mut Outlet,
+    alloc: Global,
+    state: &NodeState<IndexTable>,
+    command: &Command,
+    names: &[Term],
+    done: &Done<Framed>,
+) -> Result<(), AllocError>
+    ensures ok { OnOk result ((before : State) (port : ℕ) → LeavesFor is_mirrored command.now before names.now → KeepsEndedBy command.now before.ended (kept_by state.now).ended
+        → (kept_by state.now).table ≡ table_issued command.now (began_update done.now.began) before (kept_by state.now).ended
+        → TellsMade is_mirrored (Did (Issue port command.now)) (began_update done.now.began) before.table (kept_by state.now).table outlet.old.gathered.items outlet.new.gathered.items) }
+    ensures err { OnErr result (outlet.new.gathered.items ≡ outlet.old.gathered.items) }
+{
+    if !is_mirrored {
+        return Ok(());
+    }
+    match finished_by(command) {
+        Some(pid) => tell_finished(outlet, alloc, state, pid, names),
+        None => tell_applied(outlet, alloc, state, began(done)),
+    }
+}
+
+/// Tells what a trial made of the table, where the host mirrors it.
+///
+/// Errors: `AllocError`, which says nothing.
+fn tell_trial(
+    is_mirrored: bool,
+    outlet: &mut Outlet,
+    alloc: Global,
+    state: &NodeState<IndexTable>,
+    done: &Done<Framed>,
+) -> Result<(), AllocError>
+    ensures ok { OnOk result ((before : Table) (op : OpId) → (kept_by state.now).table ≡ by_update (began_update done.now.began) before (kept_by state.now).ended
+        → TellsMade is_mirrored (Did (Retry op)) (began_update done.now.began) before (kept_by state.now).table outlet.old.gathered.items outlet.new.gathered.items) }
+    ensures err { OnErr result (outlet.new.gathered.items ≡ outlet.old.gathered.items) }
+{
+    if !is_mirrored {
+        return Ok(());
+    }
+    tell_applied(outlet, alloc, state, began(done))
 }

@@ -12,6 +12,7 @@ mod changes;
 mod fault;
 mod hearing;
 mod laws;
+mod mirror;
 mod passing;
 mod process;
 mod serving;
@@ -19,6 +20,6 @@ mod telling;
 mod work;
 
 pub use fault::{BeginFault, EndFault, ProcessFault};
-pub use laws::chains_account;
+pub use laws::{chains_account, chains_keep_mirrors};
 pub use process::{Process, Told};
 pub use serving::serve;

@@ -12,11 +12,17 @@ use pg_node_process::{Courtesy, Desk, Journal, Outlet, Parcel, Parties};
 use pg_term::Atom;
 use std::alloc::Global;
 
-/// What a process says once only.
+/// What a process told its host once only, and whether it tells of its table.
 #[derive(Clone, Copy, Debug, PartialEq, Eq)]
 pub struct Told {
     /// That its node is formed.
     pub formed: bool,
+    /// That its clock is old.
+    pub old_clock: bool,
+    /// That many processes have ended.
+    pub many_ended: bool,
+    /// It tells what its table becomes, as the host mirrors it.
+    pub mirrored: bool,
 }
 
 /// One node of a fixed set, the requests of its ports, and what it says to its host.

@@ -323,6 +323,10 @@ impl Serving {
             Err(fault) => return Err(EndFault::Work(fault)),
         }
         let _ = self.deframer.next();
+        match self.process.tell_brought() {
+            Ok(()) => {}
+            Err(fault) => return Err(EndFault::Work(fault)),
+        }
         match self.process.attend(false) {
             Ok(()) => Ok(()),
             Err(fault) => Err(EndFault::Work(fault)),

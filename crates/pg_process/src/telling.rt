@@ -3,7 +3,7 @@
 use crate::fault::ProcessFault;
 use crate::process::Process;
 use pg_node_process::Mark;
-use pg_node_requests::bad_request;
+use pg_node_requests::{bad_request, many_ended, old_clock};
 use pg_term::Term;
 
 impl Process {
@@ -19,7 +19,8 @@ impl Process {
     ghost use Rattle.pg_process.specs.Hearing.{whom_of};
     ghost use Rattle.pg_process.specs.Locks.{IsDenied, is_formed};
     ghost use Rattle.pg_process.specs.Situations.{setting_of, situation_of};
-    ghost use Rattle.pg_process.specs.Deeds.{Blamed, Denied, Formed, Read, Shared, Tells, Timed};
+    ghost use Rattle.pg_process.specs.Deeds.{Aged, Blamed, Crowded, Denied, Formed, MANY_ENDED, OLD_CLOCK, Read, Shared, Tells, Timed};
+    ghost use Rattle.pg_node.specs.PgGroup.Ended.{IsEndedCount};
 
     /// A body came, which is logged.
     ///
@@ -128,6 +129,41 @@ impl Process {
     {
         self.outlet.put_formed()?;
         self.told.formed = true;
+        Ok(())
+    }
+
+    /// Tells that the clock is old, which was not told before.
+    ///
+    /// Errors: `OutOfMemory`.
+    pub fn tell_old_clock(&mut self) -> Result<(), ProcessFault>
+        requires old { OLD_CLOCK ≤ (situation_of self.old).node.state.clock }
+        requires untold { self.old.told.old_clock ≡ false }
+        ensures made { OnOk result (Makes Aged self.old self.new) }
+        ensures failed { IfErr result (λ fault. Fails Aged fault self.old self.new) }
+    {
+        let term = old_clock(self.alloc, self.node.state().clock())?;
+        let told = self.tell(&term);
+        drop(term);
+        told?;
+        self.told.old_clock = true;
+        Ok(())
+    }
+
+    /// Tells that many processes have ended, which was not told before.
+    ///
+    /// Errors: `OutOfMemory`.
+    pub fn tell_many_ended(&mut self, count: u64) -> Result<(), ProcessFault>
+        requires count { IsEndedCount (situation_of self.old).node.state.state.ended count }
+        requires many { MANY_ENDED ≤ count }
+        requires untold { self.old.told.many_ended ≡ false }
+        ensures made { OnOk result (Makes (Crowded count) self.old self.new) }
+        ensures failed { IfErr result (λ fault. Fails (Crowded count) fault self.old self.new) }
+    {
+        let term = many_ended(self.alloc, count)?;
+        let told = self.tell(&term);
+        drop(term);
+        told?;
+        self.told.many_ended = true;
         Ok(())
     }
 }

@@ -5,6 +5,12 @@ use crate::process::Process;
 use pg_node::OpId;
 use pg_node_process::Seen;
 
+/// From this clock on it is old: half of the clocks are left.
+const OLD_CLOCK: u32 = 1 << 29;
+
+/// So many ended processes are many.
+const MANY_ENDED: u64 = 1_000_000;
+
 impl Process {
     ghost use Rattle.std.specs.Prelude.{◌≡◌, ◌≢◌, ◌≤◌, ◌<◌, ◌↔◌, ℕ, Bool, nat_lt, true, false, IfErr, IfOk, IsTrue, OnOk, [], length};
     ghost use Rattle.pg_node.specs.Nodes.{held_by, links_of};
@@ -18,7 +24,7 @@ impl Process {
     ghost use Rattle.pg_node.specs.PgNodeState.States.{kept_by, live_of};
     ghost use Rattle.pg_node.specs.PgNodeState.Waiting.{AreWaiting};
     ghost use Rattle.pg_node.specs.PgStep.Attempts.{waits};
-    ghost use Rattle.pg_process.specs.Settled.{AllToldDenied, IsSettled, IsToldDenied, IsToldFormed, NoneComes, NoneKeeps, NoneUnsaid, NoneWaits, OnlyDenied, OnlyLinks, OnlySends, OnlyTold};
+    ghost use Rattle.pg_process.specs.Settled.{AllToldDenied, IsSettled, IsToldAll, IsToldDenied, IsToldFormed, IsToldMany, IsToldOld, NoneComes, NoneKeeps, NoneUnsaid, NoneWaits, OnlyDenied, OnlyLinks, OnlySends, OnlyTold};
     ghost use Rattle.pg_process.specs.Situations.{setting_of, situation_of};
     ghost use Rattle.pg_process.specs.Takings.{HasNone};
     ghost use Rattle.pg_process.specs.Turns.{Attends, HandsAt, HandsIf, HandsMany, HandsUpTo, RetriesAll, SaysAll, Serves, TriesAt, TriesEach, is_free};
@@ -104,7 +110,7 @@ impl Process {
             Ok(()) => {}
             Err(fault) => return Err(fault),
         }
-        match self.form() {
+        match self.tell_once() {
             Ok(()) => {}
             Err(fault) => return Err(fault),
         }
@@ -401,6 +407,58 @@ impl Process {
             return Ok(());
         }
         self.tell_formed()
+    }
+
+    /// Tells what is told once and is due: that the node is formed, and each warning.
+    #[tactic(auto, using(crate::proofs::Chained::works_on, crate::proofs::Chained::works_until, crate::proofs::Chained::works_then, crate::proofs::Chained::until_then, crate::proofs::Chained::work_rests, crate::proofs::Chained::itself))]
+    fn tell_once(&mut self) -> Result<(), ProcessFault>
+        ensures works { OnOk result (Works self.old self.new) }
+        ensures told { OnOk result (IsToldAll self.new) }
+        ensures rest { OnOk result (OnlyTold self.old self.new) }
+        ensures until { IfErr result (λ fault. WorksUntil fault self.old self.new) }
+    {
+        match self.form() {
+            Ok(()) => {}
+            Err(fault) => return Err(fault),
+        }
+        match self.warn_of_clock() {
+            Ok(()) => {}
+            Err(fault) => return Err(fault),
+        }
+        self.warn_of_ended()
+    }
+
+    /// Tells that the clock is old, once it is.
+    fn warn_of_clock(&mut self) -> Result<(), ProcessFault>
+        ensures works { OnOk result (Works self.old self.new) }
+        ensures old { OnOk result (IsToldOld (situation_of self.new)) }
+        ensures rest { OnOk result (OnlyTold self.old self.new) }
+        ensures formed { OnOk result (self.new.told.formed ≡ self.old.told.formed) }
+        ensures until { IfErr result (λ fault. WorksUntil fault self.old self.new) }
+    {
+        if self.told.old_clock || self.node.state().clock() < OLD_CLOCK {
+            return Ok(());
+        }
+        self.tell_old_clock()
+    }
+
+    /// Tells that many processes have ended, once they are many.
+    fn warn_of_ended(&mut self) -> Result<(), ProcessFault>
+        ensures works { OnOk result (Works self.old self.new) }
+        ensures many { OnOk result (IsToldMany (situation_of self.new)) }
+        ensures rest { OnOk result (OnlyTold self.old self.new) }
+        ensures formed { OnOk result (self.new.told.formed ≡ self.old.told.formed) }
+        ensures clock { OnOk result (self.new.told.old_clock ≡ self.old.told.old_clock) }
+        ensures until { IfErr result (λ fault. WorksUntil fault self.old self.new) }
+    {
+        let count = self.node.state().ended_count();
+        if count < MANY_ENDED {
+            return Ok(());
+        }
+        if self.told.many_ended {
+            return Ok(());
+        }
+        self.tell_many_ended(count)
     }
 
     /// All bytes that wait for peers go out.

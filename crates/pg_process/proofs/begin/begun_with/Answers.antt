@@ -21,7 +21,7 @@ returns-in-Ok-assembled-clause-begins c =
         ports = ap (λ (s : Situation). s.ports) process.situation;
         courtesies = ap (λ (s : Situation). s.courtesies) process.situation;
         came = ap (λ (s : Situation). s.came) process.situation;
-        told = ap (λ (s : Situation). s.told.formed) process.situation;
+        told = ap (λ (s : Situation). s.told) process.situation;
       };
       outlet = process.outlet;
       journal = process.journal;

@@ -4,16 +4,16 @@ use Rattle.pg_process.proofs.Chained.{until_then, works_on, works_until}
 use Rattle.pg_process.proofs.Settling.{settles}
 use Rattle.pg_process.proofs.process.Process.attend.Goals as goal
 
-pub returns-in-Err-form-clause-until : goal.returns-in-Err-form-clause-until
-returns-in-Err-form-clause-until c =
-    works_until c.in-Err-form.fault c.args.self.now c.serve_ports.new.self c.form.new.self
-    (works_on c.args.self.now c.take_from_peers.new.self c.serve_ports.new.self c.in-Ok.ensures.works c.in-Ok-serve_ports.ensures.works) c.in-Err-form.ensures.until
+pub returns-in-Err-tell_once-clause-until : goal.returns-in-Err-tell_once-clause-until
+returns-in-Err-tell_once-clause-until c =
+    works_until c.in-Err-tell_once.fault c.args.self.now c.serve_ports.new.self c.tell_once.new.self
+    (works_on c.args.self.now c.take_from_peers.new.self c.serve_ports.new.self c.in-Ok.ensures.works c.in-Ok-serve_ports.ensures.works) c.in-Err-tell_once.ensures.until
 
 pub returns-clause-until : goal.returns-clause-until
 returns-clause-until c =
-    until_then c.send_to_peers.result c.args.self.now c.form.new.self c.send_to_peers.new.self
-    (works_on c.args.self.now c.serve_ports.new.self c.form.new.self
-    (works_on c.args.self.now c.take_from_peers.new.self c.serve_ports.new.self c.in-Ok.ensures.works c.in-Ok-serve_ports.ensures.works) c.in-Ok-form.ensures.works)
+    until_then c.send_to_peers.result c.args.self.now c.tell_once.new.self c.send_to_peers.new.self
+    (works_on c.args.self.now c.serve_ports.new.self c.tell_once.new.self
+    (works_on c.args.self.now c.take_from_peers.new.self c.serve_ports.new.self c.in-Ok.ensures.works c.in-Ok-serve_ports.ensures.works) c.in-Ok-tell_once.ensures.works)
     c.send_to_peers.ensures.until
 
 pub returns-clause-attends : goal.returns-clause-attends
@@ -25,12 +25,12 @@ returns-clause-attends c =
       taken = c.in-Ok.ensures.none;
       behind = c.serve_ports.new.self;
       serves = c.in-Ok-serve_ports.ensures.serves;
-      rest = works_on c.serve_ports.new.self c.form.new.self c.send_to_peers.new.self c.in-Ok-form.ensures.works works;
+      rest = works_on c.serve_ports.new.self c.tell_once.new.self c.send_to_peers.new.self c.in-Ok-tell_once.ensures.works works;
     })
     c.send_to_peers.ensures.works
 
 pub returns-clause-settled : goal.returns-clause-settled
 returns-clause-settled c =
-    settles c.send_to_peers.result c.take_from_peers.new.self c.serve_ports.new.self c.form.new.self c.send_to_peers.new.self c.in-Ok.ensures.none c.in-Ok-serve_ports.ensures.works c.in-Ok-serve_ports.ensures.said
-    c.in-Ok-serve_ports.ensures.handed c.in-Ok-serve_ports.ensures.denied c.in-Ok-form.ensures.works c.in-Ok-form.ensures.rest c.in-Ok-form.ensures.told c.send_to_peers.ensures.works c.send_to_peers.ensures.unsent
+    settles c.send_to_peers.result c.take_from_peers.new.self c.serve_ports.new.self c.tell_once.new.self c.send_to_peers.new.self c.in-Ok.ensures.none c.in-Ok-serve_ports.ensures.works c.in-Ok-serve_ports.ensures.said
+    c.in-Ok-serve_ports.ensures.handed c.in-Ok-serve_ports.ensures.denied c.in-Ok-tell_once.ensures.works c.in-Ok-tell_once.ensures.rest c.in-Ok-tell_once.ensures.told c.send_to_peers.ensures.works c.send_to_peers.ensures.unsent
     c.send_to_peers.ensures.links

@@ -1,24 +1,26 @@
-use Rattle.std.proofs.Common.{◌≡◌, ◌<◌, ◌+◌, ◌∙◌, ℕ, Some, inl, inr, length, refl, sym, ap, subst, arith}
+use Rattle.std.proofs.Common.{◌≡◌, ◌<◌, ◌+◌, ◌++◌, ◌∙◌, ℕ, List, append-nil, Some, Ok, inl, inr, length, refl, sym, ap, subst, arith}
 use Rattle.std.specs.Prelude.{slice_set}
 use Rattle.std.specs.Option.{option_map}
 use Rattle.pg_node.specs.Links.{Link}
 use Rattle.pg_node.specs.Nodes.{held_by, links_of}
 use Rattle.pg_node.specs.PgNodeState.Issued.{ports_of}
 use Rattle.pg_node.specs.PgNodeState.declared.state.fault.NodeFault.TheVariants.{Refused}
-use Rattle.pg_node.specs.PgNodeState.States.{names_of, nodes_of, state_of, answers_of}
+use Rattle.pg_node.specs.PgNodeState.States.{kept_by, names_of, nodes_of, state_of, answers_of}
 use Rattle.pg_node.specs.PgStep.Faults.{refusal_number_of}
 use Rattle.pg_node.specs.PgStep.Step.{Issue, step_act}
 use Rattle.pg_node.specs.PgStep.declared.refusal.Refusal.TheVariants as refusals
 use Rattle.pg_node_process.specs.declared.desk.Desk.{Desk}
 use Rattle.pg_node_process.specs.Desks.{Handed as Opened, HandsOver, Port, Rests, nothing_came, port_after, port_of, with_answer}
-use Rattle.pg_node_process.specs.Logs.{Handed as LoggedHand}
+use Rattle.pg_node_process.specs.Logs.{Handed as LoggedHand, entry_bytes}
 use Rattle.pg_node_requests.specs.Replies.{refused_term}
-use Rattle.pg_node_run.specs.Acts.{Standing}
-use Rattle.pg_process.specs.declared.process.Process.{Process}
-use Rattle.pg_process.specs.Changes.{HasNothing, told_of_change}
+use Rattle.pg_node_run.specs.Acts.{Did, Given, Standing, act_step}
+use Rattle.pg_process.specs.Changes.{HasNothing, LeavesFor, told_of_change}
 use Rattle.pg_process.specs.Deeds.{Handed, IsReply, number_of}
 use Rattle.pg_process.specs.Situations.{Setting, Situation, at_place, seen_in, setting_of, situation_of}
-use Rattle.pg_process.proofs.Acted.{alike_settings, alike_standings, did_act, marked_only, setting_with, standing_of, told_refused}
+use Rattle.pg_process.proofs.Acted.{alike_settings, alike_standings, did_act, marked_deed, setting_with, standing_of, told_refused}
+use Rattle.pg_process.specs.Mirrors.{KeepsEndedBy}
+use Rattle.pg_process.specs.Tables.{began_update, table_issued}
+use Rattle.pg_process.proofs.Tellings.{issued_so, told_act}
 use Rattle.pg_process.proofs.Placed.{one_seen, placed_here, placed_twice, same_seen, seen_here, set_here}
 use Rattle.pg_process.proofs.process.Process.hand_over.Goals as goal
 
@@ -39,16 +41,17 @@ returns-then-not-next-clause-made c =
       subst HasNothing (sym here) rests.why,
     )
 
-pub returns-in-Ok-mark-clause-made : goal.returns-in-Ok-mark-clause-made
-returns-in-Ok-mark-clause-made c =
+pub returns-in-Ok-told-clause-made : goal.returns-in-Ok-told-clause-made
+returns-in-Ok-told-clause-made c =
     let a = c.args.self.now in
-    let b = c.mark.new.self in
+    let m = c.command.new.self in
     let node = c.reuse.new.self in
     let port = c.args.port in
     let old = c.index_mut.result.now in
     let change = c.in-Some.change.now in
     let opened : Port → Port = λ p. port_after p Opened in
-    let did = did_act a.node c.command.new.self node (Issue port change.command) c.in-Ok.done c.in-Ok.ensures.event c.in-Ok.ensures.fits c.in-Ok.ensures.small c.in-Ok.ensures.sent c.reuse.ensures.held c.reuse.ensures.links in
+    let act = did_act a.node c.command.new.self node (Issue port change.command) c.in-Ok-command.done c.in-Ok-command.ensures.event c.in-Ok-command.ensures.fits c.in-Ok-command.ensures.small c.in-Ok-command.ensures.sent c.reuse.ensures.held c.reuse.ensures.links in
+    let did = act.0 in
     let within : port < length a.desks.items = omega (arith, c.requires, a.all_desks) in
     let here : (situation_of a).ports port ≡ port_of old = seen_here port_of nothing_came a.desks.items port old within c.index_mut.ensures.value in
     let there : c.index.result.now ≡ c.next.new.self = set_here a.desks.items port c.next.new.self c.index.result.now within c.index.ensures in
@@ -66,16 +69,24 @@ returns-in-Ok-mark-clause-made c =
       came = a.came;
       told = a.told;
     } in
+    let state : state_of (held_by m) ≡ did.act.turn.state = ap state_of (sym c.reuse.ensures.held) ∙ did.leads.state in
+    let made = subst (λ (x : Given). act_step (names_of (held_by a.node)) (ports_of (held_by a.node)) (state_of (held_by a.node)) x ≡ Ok did.act.turn) did.given did.leads.made in
+    let so = issued_so (names_of (held_by a.node)) (ports_of (held_by a.node)) (state_of (held_by a.node)) (state_of (held_by m)) port change.command did.act.turn c.in-Ok-command.done.began made state act.1 in
+    let told = c.in-Ok-told.ensures.ok (kept_by (held_by a.node)) port
+    (subst (λ n. LeavesFor a.told.mirrored change.command (kept_by n) c.as_slice.result.now) c.state.ensures
+    (subst (λ xs. LeavesFor a.told.mirrored change.command (kept_by c.state.result.now) xs) (sym c.as_slice.ensures.value) c.in-Ok.ensures))
+    (subst (λ n. KeepsEndedBy change.command (kept_by (held_by a.node)).ended (kept_by n).ended) (sym c.state-in-Ok-command.ensures) so.ended)
+    (subst (λ n. (kept_by n).table ≡ table_issued change.command (began_update c.in-Ok-command.done.began) (kept_by (held_by a.node)) (kept_by n).ended) (sym c.state-in-Ok-command.ensures) so.table) in
     inl (
       did.act,
-      marked_only a b (Handed port did.act) mid (LoggedHand (port + 1)) refl
-          (ap situation_of c.mark.ensures.rest ∙ ap (λ (ps : ℕ → Port). record mid { ports = ps })
+      marked_deed a _ (Handed port did.act) mid (LoggedHand (port + 1)) told.outputs refl
+          (ap (λ (ps : ℕ → Port). record mid { ports = ps })
           (one_seen port_of nothing_came a.desks.items port old c.next.new.self opened within c.index_mut.ensures.value c.next.ensures.step))
-          (ap setting_of c.mark.ensures.rest ∙ alike_settings (names_of (held_by node)) (names_of (held_by a.node)) (ports_of (held_by node)) (ports_of (held_by a.node))
-          (ap names_of c.reuse.ensures.held ∙ c.in-Ok.ensures.stays.names) (ap ports_of c.reuse.ensures.held ∙ c.in-Ok.ensures.stays.ports))
-          (ap (λ (p : Process). p.outlet.gathered.items) c.mark.ensures.rest)
-          c.in-Ok-mark.ensures.ok (
-            refl,
+          (alike_settings (names_of (held_by node)) (names_of (held_by a.node)) (ports_of (held_by node)) (ports_of (held_by a.node))
+          (ap names_of c.reuse.ensures.held ∙ c.in-Ok-command.ensures.stays.names) (ap ports_of c.reuse.ensures.held ∙ c.in-Ok-command.ensures.stays.ports))
+          told.framed told.gathered c.in-Ok-put_mark.ensures.ok (
+            told_act a.told.mirrored did.act (Did (Issue port change.command)) (began_update c.in-Ok-command.done.began) (kept_by (held_by a.node)).table (kept_by c.state-in-Ok-command.result.now).table (kept_by (held_by node)).table
+                _ _ told did.given so.applies (ap (λ n. (kept_by n).table) (c.state-in-Ok-command.ensures ∙ sym c.reuse.ensures.held)),
             record {
               change = change;
               next = ap (λ (p : Port). p.current) (placed_here (situation_of a).ports port opened) ∙ current;
@@ -91,14 +102,16 @@ returns-in-Ok-mark-clause-made c =
     )
 
 pub returns-in-Err-clause-failed : goal.returns-in-Err-clause-failed
-returns-in-Err-clause-failed c = (
+returns-in-Err-clause-failed c = (refusals.ClockFull, record { memory = refl; gathered = refl; journal = inl c.in-Err.ensures.err })
+
+pub returns-in-Err-told-clause-failed : goal.returns-in-Err-told-clause-failed
+returns-in-Err-told-clause-failed c = (
   refusals.ClockFull,
-  record {
-    memory = refl;
-    gathered = ap (λ (p : Process). p.outlet.gathered.items) c.mark.ensures.rest;
-    journal = inl c.in-Err.ensures.err;
-  },
+  record { memory = refl; gathered = c.in-Err-told.ensures.err; journal = inr (c.in-Ok-put_mark.ensures.ok ∙ ap (λ (bytes : List ℕ). c.args.self.now.journal.gathered.items ++ bytes) (sym (append-nil (entry_bytes (LoggedHand (c.args.port + 1)))))) },
 )
+
+pub returns-in_default-left-clause-failed : goal.returns-in_default-left-clause-failed
+returns-in_default-left-clause-failed c = (refusals.ClockFull, record { memory = refl; gathered = refl; journal = inl refl })
 
 pub returns-in-Err-OutOfMemory-clause-failed : goal.returns-in-Err-OutOfMemory-clause-failed
 returns-in-Err-OutOfMemory-clause-failed c = (refusals.ClockFull, record { memory = refl; gathered = refl; journal = inl refl })

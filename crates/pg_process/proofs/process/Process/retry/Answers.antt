@@ -1,27 +1,29 @@
-use Rattle.std.proofs.Common.{◌≡◌, ◌<◌, ◌+◌, ◌∙◌, ℕ, length, refl, ap, arith}
+use Rattle.std.proofs.Common.{◌≡◌, ◌<◌, ◌+◌, ◌++◌, ◌∙◌, ℕ, List, append-nil, Ok, inl, inr, length, refl, sym, ap, subst, arith}
 use Rattle.pg_node.specs.Links.{Link}
 use Rattle.pg_node.specs.Nodes.{held_by, links_of}
 use Rattle.pg_node.specs.PgNodeState.Issued.{ports_of}
-use Rattle.pg_node.specs.PgNodeState.States.{names_of, nodes_of, state_of, answers_of}
+use Rattle.pg_node.specs.PgNodeState.States.{kept_by, names_of, nodes_of, state_of, answers_of}
 use Rattle.pg_node.specs.PgStep.Step.{Retry, step_act}
 use Rattle.pg_node_process.specs.declared.retries.Courtesy.{Courtesy}
-use Rattle.pg_node_process.specs.Logs.{Tried as LoggedTrial}
+use Rattle.pg_node_process.specs.Logs.{Tried as LoggedTrial, entry_bytes}
 use Rattle.pg_node_process.specs.Retries.{after_trial, at_first}
-use Rattle.pg_node_run.specs.Acts.{Standing}
-use Rattle.pg_process.specs.declared.process.Process.{Process}
+use Rattle.pg_node_run.specs.Acts.{Did, Given, Standing, act_step}
 use Rattle.pg_process.specs.Deeds.{Tried}
-use Rattle.pg_process.specs.Situations.{Situation, at_place, setting_of, situation_of}
-use Rattle.pg_process.proofs.Acted.{alike_settings, alike_standings, did_act, marked_only, standing_of, told_refused}
+use Rattle.pg_process.specs.Situations.{Situation, at_place, situation_of}
+use Rattle.pg_process.proofs.Acted.{alike_settings, alike_standings, did_act, marked_deed, standing_of, told_refused}
+use Rattle.pg_process.specs.Tables.{began_update, by_update}
+use Rattle.pg_process.proofs.Tellings.{retried_so, told_act}
 use Rattle.pg_process.proofs.Placed.{one_seen}
 use Rattle.pg_process.proofs.process.Process.retry.Goals as goal
 
-pub returns-in-Ok-mark-clause-made : goal.returns-in-Ok-mark-clause-made
-returns-in-Ok-mark-clause-made c =
+pub returns-in-Ok-told-clause-made : goal.returns-in-Ok-told-clause-made
+returns-in-Ok-told-clause-made c =
     let a = c.args.self.now in
-    let b = c.mark.new.self in
+    let m = c.retry.new.self in
     let node = c.reuse.new.self in
     let port = c.args.op.port in
-    let did = did_act a.node c.retry.new.self node (Retry c.args.op) c.in-Ok.done c.in-Ok.ensures.event c.in-Ok.ensures.fits c.in-Ok.ensures.small c.in-Ok.ensures.sent c.reuse.ensures.held c.reuse.ensures.links in
+    let made = did_act a.node m node (Retry c.args.op) c.in-Ok.done c.in-Ok.ensures.event c.in-Ok.ensures.fits c.in-Ok.ensures.small c.in-Ok.ensures.sent c.reuse.ensures.held c.reuse.ensures.links in
+    let did = made.0 in
     let place = c.from.result in
     let is : place ≡ port = c.from.ensures in
     let within : place < length a.courtesies.items = omega (arith, c.requires, a.all_courtesies, is) in
@@ -32,17 +34,22 @@ returns-in-Ok-mark-clause-made c =
       courtesies = at_place port after_trial (situation_of a).courtesies;
       came = a.came;
       told = a.told;
-    } in (
+    } in
+    let state : state_of (held_by m) ≡ did.act.turn.state = ap state_of (sym c.reuse.ensures.held) ∙ did.leads.state in
+    let step = subst (λ (x : Given). act_step (names_of (held_by a.node)) (ports_of (held_by a.node)) (state_of (held_by a.node)) x ≡ Ok did.act.turn) did.given did.leads.made in
+    let so = retried_so (names_of (held_by a.node)) (ports_of (held_by a.node)) (state_of (held_by a.node)) (state_of (held_by m)) c.args.op did.act.turn c.in-Ok.done.began step state made.1 in
+    let told = c.in-Ok-told.ensures.ok (kept_by (held_by a.node)).table c.args.op
+    (subst (λ n. (kept_by n).table ≡ by_update (began_update c.in-Ok.done.began) (kept_by (held_by a.node)).table (kept_by n).ended) (sym c.state.ensures) so.table) in (
       did.act,
-      marked_only a b (Tried port did.act) mid (LoggedTrial (port + 1)) refl
-          (ap situation_of c.mark.ensures.rest ∙ ap (λ (cs : ℕ → Courtesy). record mid { courtesies = cs })
+      marked_deed a _ (Tried port did.act) mid (LoggedTrial (port + 1)) told.outputs refl
+          (ap (λ (cs : ℕ → Courtesy). record mid { courtesies = cs })
           (one_seen (λ c. c) at_first a.courtesies.items place c.index_mut.result.now c.try_now.new.self after_trial within c.index_mut.ensures.value c.try_now.ensures.value
           ∙ ap (λ n. at_place n after_trial (situation_of a).courtesies) is))
-          (ap setting_of c.mark.ensures.rest ∙ alike_settings (names_of (held_by node)) (names_of (held_by a.node)) (ports_of (held_by node)) (ports_of (held_by a.node))
+          (alike_settings (names_of (held_by node)) (names_of (held_by a.node)) (ports_of (held_by node)) (ports_of (held_by a.node))
           (ap names_of c.reuse.ensures.held ∙ c.in-Ok.ensures.stays.names) (ap ports_of c.reuse.ensures.held ∙ c.in-Ok.ensures.stays.ports))
-          (ap (λ (p : Process). p.outlet.gathered.items) c.mark.ensures.rest)
-          c.in-Ok-mark.ensures.ok (
-            refl,
+          told.framed told.gathered c.in-Ok-put_mark.ensures.ok (
+            told_act a.told.mirrored did.act (Did (Retry c.args.op)) (began_update c.in-Ok.done.began) (kept_by (held_by a.node)).table (kept_by c.state.result.now).table (kept_by (held_by node)).table
+                _ _ told did.given so.applies (ap (λ n. (kept_by n).table) (c.state.ensures ∙ sym c.reuse.ensures.held)),
             record {
               number = c.args.op.number;
               given = did.given;
@@ -54,6 +61,24 @@ returns-in-Ok-mark-clause-made c =
             },
           ),
     )
+
+pub returns-in-Err-told-clause-failed : goal.returns-in-Err-told-clause-failed
+returns-in-Err-told-clause-failed c =
+    let a = c.args.self.now in
+    let made = did_act a.node c.retry.new.self c.reuse.new.self (Retry c.args.op) c.in-Ok.done c.in-Ok.ensures.event c.in-Ok.ensures.fits c.in-Ok.ensures.small c.in-Ok.ensures.sent c.reuse.ensures.held c.reuse.ensures.links in inr (
+      made.0.act,
+      record {
+        memory = refl;
+        gathered = c.in-Err-told.ensures.err;
+        journal = inr (c.in-Ok-put_mark.ensures.ok ∙ ap (λ (bytes : List ℕ). a.journal.gathered.items ++ bytes) (sym (append-nil (entry_bytes (LoggedTrial (c.args.op.port + 1))))));
+      },
+    )
+
+pub returns-in-Err-clause-failed : goal.returns-in-Err-clause-failed
+returns-in-Err-clause-failed c = inl (record { gathered = refl; journal = c.in-Err.ensures.err })
+
+pub returns-in-Err-OutOfMemory-clause-failed : goal.returns-in-Err-OutOfMemory-clause-failed
+returns-in-Err-OutOfMemory-clause-failed c = inl (record { gathered = refl; journal = refl })
 
 pub returns-in-Err-Refused : goal.returns-in-Err-Refused
 returns-in-Err-Refused c =
