@@ -88,9 +88,9 @@ text_rule id = record (new_rule id) { long = Some id; value_names = 1 }
 abbrev pub seat_line : App
 seat_line = with_rule (with_rule (with_rule (new_app (codes "node")) own_rule) (text_rule (codes "peers"))) (number_rule (codes "ports") (codes "1") 0 65535)
 
--- and `[--made N] [--log FILE] [--label TEXT]`
+-- and `[--made N] [--log FILE] [--label TEXT] [--mirror]`
 abbrev pub node_line : App
-node_line = with_rule (with_rule (with_rule seat_line (number_rule (codes "made") (codes "0") 0 4294967295)) (file_rule (codes "log"))) (text_rule (codes "label"))
+node_line = with_rule (with_rule (with_rule (with_rule seat_line (number_rule (codes "made") (codes "0") 0 4294967295)) (file_rule (codes "log"))) (text_rule (codes "label"))) (flag_rule (codes "mirror"))
 
 -- the program, without its commands
 abbrev pub top_line : App
@@ -196,7 +196,7 @@ abbrev pub names_in : Text → List Text
 names_in [] = []
 names_in (byte ∷ bytes) = slice_split (λ b. b == 44) (byte ∷ bytes)
 
--- the names, the numbers, the file and the label of a seat are those of its options
+-- the names, the numbers, the file, the label and the flag of a seat are those of its options
 pub record AsksSeat (rows : List Row) (seat : Seat) : Type 0 where
   pub own : seat.own.now ≡ given_name (codes "own") (codes "") rows
   pub peers : texts_of seat.peers.items ≡ names_in (given_name (codes "peers") (codes "") rows)
@@ -204,6 +204,7 @@ pub record AsksSeat (rows : List Row) (seat : Seat) : Type 0 where
   pub made : GivesNumber 32 0 (one_of (codes "made") rows) seat.made
   pub log : option_map (λ s. s.now) seat.log ≡ first_of (codes "log") rows
   pub label : seat.label.now ≡ given_name (codes "label") (codes "") rows
+  pub mirrored : seat.is_mirrored ≡ is_flag (codes "mirror") rows
 
 -- `node`, with this seat
 abbrev pub IsNode : Option (Text × List Row) → Seat → Type 0

@@ -25,13 +25,14 @@ seat_names seat = seat.own.now ∷ texts_of seat.peers.items
 abbrev pub is_unspelled : Seat → Bool
 is_unspelled seat = list_any is_too_long (seat_names seat)
 
--- the config has just the names, numbers and label of the seat
+-- the config has just the names, numbers, label and flag of the seat
 pub record IsConfigOf (seat : Seat) (config : ProcessConfig) : Type 0 where
   pub own : config.own ≡ chars seat.own.now
   pub peers : config.peers.items ≡ map chars (texts_of seat.peers.items)
   pub ports : config.ports ≡ seat.ports
   pub made : config.made ≡ seat.made
   pub label : config.label.items ≡ seat.label.now
+  pub mirrored : config.mirrored ≡ seat.is_mirrored
 
 -- what a seat says: a config; or there was no memory, or a name is too long, by 6
 abbrev pub SeatSays : Seat → Result ProcessConfig Fault → Type 0

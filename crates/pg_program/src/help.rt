@@ -208,4 +208,6 @@ pub(crate) const MADE_HELP: &str =
 pub(crate) const LOG_HELP: &str =
     "a new file: what comes in goes there, and where the node tried a change";
 
+pub(crate) const MIRROR_HELP: &str = "tell what the table of groups becomes";
+
 pub(crate) const LABEL_HELP: &str = "what the log calls the run, at most 255 bytes";

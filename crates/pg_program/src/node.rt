@@ -111,6 +111,7 @@ fn config_said(alloc: Global, seat: &Seat<'_>) -> Result<ProcessConfig, Fault>
             ports: seat.ports,
             made: seat.made,
             label,
+            mirrored: seat.is_mirrored,
         }),
         Err(_) => Err(Fault::Run(OUT_OF_MEMORY)),
     }

@@ -13,7 +13,7 @@ ghost use Rattle.pg_program.specs.CommandLine.{AsksAids, AsksOffer, AsksQuest, A
 use crate::help::{
     ABOUT, BYTES_ABOUT, CLIENTS_HELP, COMMANDS_HELP, DIAGRAM_HELP, DIFFERING_HELP, EXPLORE_ABOUT,
     EXPLORE_LINES, GRAPH_HELP, JSON_HELP, LABEL_HELP, LIMIT_HELP, LOG_HELP, MADE_HELP,
-    MEMBERS_HELP, NAME_HELP, NODE_ABOUT, NODE_HELP, NODE_LINES, NODES_HELP, OWN_HELP,
+    MEMBERS_HELP, MIRROR_HELP, NAME_HELP, NODE_ABOUT, NODE_HELP, NODE_LINES, NODES_HELP, OWN_HELP,
     OWN_PORTS_HELP, PEER_HELP, PEERS_HELP, PORTS_HELP, RETRIES_HELP, ROUNDS_HELP, SCRIPT_ABOUT,
     SCRIPT_FORMS, SEED_HELP, SERVE_ABOUT, SERVE_LINES, SHOW_HELP, THREADS_ABOUT, THREADS_LINES,
     TRACE_HELP, TURNS_HELP, VERSION,
@@ -83,6 +83,8 @@ pub(crate) struct Seat<'a> {
     pub(crate) log: Option<&'a str>,
     /// What the log calls the run.
     pub(crate) label: &'a str,
+    /// It tells what its table becomes.
+    pub(crate) is_mirrored: bool,
 }
 
 /// Clients that speak with a cluster, and how it is told.
@@ -186,6 +188,7 @@ fn seat_of<'a>(alloc: Global, given: &ArgMatches<'a>) -> Result<Seat<'a>, AllocE
         made: number(given, "made", 0),
         log: text_of(given, "log"),
         label: name_or(given, "label", ""),
+        is_mirrored: is_given(given, "mirror"),
     })
 }
 
@@ -466,8 +469,9 @@ fn node_command<'a>(alloc: Global) -> Result<Command<'a>, AllocError>
     let command = seat_command(alloc)?;
     let command = command.arg(number_option(alloc, "made", "0", 0, 4_294_967_295, MADE_HELP))?;
     let command = command.arg(file_option(alloc, "log", LOG_HELP))?;
+    let command = command.arg(text_option(alloc, "label", "TEXT", LABEL_HELP))?;
     let command = command.after_help(NODE_LINES);
-    command.arg(text_option(alloc, "label", "TEXT", LABEL_HELP))
+    command.arg(flag(alloc, "mirror", MIRROR_HELP))
 }
 
 /// The command `node` with its names and ports alone.
