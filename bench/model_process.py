@@ -25,7 +25,7 @@ from model_node import (
 from model_terms import MOST_CHARACTERS, MOST_LEVELS, OK, Atom, List, Pid, Reference, Tuple, written
 
 # The first bytes of bodies, and the numbers of faults of terms, messages and frames.
-TERM, TICK, CLOCK, DENIED, GROUPS, VERSION, FORMED = 131, 16, 17, 19, 20, 21, 22
+TERM, TICK, CLOCK, DENIED, GROUPS, VERSION, FORMED, MIRRORED = 131, 16, 17, 19, 20, 21, 22, 23
 TRUNCATED, BAD_VERSION, UNKNOWN_TAG, TOO_DEEP, INTEGER_TOO_LARGE, BAD_ATOM, IMPROPER_LIST, BAD_REFERENCE, TRAILING_BYTES = range(1, 10)
 TOO_LONG, STAMP_TOO_LARGE, FULL = 11, 13, 22
 
@@ -248,6 +248,8 @@ class Process:
         self.ports = [Port() for _ in range(ports)]
         self.answers = [deque() for _ in range(ports)]
         self.opened, self.came, self.is_told_formed, self.said = [], 1, False, []
+        # the table as it was behind each body that was said, for a host that mirrors it
+        self.tables = []
 
     def begin(self):
         """What follows from the body that brought the groups."""
@@ -267,19 +269,27 @@ class Process:
         for port, _ in [key for key in self.opened if self.node.waits(key)]:
             if not self.ports[port - 1].is_told:
                 self.ports[port - 1].is_told = True
-                self.said.append(bytes([DENIED, port]))
-        if self.node.is_formed() and not self.is_told_formed:
-            self.is_told_formed = True
-            self.said.append(bytes([FORMED]))
+                self.say(bytes([DENIED, port]))
+        self.form()
         for peer, link in enumerate(self.links):
             while link.out:
-                self.said.append(bytes([peer]) + link.out[:PIECE])
+                self.say(bytes([peer]) + link.out[:PIECE])
                 link.out = link.out[PIECE:]
         said, self.said = self.said, []
         return said
 
+    def say(self, body):
+        self.said.append(body)
+        self.tables.append({name: {pid: count for pid, count in counts.items() if count} for name, counts in self.node.table.items()})
+
+    def form(self):
+        """Says that the node is formed, once it is."""
+        if self.node.is_formed() and not self.is_told_formed:
+            self.is_told_formed = True
+            self.say(bytes([FORMED]))
+
     def tell(self, term):
-        self.said.append(bytes([TERM]) + written(term))
+        self.say(bytes([TERM]) + written(term))
 
     def reply(self, port, number, term):
         self.tell(Tuple((Atom(self.own), port, number, term)))
@@ -292,7 +302,7 @@ class Process:
         if first == TICK and not rest:
             return True
         if first == CLOCK and not rest:
-            self.said.append(bytes([CLOCK]) + struct.pack(">I", self.node.clock))
+            self.say(bytes([CLOCK]) + struct.pack(">I", self.node.clock))
         elif first == DENIED and len(rest) == 1 and 1 <= rest[0] <= len(self.ports):
             self.ports[rest[0] - 1].shared = SHARED
         elif first < len(self.peers):
@@ -356,6 +366,7 @@ class Process:
             return True
         link.unread = link.unread[4 + size :]
         self.after(self.node.take(self.peers[peer], stamp, message))
+        self.form()
         return True
 
     def is_wrong(self, message):
@@ -382,6 +393,9 @@ class Process:
         said = bool(answers)
         while answers:
             answer = answers.popleft()
+            change = port.current[1]
+            if change.word == "join" and answer == Atom("ok") and self.node.has_ended(change.pid):
+                self.tell(Tuple((Atom("has_ended"), Tuple((Atom(self.own), number, port.current[0])))))
             self.reply(number, port.current[0], refused(answer.number) if isinstance(answer, Refused) else answer)
             port.current = None
             port.answered()
@@ -436,4 +450,4 @@ def refused(number):
     return Tuple((Atom("refused"), number))
 
 
-__all__ = ["CLOCK_FULL", "Faulty", "Process"]
+__all__ = ["CLOCK_FULL", "Bytes", "Faulty", "Process"]

@@ -148,6 +148,7 @@ fn told(alloc: Global, given: Given<'_>) -> Result<bool, AllocError> {
         ports: given.ports,
         made: given.made,
         label,
+        mirrored: false,
     };
     let is_valid = config.is_valid();
     drop(config);

@@ -86,6 +86,7 @@ fn begun(alloc: Global, name: &str, peer: Option<&str>) -> Result<Process, Alloc
         ports: 2,
         made: 0,
         label: Vec::new(alloc),
+        mirrored: false,
     };
     match Process::begin(alloc, config, b"\x83j") {
         Ok(process) => Ok(process),

@@ -75,6 +75,7 @@ fn config(alloc: Global, ports: u16) -> Result<ProcessConfig, AllocError> {
         ports,
         made: 1,
         label: Vec::new(alloc),
+        mirrored: false,
     })
 }
 
