@@ -27,6 +27,7 @@ from model_terms import MOST_CHARACTERS, MOST_LEVELS, OK, Atom, List, Pid, Refer
 # The first bytes of bodies, and the numbers of faults of terms, messages and frames.
 TERM, TICK, CLOCK, DENIED, GROUPS, VERSION, FORMED, MIRRORED = 131, 16, 17, 19, 20, 21, 22, 23
 TRUNCATED, BAD_VERSION, UNKNOWN_TAG, TOO_DEEP, INTEGER_TOO_LARGE, BAD_ATOM, IMPROPER_LIST, BAD_REFERENCE, TRAILING_BYTES = range(1, 10)
+OLD_CLOCK, MANY_ENDED = 2**29, 1_000_000
 TOO_LONG, STAMP_TOO_LARGE, FULL = 11, 13, 22
 
 # The longest body, the most bytes that go out in one, how many changes wait at a port, and how ports give way.
@@ -248,6 +249,7 @@ class Process:
         self.ports = [Port() for _ in range(ports)]
         self.answers = [deque() for _ in range(ports)]
         self.opened, self.came, self.is_told_formed, self.said = [], 1, False, []
+        self.warned = set()
         # the table as it was behind each body that was said, for a host that mirrors it
         self.tables = []
 
@@ -271,6 +273,7 @@ class Process:
                 self.ports[port - 1].is_told = True
                 self.say(bytes([DENIED, port]))
         self.form()
+        self.warn()
         for peer, link in enumerate(self.links):
             while link.out:
                 self.say(bytes([peer]) + link.out[:PIECE])
@@ -287,6 +290,13 @@ class Process:
         if self.node.is_formed() and not self.is_told_formed:
             self.is_told_formed = True
             self.say(bytes([FORMED]))
+
+    def warn(self):
+        """Tells once that the clock is old, and once that many processes have ended."""
+        for word, count, limit in (("old_clock", self.node.clock, OLD_CLOCK), ("many_ended", len(self.node.ended), MANY_ENDED)):
+            if count >= limit and word not in self.warned:
+                self.warned.add(word)
+                self.tell(Tuple((Atom(word), count)))
 
     def tell(self, term):
         self.say(bytes([TERM]) + written(term))
