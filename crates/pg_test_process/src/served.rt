@@ -64,8 +64,27 @@ const VERSION: &str = "v";
 
 const OPENING: &[u8] = b"\0\0\0\x03\x15\x01v";
 
+/// A host mirrors the table: it brings a group of one process, makes another, and has the process join it; the process ends, and joins once more; the
+/// first group goes.
+const MIRRORED: &[u8] =
+    b"\0\0\0#\x14\x83l\0\0\0\x01h\x02w\x01gl\0\0\0\x01Xw\x01a\0\0\0\x01\0\0\0\0\0\0\0\x01jj\0\0\0\x15\x83h\
+        \x03w\x01aa\x01h\x02w\x06createw\x01h\0\0\0#\x83h\x03w\x01aa\x01h\x03w\x04joinw\x01hXw\x01a\0\0\0\
+        \x01\0\0\0\0\0\0\0\x01\0\0\0\"\x83h\x03w\x01aa\x01h\x02w\x06finishXw\x01a\0\0\0\x01\0\0\0\0\0\0\0\
+        \x01\0\0\0#\x83h\x03w\x01aa\x01h\x03w\x04joinw\x01hXw\x01a\0\0\0\x01\0\0\0\0\0\0\0\x01\0\0\0\x15\x83\
+        h\x03w\x01aa\x01h\x02w\x06deletew\x01g";
+
+/// What it is told: the group that it brought, and that the node is formed; each change before its answer; and that the process has ended.
+const TOLD: &[u8] =
+    b"\0\0\0#\x17\x83l\0\0\0\x01h\x02w\x01gl\0\0\0\x01Xw\x01a\0\0\0\x01\0\0\0\0\0\0\0\x01jj\0\0\0\x01\x16\
+        \0\0\0\x0e\x17\x83l\0\0\0\x01h\x02w\x01hjj\0\0\0\x0e\x83h\x04w\x01aa\x01a\x01w\x02ok\0\0\0\x1f\x17\
+        \x83l\0\0\0\x01h\x03w\x01hXw\x01a\0\0\0\x01\0\0\0\0\0\0\0\x01a\x01j\0\0\0\x0e\x83h\x04w\x01aa\x01a\
+        \x02w\x02ok\0\0\06\x17\x83l\0\0\0\x02h\x03w\x01gXw\x01a\0\0\0\x01\0\0\0\0\0\0\0\x01a\0h\x03w\x01hXw\
+        \x01a\0\0\0\x01\0\0\0\0\0\0\0\x01a\0j\0\0\0\x0e\x83h\x04w\x01aa\x01a\x03w\x02ok\0\0\0\x17\x83h\x02w\
+        \x09has_endedh\x03w\x01aa\x01a\x04\0\0\0\x0e\x83h\x04w\x01aa\x01a\x04w\x02ok\0\0\0\x0d\x17\x83l\0\0\
+        \0\x01h\x01w\x01gj\0\0\0\x0e\x83h\x04w\x01aa\x01a\x05w\x02ok";
+
 /// How the process of node a begins.
-fn config(alloc: Global, ports: u16) -> Result<ProcessConfig, AllocError> {
+fn config(alloc: Global, ports: u16, mirrored: bool) -> Result<ProcessConfig, AllocError> {
     let Ok(own) = Atom::new(alloc, "a") else {
         return Err(AllocError);
     };
@@ -75,13 +94,18 @@ fn config(alloc: Global, ports: u16) -> Result<ProcessConfig, AllocError> {
         ports,
         made: 1,
         label: Vec::new(alloc),
-        mirrored: false,
+        mirrored,
     })
 }
 
 /// What goes out of an input, and by which fault it ends.
-fn served(alloc: Global, ports: u16, input: &[u8]) -> Result<(Vec<u8>, u8), AllocError> {
-    let config = config(alloc, ports)?;
+fn served(
+    alloc: Global,
+    ports: u16,
+    mirrored: bool,
+    input: &[u8],
+) -> Result<(Vec<u8>, u8), AllocError> {
+    let config = config(alloc, ports, mirrored)?;
     let mut reader = input;
     let mut out = Vec::new(alloc);
     let mut log = Vec::new(alloc);
@@ -94,8 +118,8 @@ fn served(alloc: Global, ports: u16, input: &[u8]) -> Result<(Vec<u8>, u8), Allo
 }
 
 /// Whether just this goes out behind the version, and the process ends by that fault.
-fn is_served(alloc: Global, input: &[u8], said: &[u8], fault: u8) -> bool {
-    match served(alloc, 1, input) {
+fn is_served(alloc: Global, mirrored: bool, input: &[u8], said: &[u8], fault: u8) -> bool {
+    match served(alloc, 1, mirrored, input) {
         Ok((out, number)) => {
             let is_so = number == fault
                 && out.as_slice().starts_with(OPENING)
@@ -111,14 +135,24 @@ fn is_served(alloc: Global, input: &[u8], said: &[u8], fault: u8) -> bool {
 fn inputs_are_served(rt: HostRuntime) {
     for place in 0..ROWS.len() {
         let (input, said, fault) = ROWS[place];
-        let is_so = is_served(rt.alloc(), input, said, fault);
+        let is_so = is_served(rt.alloc(), false, input, said, fault);
         holds_at(&rt, is_so, "what is served in row", place);
     }
 }
 
+#[test]
+fn a_table_is_mirrored(rt: HostRuntime) {
+    holds_at(
+        &rt,
+        is_served(rt.alloc(), true, MIRRORED, TOLD, 0),
+        "what a mirror is told",
+        0,
+    );
+}
+
 /// Whether a process without a port is refused, and nothing goes out.
 fn is_refused(alloc: Global) -> bool {
-    match served(alloc, 0, b"\0\0\0\x03\x14\x83j") {
+    match served(alloc, 0, false, b"\0\0\0\x03\x14\x83j") {
         Ok((out, number)) => {
             let is_so = number == 15 && out.is_empty();
             drop(out);
@@ -153,7 +187,7 @@ fn failed(
     log_calls: usize,
     calls: usize,
 ) -> Result<(usize, usize, bool), AllocError> {
-    let config = config(alloc, 1)?;
+    let config = config(alloc, 1, false)?;
     let mut reader: &[u8] = b"\0\0\0\x03\x14\x83j\0\0\0\x01\x11";
     let mut out: AnyWriter<Sheet> = blank_sheet(alloc, calls);
     let mut log: AnyWriter<Sheet> = blank_sheet(alloc, log_calls);
