@@ -52,9 +52,9 @@ unsaid_peers seat fault h = others_unspelled (is_too_long seat.own.now) (list_an
 -- all can be
 pub is_said : (seat : Seat) (config : ProcessConfig) → config.own ≡ chars seat.own.now → is_too_long seat.own.now ≡ false
     → config.peers.items ≡ map (λ (name : Bor (List ℕ)). chars name.now) seat.peers.items → list_any (λ (name : Bor (List ℕ)). is_too_long name.now) seat.peers.items ≡ false
-    → config.ports ≡ seat.ports → config.made ≡ seat.made → config.label.items ≡ seat.label.now → SeatSays seat (Ok config)
-is_said seat config own short peers others ports made label = (
-  record { own = own; peers = peers ∙ told seat.peers.items; ports = ports; made = made; label = label },
+    → config.ports ≡ seat.ports → config.made ≡ seat.made → config.label.items ≡ seat.label.now → config.mirrored ≡ seat.is_mirrored → SeatSays seat (Ok config)
+is_said seat config own short peers others ports made label mirrored = (
+  record { own = own; peers = peers ∙ told seat.peers.items; ports = ports; made = made; label = label; mirrored = mirrored },
   both_false (is_too_long seat.own.now) (list_any is_too_long (texts_of seat.peers.items)) short (sym (long seat.peers.items) ∙ others),
 )
 
