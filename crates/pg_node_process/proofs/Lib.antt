@@ -1,5 +1,6 @@
 pub mod Apart
 pub mod Brought
+pub mod Entries
 pub mod Few
 pub mod Fits
 pub mod Framed

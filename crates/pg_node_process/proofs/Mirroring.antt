@@ -1,6 +1,6 @@
 -- What a mirror makes of what it is told.
-use Rattle.std.proofs.Common.{◌≡◌, ◌∷◌, ◌++◌, ◌∙◌, ◌+◌, ◌-◌, ◌<◌, ◌≤◌, ◌^◌, [], List, ℕ, pos, inr, Bool, true, false, cond, map, take, length, get_or, Option, Some, None, Result, Ok, Err, refl, sym, ap, subst, append-nil, arith, rules, min, lt-ltb, nat_lt}
-use Rattle.std.specs.Prelude.{◌&&◌, ◌||◌, OnOk, OnErr, IfOk, IfSome, IsOk, IsSome, is_some, unwrap_or, count_by, slice_get, if◌then◌else◌}
+use Rattle.std.proofs.Common.{◌≡◌, ◌∷◌, ◌++◌, ◌∙◌, ◌+◌, ◌-◌, ◌<◌, ◌≤◌, ◌^◌, [], List, ℕ, pos, inl, inr, Bool, true, false, cond, map, take, length, get_or, Option, Some, None, Result, Ok, Err, refl, sym, ap, subst, append-nil, arith, rules, min, lt-ltb, nat_lt}
+use Rattle.std.specs.Prelude.{◌&&◌, ◌||◌, OnOk, OnErr, IfSome, IsOk, IsSome, is_some, unwrap_or, count_by, slice_get, if◌then◌else◌}
 use Rattle.std.specs.List.{filter, flat_map, list_any}
 use Rattle.std.proofs.Math.Path.{fun_ext}
 use Rattle.std.proofs.lemmas.List.{take-append-le, take_all, take_more, map-append}
@@ -24,11 +24,11 @@ use Rattle.pg_step.specs.PgGroup.Scope.{anywhere}
 use Rattle.pg_step.specs.PgGroup.Table.{AreNames, Table, changed, without}
 use Rattle.pg_step.specs.PgGroup.Value.{Counts, Value, apply, count_in, less, listed}
 use Rattle.pg_step.specs.PgGroup.declared.update.Update.{Update}
-use Rattle.pg_step.specs.PgGroup.declared.update.Update.TheVariants.{Create, Join, Leave}
+use Rattle.pg_step.specs.PgGroup.declared.update.Update.TheVariants.{Create, Delete, Join, Leave}
 use Rattle.pg_step.specs.PgMessageTypes.Parts.{pid_of}
 use Rattle.pg_node_requests.specs.Requests.{number_of}
 use Rattle.pg_node_process.proofs.Gathered.{adds_then, longer_by}
-use Rattle.pg_node_process.specs.Mirrors.{Adds, AreGroupsOf, IsLonger, OnlyThese, RowsOf, SaysTable, TellsOf, TellsUpdate, all_assigned, assigned, assignments, before_pids, count_told, counted_so, entry, entry_assigned, gone, has_joined, no_groups, parts_assigned, patched, pids_in, row, row_assigned, told_of}
+use Rattle.pg_node_process.specs.Mirrors.{Adds, AreGroupsOf, IsLonger, OnlyThese, RowsOf, SaysOne, SaysRows, SaysTable, SaysUpdate, TellsOf, TellsUpdate, all_assigned, assigned, assignments, before_pids, count_told, counted_so, entry, entry_assigned, gone, has_joined, no_groups, parts_assigned, patched, pids_in, row, row_assigned, told_of}
 use Rattle.pg_node_process.specs.Outputs.{Mirrored, Output, Says, said}
 
 -- ---- what an assignment makes of a table
@@ -133,10 +133,10 @@ pub group_next : {A : Type 0} (f : A → Term) (xs : List A) (i : ℕ) (x : A) (
     → AddsRows (map f (take (i + 1) xs)) after said0 said2 a c
 group_next f xs i x after said0 said1 said2 a b c low is = rows_next (map f (take i xs)) (f x ∷ []) (map f (take (i + 1) xs)) after said0 said1 said2 a b c (map_next f xs i x low is)
 
--- the next assignment of a list
-pub adds_next : {A : Type 0} (f : A → Term) (xs : List A) (i : ℕ) (x : A) (said0 said1 said2 : List ℕ) (a b c : List Term) → i < length xs → x ≡ get_or xs i x → Adds (map f (take i xs)) said0 said1 a b → Adds (f x ∷ []) said1 said2 b c
-    → Adds (map f (take (i + 1) xs)) said0 said2 a c
-adds_next f xs i x said0 said1 said2 a b c low is g h = subst (λ (l : List Term). Adds l said0 said2 a c) (sym (map_next f xs i x low is)) (adds_then (map f (take i xs)) (f x ∷ []) said0 said1 said2 a b c g h)
+-- the group of the next name
+pub name_next : (xs : List Term) (i : ℕ) (x : Term) (after : Table) (said0 said1 said2 : List ℕ) (a b c : List Term) → i < length xs → x ≡ get_or xs i x → AddsRows (take i xs) after said0 said1 a b → AddsRows (x ∷ []) after said1 said2 b c
+    → AddsRows (take (i + 1) xs) after said0 said2 a c
+name_next xs i x after said0 said1 said2 a b c low is = rows_next (take i xs) (x ∷ []) (take (i + 1) xs) after said0 said1 said2 a b c (take_more xs i x low ∙ ap (λ (y : Term). take i xs ++ y ∷ []) (sym is))
 
 kept : (b : Bool) (v w : Value) → (b ≡ false → v ≡ w) → cond b v w ≡ v
 kept true v w same = refl
@@ -179,6 +179,22 @@ says_table terms before after said0 said1 g makes = (
   },
 )
 
+-- the rows that were gathered are told, whatever the host has
+pub says_rows : (terms names : List Term) (after : Table) (said0 said1 : List ℕ) → Adds terms said0 said1 [] [] → RowsOf names after terms → (outputs : List Output) × SaysRows names after said0 said1 outputs
+says_rows terms names after said0 said1 g rows = (
+  g.outputs,
+  record {
+    alone = g.alone;
+    rows = λ before. ap (λ (ts : List Term). all_assigned ts before) (sym (append-nil (flat_map assignments g.outputs)) ∙ g.told) ∙ rows before;
+    framed = g.framed;
+    gathered = g.gathered;
+  },
+)
+
+-- where no other group is another, who had the one table has the other
+pub rows_table : (names : List Term) (before after : Table) (said0 said1 : List ℕ) (outputs : List Output) → SaysRows names after said0 said1 outputs → OnlyThese names before after → SaysTable before after said0 said1 outputs
+rows_table names before after said0 said1 outputs g only = record { tells = (g.alone, g.rows before ∙ rows_all names before after only); framed = g.framed; gathered = g.gathered }
+
 pub longer_ok : {E : Type 0} (added : Result (Unit {0}) E) (said0 said1 : List ℕ) (a b : List Term) (P : List Term → Type 0) → OnOk added ((terms : List Term) × Adds terms said0 said1 a b × P terms) → OnOk added (IsLonger said0 said1)
 longer_ok (Ok done) said0 said1 a b P g = longer_by g.1
 longer_ok (Err fault) said0 said1 a b P g = tt
@@ -199,56 +215,9 @@ finished_all (Ok done) (Ok last) said0 said1 said2 start waiting P Q empty g say
 finished_all (Err before) (Ok last) said0 said1 said2 start waiting P Q empty g says was so = absurd cc
 finished_all added (Err fault) said0 said1 said2 start waiting P Q empty g says was so = tt
 
-pub alone : {E : Type 0} (added : Result (Unit {0}) E) (xs : List Term) (said0 said1 : List ℕ) (a b : List Term) → OnOk added (Adds xs said0 said1 a b) → OnOk added ((terms : List Term) × Adds terms said0 said1 a b × (terms ≡ xs))
-alone (Ok done) xs said0 said1 a b g = (xs, g, refl)
-alone (Err fault) xs said0 said1 a b g = tt
-
 -- ---- the end of a process
 
 module _ (pid : Pid) where
-  abbrev pub ends : List Term → List Term
-  ends names = map (λ name. entry name pid 0) names
-
-  zeroed : (v : Value) → counted_so v pid 0 ≡ less v (same_pid pid)
-  unfolding upd
-  zeroed None = refl
-  zeroed (Some counts) = ap Some (fun_ext (λ q. refl))
-
-  end_is : (name : Term) (table : Table) → assigned (entry name pid 0) table ≡ upd same_term table name (less (table name) (same_pid pid))
-  end_is name table = entry_is name pid 0 table (omega arith) ∙ ap (upd same_term table name) (zeroed (table name))
-
-  out_twice : (b : Bool) (n : ℕ) → cond b 0 (cond b 0 n) ≡ cond b 0 n
-  out_twice true n = refl
-  out_twice false n = refl
-
-  less_twice : (v : Value) → less (less v (same_pid pid)) (same_pid pid) ≡ less v (same_pid pid)
-  less_twice None = refl
-  less_twice (Some counts) = ap Some (fun_ext (λ q. out_twice (same_pid pid q) (counts q)))
-
-  -- of these names the groups without the process
-  abbrev thinned : List Term → Table → Table
-  thinned names table x = cond (list_any (same_term x) names) (less (table x) (same_pid pid)) (table x)
-
-  thinned_first : (name x : Term) (table : Table) (rest : Bool)
-      → cond rest (less (cond (same_term name x) (less (table name) (same_pid pid)) (table x)) (same_pid pid)) (cond (same_term name x) (less (table name) (same_pid pid)) (table x))
-      ≡ cond (same_term x name || rest) (less (table x) (same_pid pid)) (table x)
-  thinned_first name x table rest = go (same_term name x) refl rest ∙ ap (λ (b : Bool). cond (b || rest) (less (table x) (same_pid pid)) (table x)) (term_laws.laws-law.symm name x)
-    where
-      go : (b : Bool) → same_term name x ≡ b → (rest : Bool)
-          → cond rest (less (cond b (less (table name) (same_pid pid)) (table x)) (same_pid pid)) (cond b (less (table name) (same_pid pid)) (table x)) ≡ cond (b || rest) (less (table x) (same_pid pid)) (table x)
-      go true same true = ap (λ (n : Term). less (less (table n) (same_pid pid)) (same_pid pid)) (term_is name x same) ∙ less_twice (table x)
-      go true same false = ap (λ (n : Term). less (table n) (same_pid pid)) (term_is name x same)
-      go false same rest = refl
-
-  one_end : (name : Term) (names : List Term) (table : Table) → thinned names (upd same_term table name (less (table name) (same_pid pid))) ≡ thinned (name ∷ names) table
-  unfolding upd
-  one_end name names table = fun_ext (λ x. thinned_first name x table (list_any (same_term x) names))
-
-  ends_thin : (names : List Term) (table : Table) → all_assigned (ends names) table ≡ thinned names table
-  ends_thin [] table = refl
-  ends_thin (name ∷ names) table =
-      ap (all_assigned (ends names)) (end_is name table) ∙ ends_thin names (upd same_term table name (less (table name) (same_pid pid))) ∙ one_end name names table
-
   uncounted : (counts : Counts) (q : Pid) → counts pid ≡ 0 → counts q ≡ cond (same_pid pid q) 0 (counts q)
   uncounted counts q none = go (same_pid pid q) refl
     where
@@ -263,13 +232,9 @@ module _ (pid : Pid) where
   none_counted : (n : ℕ) → nat_lt 0 n ≡ false → n ≡ 0
   none_counted n none = grind (arith, none)
 
-  thin_all : (b : Bool) (v : Value) → b ≡ nat_lt 0 (count_in v pid) → cond b (less v (same_pid pid)) v ≡ less v (same_pid pid)
-  thin_all true v is = refl
-  thin_all false v is = no_member v (none_counted (count_in v pid) (sym is))
-
-  -- the process is in none of its groups any more
-  pub ends_all : (names : List Term) (table : Table) → AreGroupsOf table pid names → all_assigned (ends names) table ≡ without table pid
-  ends_all names table are = ends_thin names table ∙ fun_ext (λ x. thin_all (list_any (same_term x) names) (table x) (are x))
+  -- a group of which it was no member is as it was
+  pub left_only : (names : List Term) (before after : Table) → AreGroupsOf before pid names → after ≡ without before pid → OnlyThese names before after
+  left_only names before after are is x other = (λ i. is i x) ∙ sym (no_member (before x) (none_counted (count_in (before x) pid) (sym (are x) ∙ other)))
 
   -- ---- the groups of a process
 
@@ -430,40 +395,68 @@ leaves : (name : Term) (before after : Table) (pid : Pid) (v : Value) → apply 
 leaves name before after pid None = refl
 leaves name before after pid (Some counts) = refl
 
-pub tells_joined : {E : Type 0} (told : Result (Option Term) E) (name : Term) (pid : Pid) (after : Table) (has_ended : Bool) → has_ended ≡ false → IfOk told (λ told. told ≡ count_told (after name) name pid)
-    → IfOk told (λ told. IfSome told (λ term. count_in (after name) pid < 2 ^ 63))
-    → IfOk told (λ told. (before : Table) (ended : Pid → Bool) → after ≡ changed before (Join name pid) ended → has_joined (Join name pid) ended ≡ has_ended → TellsOf (Join name pid) before after told)
-tells_joined (Err fault) name pid after has_ended lives is few = tt
-tells_joined (Ok told) name pid after has_ended lives is few = λ before ended makes so.
-    tells_count name before after pid (λ n. n + 1) (Join name pid) told (λ count. refl)
-    (makes ∙ ap (λ (b : Bool). upd same_term before name (cond b (before name) (apply (before name) (Join name pid)))) (so ∙ lives) ∙ ap (upd same_term before name) (joins name before after pid (before name))) is few
+tells_joined : (name : Term) (pid : Pid) (after : Table) (joined : Bool) → joined ≡ false → IfSome (count_told (after name) name pid) (λ term. count_in (after name) pid < 2 ^ 63)
+    → (before : Table) (ended : Pid → Bool) → after ≡ changed before (Join name pid) ended → has_joined (Join name pid) ended ≡ joined → TellsOf (Join name pid) before after (count_told (after name) name pid)
+tells_joined name pid after joined lives few before ended makes so =
+    tells_count name before after pid (λ n. n + 1) (Join name pid) (count_told (after name) name pid) (λ count. refl)
+    (makes ∙ ap (λ (b : Bool). upd same_term before name (cond b (before name) (apply (before name) (Join name pid)))) (so ∙ lives) ∙ ap (upd same_term before name) (joins name before after pid (before name))) refl few
 
-pub tells_left : {E : Type 0} (told : Result (Option Term) E) (name : Term) (pid : Pid) (after : Table) (has_ended : Bool) → IfOk told (λ told. told ≡ count_told (after name) name pid)
-    → IfOk told (λ told. IfSome told (λ term. count_in (after name) pid < 2 ^ 63))
-    → IfOk told (λ told. (before : Table) (ended : Pid → Bool) → after ≡ changed before (Leave name pid) ended → has_joined (Leave name pid) ended ≡ has_ended → TellsOf (Leave name pid) before after told)
-tells_left (Err fault) name pid after has_ended is few = tt
-tells_left (Ok told) name pid after has_ended is few = λ before ended makes so.
-    tells_count name before after pid (λ n. n - 1) (Leave name pid) told (λ count. refl) (makes ∙ ap (upd same_term before name) (leaves name before after pid (before name))) is few
+tells_left : (name : Term) (pid : Pid) (after : Table) → IfSome (count_told (after name) name pid) (λ term. count_in (after name) pid < 2 ^ 63)
+    → (before : Table) (ended : Pid → Bool) → after ≡ changed before (Leave name pid) ended → TellsOf (Leave name pid) before after (count_told (after name) name pid)
+tells_left name pid after few before ended makes =
+    tells_count name before after pid (λ n. n - 1) (Leave name pid) (count_told (after name) name pid) (λ count. refl) (makes ∙ ap (upd same_term before name) (leaves name before after pid (before name))) refl few
 
-pub term_of_ok : {E : Type 0} (r : Result (Option Term) E) (o : Option Term) (term : Term) (P : Option Term → Type 0) → r ≡ Ok o → o ≡ Some term → IfOk r P → P (Some term)
-term_of_ok r o term P is there holds = subst P there (subst (λ (x : Result (Option Term) _). IfOk x P) is holds)
+-- nothing is told of what stays as it is
+pub stays_untold : (update : Update) (before after : Table) (said0 said1 : List ℕ) → said1 ≡ said0 → before ≡ after → (outputs : List Output) × SaysTable before after said0 said1 outputs × TellsUpdate (Some update) outputs
+stays_untold update before after said0 said1 same is = ([], record { tells = (tt, is); framed = tt; gathered = same ∙ sym (append-nil said0) }, inl refl)
 
 -- the term is told alone
-pub told_one : {E : Type 0} (r : Result (Unit {0}) E) (update : Update) (term : Term) (after : Table) (said0 said1 : List ℕ) (has_ended : Bool)
-    → ((before : Table) (ended : Pid → Bool) → after ≡ changed before update ended → has_joined update ended ≡ has_ended → TellsOf update before after (Some term))
-    → OnOk r (Says said0 said1 (Mirrored (Listed (term ∷ []))))
-    → OnOk r ((before : Table) (ended : Pid → Bool) → after ≡ changed before update ended → has_joined update ended ≡ has_ended → (outputs : List Output) × SaysTable before after said0 said1 outputs × TellsUpdate (Some update) outputs)
-told_one (Err fault) update term after said0 said1 has_ended tells says = tt
-told_one (Ok done) update term after said0 said1 has_ended tells says = λ before ended is so.
-    let tell = tells before ended is so in (
-      Mirrored (Listed (term ∷ [])) ∷ [],
-      record {
-        tells = (
-          (ap is_some (items_is (term ∷ [])), tt),
-          ap (λ (o : Option (List Term)). all_assigned (unwrap_or o [] ++ []) before) (items_is (term ∷ [])) ∙ tell.0,
-        );
-        framed = (says.framed, tt);
-        gathered = says.wrote ∙ ap (λ (bytes : List ℕ). said0 ++ bytes) (sym (append-nil (said (Mirrored (Listed (term ∷ []))))));
-      },
-      inr (tell.1, ap (λ (t : Term). Mirrored (Listed (t ∷ [])) ∷ []) tell.2),
-    )
+told_alone : (update : Update) (term : Term) (before after : Table) (said0 said1 : List ℕ) → TellsOf update before after (Some term) → Says said0 said1 (Mirrored (Listed (term ∷ [])))
+    → (outputs : List Output) × SaysTable before after said0 said1 outputs × TellsUpdate (Some update) outputs
+told_alone update term before after said0 said1 tell says = (
+  Mirrored (Listed (term ∷ [])) ∷ [],
+  record {
+    tells = (
+      (ap is_some (items_is (term ∷ [])), tt),
+      ap (λ (o : Option (List Term)). all_assigned (unwrap_or o [] ++ []) before) (items_is (term ∷ [])) ∙ tell.0,
+    );
+    framed = (says.framed, tt);
+    gathered = says.wrote ∙ ap (λ (bytes : List ℕ). said0 ++ bytes) (sym (append-nil (said (Mirrored (Listed (term ∷ []))))));
+  },
+  inr (tell.1, ap (λ (t : Term). Mirrored (Listed (t ∷ [])) ∷ []) tell.2),
+)
+
+told_one : (update : Update) (told : Option Term) (before after : Table) (said0 said1 : List ℕ) → TellsOf update before after told → SaysOne told said0 said1
+    → (outputs : List Output) × SaysTable before after said0 said1 outputs × TellsUpdate (Some update) outputs
+told_one update None before after said0 said1 stays says = stays_untold update before after said0 said1 says stays
+told_one update (Some term) before after said0 said1 tell says = told_alone update term before after said0 said1 tell says
+
+pub joined_said : {E : Type 0} (r : Result (Unit {0}) E) (name : Term) (pid : Pid) (after : Table) (joined : Bool) (said0 said1 : List ℕ) → joined ≡ false → OnOk r (SaysOne (count_told (after name) name pid) said0 said1)
+    → OnOk r (IfSome (count_told (after name) name pid) (λ term. count_in (after name) pid < 2 ^ 63)) → OnOk r (SaysUpdate (Join name pid) joined after said0 said1)
+joined_said (Ok done) name pid after joined said0 said1 lives says few = λ before ended makes so.
+    told_one (Join name pid) (count_told (after name) name pid) before after said0 said1 (tells_joined name pid after joined lives few before ended makes so) says
+joined_said (Err fault) name pid after joined said0 said1 lives says few = tt
+
+pub left_said : {E : Type 0} (r : Result (Unit {0}) E) (name : Term) (pid : Pid) (after : Table) (joined : Bool) (said0 said1 : List ℕ) → OnOk r (SaysOne (count_told (after name) name pid) said0 said1)
+    → OnOk r (IfSome (count_told (after name) name pid) (λ term. count_in (after name) pid < 2 ^ 63)) → OnOk r (SaysUpdate (Leave name pid) joined after said0 said1)
+left_said (Ok done) name pid after joined said0 said1 says few = λ before ended makes so.
+    told_one (Leave name pid) (count_told (after name) name pid) before after said0 said1 (tells_left name pid after few before ended makes) says
+left_said (Err fault) name pid after joined said0 said1 says few = tt
+
+pub deleted_said : {E : Type 0} (r : Result (Unit {0}) E) (name : Term) (after : Table) (joined : Bool) (said0 said1 : List ℕ) → OnOk r (Says said0 said1 (Mirrored (Listed (gone name ∷ []))))
+    → OnOk r (SaysUpdate (Delete name) joined after said0 said1)
+deleted_said (Ok done) name after joined said0 said1 says = λ before ended makes so.
+    told_alone (Delete name) (gone name) before after said0 said1 (gone_is name before ∙ sym makes, 0, refl) says
+deleted_said (Err fault) name after joined said0 said1 says = tt
+
+pub created_said : {E : Type 0} (r : Result (Unit {0}) E) (name term : Term) (after : Table) (size : Option ℕ) (said0 said1 : List ℕ) → size ≡ Some 0 → (IsSome size → IsSome (after name))
+    → IfSome size (λ n. (pids : List Pid) × (IsMemberList (after name) anywhere pids × (n ≡ min (length pids) 18446744073709551615)))
+    → term ≡ row name [] → OnOk r (Says said0 said1 (Mirrored (Listed (term ∷ [])))) → OnOk r ((joined : Bool) → SaysUpdate (Create name) joined after said0 said1)
+created_said (Ok done) name term after size said0 said1 none there sized told says = λ joined before ended makes so.
+    told_alone (Create name) term before after said0 said1 (tells_created name term before after size none there sized told makes) says
+created_said (Err fault) name term after size said0 said1 none there sized told says = tt
+
+pub at_update : {E : Type 0} (r : Result (Unit {0}) E) (update now : Update) (joined : Bool) (after : Table) (said0 said1 : List ℕ) → update ≡ now → OnOk r ((joined : Bool) → SaysUpdate now joined after said0 said1)
+    → OnOk r (SaysUpdate update joined after said0 said1)
+at_update (Ok done) update now joined after said0 said1 is says = subst (λ (u : Update). SaysUpdate u joined after said0 said1) (sym is) (says joined)
+at_update (Err fault) update now joined after said0 said1 is says = tt

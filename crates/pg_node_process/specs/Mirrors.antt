@@ -9,13 +9,13 @@ use Rattle.pg_term.specs.declared.pid.Pid.{Pid}
 use Rattle.pg_term.specs.declared.term.Term.{Term, Tuple, List as Listed}
 use Rattle.pg_term.specs.declared.term.Term.TheVariants.{Int, Pid as Process}
 use Rattle.pg_step.specs.PgGroup.Functions.{upd}
-use Rattle.pg_step.specs.PgGroup.Table.{Table}
+use Rattle.pg_step.specs.PgGroup.Table.{Table, changed}
 use Rattle.pg_step.specs.PgGroup.Value.{Value, count_in, listed}
 use Rattle.pg_step.specs.PgGroup.declared.update.Update.{Update}
 use Rattle.pg_step.specs.PgGroup.declared.update.Update.TheVariants as updates
 use Rattle.pg_step.specs.PgMessageTypes.Parts.{elements_of, items_of, pid_of}
 use Rattle.pg_node_requests.specs.Requests.{number_of}
-use Rattle.pg_node_process.specs.Outputs.{IsFramed, Mirrored, Output, said as bytes_said}
+use Rattle.pg_node_process.specs.Outputs.{IsFramed, Mirrored, Output, Says, said as bytes_said}
 
 -- ---- what it makes of it
 
@@ -139,7 +139,7 @@ OnlyThese names before after = (name : Term) → list_any (same_term name) names
 abbrev pub AreGroupsOf : Table → Pid → List Term → Type 0
 AreGroupsOf table pid names = (name : Term) → list_any (same_term name) names ≡ nat_lt 0 (count_in (table name) pid)
 
--- ---- from one table to another
+-- ---- whole groups
 
 -- of these names what a table has, and of all others what another has
 abbrev pub patched : List Term → Table → Table → Table
@@ -148,6 +148,23 @@ patched names after before name = cond (list_any (same_term name) names) (after 
 -- these assignments give the groups of these names what a table has
 abbrev pub RowsOf : List Term → Table → List Term → Type 0
 RowsOf names after terms = (before : Table) → all_assigned terms before ≡ patched names after before
+
+-- A host is told of whole groups: whatever it had, it has of these names what the table has, and else what it had.
+abbrev pub TellsRowsOf : List Term → Table → List Output → Type 0
+TellsRowsOf names after said = (before : Table) → mirror said before ≡ patched names after before
+
+-- of whole groups, of some names
+abbrev pub TellsRows : Table → List Output → Type 0
+TellsRows after said = (names : List Term) × TellsRowsOf names after said
+
+-- a host that mirrors the table is told how the groups of these names are
+pub record SaysRows (names : List Term) (after : Table) (said0 said1 : List ℕ) (outputs : List Output) : Type 0 where
+  pub alone : AllByRecursion AreAssignments outputs
+  pub rows : TellsRowsOf names after outputs
+  pub framed : AllByRecursion IsFramed outputs
+  pub gathered : said1 ≡ said0 ++ flat_map bytes_said outputs
+
+-- ---- from one table to another
 
 -- the assignment of what a process counts in a group, where that is there
 abbrev pub count_told : Value → Term → Pid → Option Term
@@ -158,3 +175,14 @@ count_told (Some counts) name pid = Some (entry name pid (counts pid))
 abbrev pub TellsOf : Update → (before after : Table) → Option Term → Type 0
 TellsOf update before after None = before ≡ after
 TellsOf update before after (Some term) = (assigned term before ≡ after) × (count : ℕ) × (term ≡ told_of update count)
+
+-- the assignment that there is is said, alone in a body, or nothing is
+abbrev pub SaysOne : Option Term → List ℕ → List ℕ → Type 0
+SaysOne None before after = after ≡ before
+SaysOne (Some term) before after = Says before after (Mirrored (Listed (term ∷ [])))
+
+-- an update that was applied is told, from whatever table it changed to the one behind it; joined: it is a join, of a process that has ended
+abbrev pub SaysUpdate : Update → (joined : Bool) → Table → List ℕ → List ℕ → Type 0
+SaysUpdate update joined after said0 said1 =
+    (before : Table) (ended : Pid → Bool) → after ≡ changed before update ended → has_joined update ended ≡ joined
+    → (outputs : List Output) × SaysTable before after said0 said1 outputs × TellsUpdate (Some update) outputs

@@ -138,31 +138,6 @@ pub fn row_term(alloc: Global, name: &Term, pids: Vec<Pid>) -> Result<Term, Allo
     }
 }
 
-/// `{Name, Pid, Count}`: a process counts so often in a group.
-///
-/// Errors: `AllocError`, also of a count of 2^63 or more.
-pub fn entry_term(alloc: Global, name: &Term, pid: &Pid, count: u64) -> Result<Term, AllocError>
-    ensures term { IfOk result (λ term. term ≡ entry name.now pid.now count) }
-    ensures few { IfOk result (λ term. count < 2 ^ 63) }
-{
-    let Ok(number) = i64::try_from(count) else {
-        return Err(AllocError);
-    };
-    let pid = pid.copy()?;
-    match named(alloc, name, 3) {
-        Ok(parts) => {
-            let mut parts = parts;
-            parts.push_reserved(Term::Pid(pid));
-            parts.push_reserved(Term::Int(number));
-            Ok(Term::Tuple(Fields::from_vec(parts)))
-        }
-        Err(AllocError) => {
-            drop(pid);
-            Err(AllocError)
-        }
-    }
-}
-
 /// A name, with room for so many parts in all.
 fn named(alloc: Global, name: &Term, parts: usize) -> Result<Vec<Term>, AllocError>
     requires { 1 ≤ parts }

@@ -1,14 +1,13 @@
 //! What a host is told that mirrors the table of a node.
 
-ghost use Rattle.std.specs.Prelude.{◌≡◌, ◌<◌, ◌^◌, ◌∷◌, ℕ, Bool, [], Some, IfOk, IfSome, IsOk, OnOk, OnErr, List, map, take};
-ghost use Rattle.pg_term.specs.declared.pid.Pid.{Pid};
-ghost use Rattle.pg_step.specs.PgGroup.Table.{Table, changed, without};
+ghost use Rattle.std.specs.Prelude.{◌≡◌, ◌<◌, ◌^◌, ◌∷◌, ℕ, Bool, [], IfOk, IfSome, IsOk, OnOk, OnErr, List, map, take};
 ghost use Rattle.pg_step.specs.PgGroup.Value.{count_in};
+ghost use Rattle.pg_step.specs.PgGroup.declared.update.Update.TheVariants.{Create};
 ghost use Rattle.pg_term.specs.declared.term.Term.{Term, List as Listed};
-ghost use Rattle.pg_node_process.specs.Mirrors.{Adds, AreGroupsOf, IsLonger, OnlyThese, RowsOf, SaysTable, TellsOf, TellsUpdate, all_assigned, count_told, entry, has_joined, no_groups};
+ghost use Rattle.pg_node_process.specs.Mirrors.{Adds, AreGroupsOf, IsLonger, RowsOf, SaysOne, SaysRows, SaysTable, SaysUpdate, all_assigned, count_told, gone, no_groups};
 ghost use Rattle.pg_node_process.specs.Outputs.{Mirrored, Output, Says};
 
-use crate::assignments::{Batch, entry_term, gone_term, row_term};
+use crate::assignments::{Batch, gone_term, row_term};
 use crate::outlet::Outlet;
 use pg_index::GroupsByPlace;
 use pg_step::{GroupTable, Scope, Update};
@@ -34,7 +33,7 @@ pub fn tell_groups<T: GroupsByPlace>(
     finish(outlet, batch, len, added)
 }
 
-/// Tells of the groups that an exchange named.
+/// Tells of the groups that an exchange named, as they are now.
 ///
 /// Errors: `AllocError`, which says nothing.
 ///
@@ -45,8 +44,7 @@ pub fn tell_rows<T: GroupTable>(
     table: &T,
     groups: &[(Term, Items<Pid>)],
 ) -> Result<(), AllocError>
-    ensures ok { OnOk result ((before : Table) → OnlyThese (map (λ group. group.0) groups.now) before (T.contents table.now)
-        → (outputs : List Output) × SaysTable before (T.contents table.now) outlet.old.gathered.items outlet.new.gathered.items outputs) }
+    ensures ok { OnOk result ((outputs : List Output) × SaysRows (map (λ group. group.0) groups.now) (T.contents table.now) outlet.old.gathered.items outlet.new.gathered.items outputs) }
     ensures err { OnErr result (outlet.new.gathered.items ≡ outlet.old.gathered.items) }
 {
     let len = outlet.bytes().len();
@@ -67,35 +65,40 @@ pub fn tell_update<T: GroupTable>(
     update: &Update,
     has_ended: bool,
 ) -> Result<(), AllocError>
-    ensures ok { OnOk result ((before : Table) (ended : Pid → Bool) → T.contents table.now ≡ changed before update.now ended → has_joined update.now ended ≡ has_ended
-        → (outputs : List Output) × SaysTable before (T.contents table.now) outlet.old.gathered.items outlet.new.gathered.items outputs × TellsUpdate (Some update.now) outputs) }
+    ensures ok { OnOk result (SaysUpdate update.now has_ended (T.contents table.now) outlet.old.gathered.items outlet.new.gathered.items) }
     ensures err { OnErr result (outlet.new.gathered.items ≡ outlet.old.gathered.items) }
 {
-    match update_term(alloc, table, update, has_ended) {
-        Ok(Some(term)) => tell_one(outlet, alloc, term),
-        Ok(None) => Ok(()),
-        Err(AllocError) => Err(AllocError),
+    match update {
+        Update::Create(name) => tell_created(outlet, alloc, table, name),
+        Update::Delete(name) => tell_deleted(outlet, alloc, name),
+        Update::Join(name, pid) => {
+            if has_ended {
+                Ok(())
+            } else {
+                tell_count(outlet, table, name, pid)
+            }
+        }
+        Update::Leave(name, pid) => tell_count(outlet, table, name, pid),
     }
 }
 
-/// Tells that a process is in none of its groups any more.
+/// Tells of the groups in which a process was that has ended, as they are without it.
 ///
 /// Errors: `AllocError`, which says nothing.
 ///
-/// Cost: that of its groups.
-pub fn tell_end(
+/// Cost: that of these groups, with all their members.
+pub fn tell_end<T: GroupTable>(
     outlet: &mut Outlet,
     alloc: Global,
-    pid: &Pid,
+    table: &T,
     names: &[Term],
 ) -> Result<(), AllocError>
-    ensures ok { OnOk result ((before : Table) → AreGroupsOf before pid.now names.now
-        → (outputs : List Output) × SaysTable before (without before pid.now) outlet.old.gathered.items outlet.new.gathered.items outputs) }
+    ensures ok { OnOk result ((outputs : List Output) × SaysRows names.now (T.contents table.now) outlet.old.gathered.items outlet.new.gathered.items outputs) }
     ensures err { OnErr result (outlet.new.gathered.items ≡ outlet.old.gathered.items) }
 {
     let len = outlet.bytes().len();
     let mut batch = Batch::new(alloc);
-    let added = add_ends(outlet, &mut batch, alloc, pid, names);
+    let added = add_named(outlet, &mut batch, alloc, table, names);
     finish(outlet, batch, len, added)
 }
 
@@ -205,71 +208,69 @@ fn add_group<T: GroupTable>(
     batch.add(outlet, term, members)
 }
 
-/// Adds that a process is in none of these groups.
-fn add_ends(
+/// Adds each group of these names.
+fn add_named<T: GroupTable>(
     outlet: &mut Outlet,
     batch: &mut Batch,
     alloc: Global,
-    pid: &Pid,
+    table: &T,
     names: &[Term],
 ) -> Result<(), AllocError>
-    ensures ok { OnOk result (Adds (map (λ name. entry name pid.now 0) names.now) outlet.old.gathered.items outlet.new.gathered.items batch.old.terms.items batch.new.terms.items) }
+    ensures ok { OnOk result ((terms : List Term) × Adds terms outlet.old.gathered.items outlet.new.gathered.items batch.old.terms.items batch.new.terms.items
+        × RowsOf names.now (T.contents table.now) terms) }
     ensures err { OnErr result (IsLonger outlet.old.gathered.items outlet.new.gathered.items) }
 {
     for name in names {
-        let term = entry_term(alloc, name, pid, 0)?;
-        batch.add(outlet, term, 1)?;
+        add_group(outlet, batch, alloc, table, name)?;
     }
     Ok(())
 }
 
-/// The assignment that tells of an update that was applied, where there is something to tell.
-fn update_term<T: GroupTable>(
-    alloc: Global,
-    table: &T,
-    update: &Update,
-    has_ended: bool,
-) -> Result<Option<Term>, AllocError>
-    ensures { IfOk result (λ told. (before : Table) (ended : Pid → Bool) → T.contents table.now ≡ changed before update.now ended → has_joined update.now ended ≡ has_ended
-        → TellsOf update.now before (T.contents table.now) told) }
-{
-    match update {
-        Update::Create(name) => match table.size(name, Scope::All) {
-            None => Ok(None),
-            Some(size) => {
-                if size > 0 {
-                    Ok(None)
-                } else {
-                    Ok(Some(row_term(alloc, name, Vec::new(alloc))?))
-                }
-            }
-        },
-        Update::Delete(name) => Ok(Some(gone_term(alloc, name)?)),
-        Update::Join(name, pid) => {
-            if has_ended {
-                Ok(None)
-            } else {
-                count_term(alloc, table, name, pid)
-            }
-        }
-        Update::Leave(name, pid) => count_term(alloc, table, name, pid),
-    }
-}
-
-/// How often a process counts in a group, where that is there.
-fn count_term<T: GroupTable>(
+/// Tells that a group was created, if it has no member.
+fn tell_created<T: GroupTable>(
+    outlet: &mut Outlet,
     alloc: Global,
     table: &T,
     name: &Term,
-    pid: &Pid,
-) -> Result<Option<Term>, AllocError>
-    ensures told { IfOk result (λ told. told ≡ count_told (T.contents table.now name.now) name.now pid.now) }
-    ensures few { IfOk result (λ told. IfSome told (λ term. count_in (T.contents table.now name.now) pid.now < 2 ^ 63)) }
+) -> Result<(), AllocError>
+    ensures ok { OnOk result ((joined : Bool) → SaysUpdate (Create name.now) joined (T.contents table.now) outlet.old.gathered.items outlet.new.gathered.items) }
+    ensures err { OnErr result (outlet.new.gathered.items ≡ outlet.old.gathered.items) }
 {
-    if !table.has(name) {
-        return Ok(None);
+    let Some(size) = table.size(name, Scope::All) else {
+        return Ok(());
+    };
+    if size > 0 {
+        return Ok(());
     }
-    Ok(Some(entry_term(alloc, name, pid, table.count(name, pid))?))
+    let term = row_term(alloc, name, Vec::new(alloc))?;
+    tell_one(outlet, alloc, term)
+}
+
+/// Tells that a group is gone.
+fn tell_deleted(outlet: &mut Outlet, alloc: Global, name: &Term) -> Result<(), AllocError>
+    ensures ok { OnOk result (Says outlet.old.gathered.items outlet.new.gathered.items (Mirrored (Listed (gone name.now ∷ [])))) }
+    ensures err { OnErr result (outlet.new.gathered.items ≡ outlet.old.gathered.items) }
+{
+    let term = gone_term(alloc, name)?;
+    tell_one(outlet, alloc, term)
+}
+
+/// Tells how often a process counts in a group, where that is there.
+fn tell_count<T: GroupTable>(
+    outlet: &mut Outlet,
+    table: &T,
+    name: &Term,
+    pid: &Pid,
+) -> Result<(), AllocError>
+    ensures ok { OnOk result (SaysOne (count_told (T.contents table.now name.now) name.now pid.now) outlet.old.gathered.items outlet.new.gathered.items) }
+    ensures few { OnOk result (IfSome (count_told (T.contents table.now name.now) name.now pid.now) (λ term. count_in (T.contents table.now name.now) pid.now < 2 ^ 63)) }
+    ensures err { OnErr result (outlet.new.gathered.items ≡ outlet.old.gathered.items) }
+{
+    let count = table.count(name, pid);
+    if count == 0 && !table.has(name) {
+        return Ok(());
+    }
+    outlet.put_entry(name, pid, count)
 }
 
 /// Tells one assignment.

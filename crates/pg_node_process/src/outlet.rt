@@ -4,7 +4,8 @@ use bytes::BytesMut;
 use pg_frame::{FrameFault, frame_into};
 use pg_node_requests::{numbered, refused};
 use pg_step::encode_into;
-use pg_term::{Atom, Term, TermFault};
+use pg_term::{Atom, Pid, Term, TermFault};
+use pg_term_io::{MAX_LEN, int_len, item_len, pid_len, put_int, put_item, put_pid};
 use std::alloc::{AllocError, Global};
 
 /// The number of the format of what a process reads and writes.
@@ -24,6 +25,19 @@ const FORMED: u8 = 22;
 
 /// The first byte of a body that tells what the table has become.
 const MIRRORED: u8 = 23;
+
+/// What stands in a body before the name of the one assignment `{Name, Pid, Count}`: the first byte, the version of an external term, LIST_EXT of one, and
+/// SMALL_TUPLE_EXT of three.
+const BEFORE_ENTRY: [u8; 9] = [MIRRORED, 131, 108, 0, 0, 0, 1, 104, 3];
+
+/// What ends its list: NIL_EXT.
+const NIL: u8 = 106;
+
+/// How many bytes these are.
+const AROUND_ENTRY: usize = 10;
+
+/// How many levels the name of a group may have there.
+const NAME_DEPTH: usize = 62;
 
 /// Where a reply goes: the name of the node, the number of the port from 1, and that of the request.
 #[derive(Clone, Copy)]
@@ -46,12 +60,14 @@ pub struct Outlet {
 }
 
 impl Outlet {
-    ghost use Rattle.std.specs.Prelude.{◌≡◌, ◌≤◌, ◌<◌, ◌+◌, ◌∷◌, ◌++◌, [], IfOk, IfSome, IfNone, IsOk, OnOk, OnErr, length, take};
+    ghost use Rattle.std.specs.Prelude.{◌≡◌, ◌≤◌, ◌<◌, ◌+◌, ◌^◌, ◌∷◌, ◌++◌, [], IfOk, IfSome, IfNone, IsOk, OnOk, OnErr, length, take};
     ghost use Rattle.std.specs.Int.{w32, to_be_bytes};
     ghost use Rattle.pg_frame.specs.Frames.{frame};
     ghost use Rattle.pg_frame.specs.Limits.{max_body};
     ghost use Rattle.pg_step.specs.PgTermIo.Writing.{IsWritable, written};
     ghost use Rattle.pg_node_requests.specs.Replies.{numbered_term, refused_term};
+    ghost use Rattle.pg_term.specs.declared.term.Term.{List as Listed};
+    ghost use Rattle.pg_node_process.specs.Mirrors.{entry};
     ghost use Rattle.pg_node_process.specs.Outputs.{Bytes, Clock, Denied, Formed, IsUntellable, Mirrored, Said, Says, SaysReply, Version, said, untellable_number};
     ghost use Rattle.pg_node_process.specs.Rooms.{HasRoomFor, KeepsRoom, body_room};
 
@@ -178,6 +194,38 @@ impl Outlet {
             Ok(()) => {}
             Err(_) => return Err(AllocError),
         }
+        match frame_into(&mut self.gathered, self.body.as_slice()) {
+            Ok(()) => Ok(()),
+            Err(_) => Err(AllocError),
+        }
+    }
+
+    /// That a process counts so often in a group, as one assignment: `[{Name, Pid, Count}]` behind the first byte of a body, as `put_mirrored` has it.
+    ///
+    /// Errors: `AllocError`, which adds nothing: also of a count of 2^63 or more, and where no frame holds the term behind its first byte.
+    pub fn put_entry(&mut self, name: &Term, pid: &Pid, count: u64) -> Result<(), AllocError>
+        ensures ok { OnOk result (Says self.old.gathered.items self.new.gathered.items (Mirrored (Listed (entry name.now pid.now count ∷ [])))) }
+        ensures few { OnOk result (count < 2 ^ 63) }
+        ensures err { OnErr result (self.new.gathered.items ≡ self.old.gathered.items) }
+
+        // Only room can be missing, and of a term that a frame holds behind its first byte.
+        ensures succeeds { count < 2 ^ 63 → IsWritable (Listed (entry name.now pid.now count ∷ [])) → length (written (Listed (entry name.now pid.now count ∷ []))) + 1 ≤ max_body
+            → HasRoomFor self.old (length (written (Listed (entry name.now pid.now count ∷ []))) + 1) → IsOk result }
+    {
+        let (Ok(number), Ok(name_len)) = (i64::try_from(count), item_len(name, NAME_DEPTH)) else {
+            return Err(AllocError);
+        };
+        let len = name_len.saturating_add(pid_len(pid) + int_len(number) + AROUND_ENTRY);
+        if len > MAX_LEN {
+            return Err(AllocError);
+        }
+        self.body.clear();
+        self.body.reserve(len)?;
+        self.body.extend_reserved(&BEFORE_ENTRY);
+        put_item(&mut self.body, name);
+        put_pid(&mut self.body, pid);
+        put_int(&mut self.body, number);
+        self.body.extend_reserved(&[NIL]);
         match frame_into(&mut self.gathered, self.body.as_slice()) {
             Ok(()) => Ok(()),
             Err(_) => Err(AllocError),

@@ -1,9 +1,8 @@
-use Rattle.std.proofs.Common.{◌∙◌, List, map}
+use Rattle.std.proofs.Common.{List, map}
 use Rattle.pg_term.specs.declared.term.Term.{Term}
-use Rattle.pg_step.specs.PgGroup.Table.{Table}
-use Rattle.pg_node_process.specs.Mirrors.{OnlyThese, RowsOf, SaysTable}
+use Rattle.pg_node_process.specs.Mirrors.{RowsOf, SaysRows}
 use Rattle.pg_node_process.specs.Outputs.{Output}
-use Rattle.pg_node_process.proofs.Mirroring.{finished_all, rows_all, says_table}
+use Rattle.pg_node_process.proofs.Mirroring.{finished_all, says_rows}
 use Rattle.pg_node_process.proofs.mirror.tell_rows.Goals as goal
 
 pub returns-clause-ok : goal.returns-clause-ok
@@ -13,5 +12,5 @@ returns-clause-ok g c =
     let said0 = c.args.outlet.now.gathered.items in
     let said2 = c.finish.new.outlet.gathered.items in
     finished_all c.add_rows-added.result c.finish.result said0 c.add_rows-added.new.outlet.gathered.items said2 c.new-batch.result.terms.items c.add_rows-added.new.batch.terms.items (λ (terms : List Term). RowsOf names after terms)
-    ((before : Table) → OnlyThese names before after → (outputs : List Output) × SaysTable before after said0 said2 outputs) c.new-batch.ensures c.add_rows-added.ensures.ok c.finish.ensures.ok c.finish.ensures.was
-    (λ terms adds rows before only. says_table terms before after said0 said2 adds (rows before ∙ rows_all names before after only))
+    ((outputs : List Output) × SaysRows names after said0 said2 outputs) c.new-batch.ensures c.add_rows-added.ensures.ok c.finish.ensures.ok c.finish.ensures.was
+    (λ terms adds rows. says_rows terms names after said0 said2 adds rows)
