@@ -15,15 +15,16 @@ use Rattle.pg_node.specs.PgGroup.Table.{GroupList, Table, all_merged, exchanged,
 use Rattle.pg_node.specs.PgGroup.Value.{Value, count_in, less}
 use Rattle.pg_node.specs.PgGroup.declared.update.Update.{Update}
 use Rattle.pg_node.specs.PgMessageTypes.declared.message.Message.{Message}
-use Rattle.pg_node.specs.PgMessageTypes.declared.message.Message.TheVariants.{Exchange}
+use Rattle.pg_node.specs.PgMessageTypes.declared.message.Message.TheVariants.{Down, Exchange}
 use Rattle.pg_node.specs.PgStep.Nodes.{Node}
 use Rattle.pg_node.specs.PgStep.State.{State}
 use Rattle.pg_node.specs.PgStep.declared.command.Command.TheVariants.{Finish}
 use Rattle.pg_node.specs.PgStep.declared.command.OpId.{OpId}
-use Rattle.pg_node_process.specs.Mirrors.{AreGroupsOf, OnlyThese, SaysTable}
+use Rattle.pg_node_process.specs.Mirrors.{AreGroupsOf, OnlyThese, SaysRows, SaysTable, SaysUpdate, TellsRows, TellsUpdate, has_joined}
 use Rattle.pg_node_process.specs.Outputs.{Output}
-use Rattle.pg_process.specs.Mirrors.{IfTaken, TellsNoMoreOf}
-use Rattle.pg_process.specs.Tables.{table_issued, table_taken}
+use Rattle.pg_node_process.proofs.Mirroring.{left_only, rows_table}
+use Rattle.pg_process.specs.Mirrors.{AreLeft, IfTaken, TellsMessage}
+use Rattle.pg_process.specs.Tables.{by_update, table_issued, table_taken}
 
 -- nothing is said of what stays as it is
 pub nothing_told : (before after : Table) (bytes : List ℕ) → after ≡ before → SaysTable before after bytes bytes []
@@ -43,23 +44,63 @@ only_named (group ∷ groups) table ended name none =
     only_named groups (merged table group.0 group.1 ended) ended name h.1
     ∙ upd_other same_term table group.0 (exchanged (table group.0) group.1 ended) name (term_laws.laws-law.symm group.0 name ∙ h.0)
 
--- what is told of an exchange, from the table before to this one
+-- What is told of a message, from the table before to this one.
+abbrev pub MessageTold : Message → Table → List ℕ → List ℕ → State → Option Update → Type 0
+MessageTold message now said0 said1 before applied = (outputs : List Output) × SaysTable before.table now said0 said1 outputs × TellsMessage message applied now outputs
+
+-- the groups of an exchange are told as they are
 pub exchange_told : (message : Message) (node : Node) (groups : GroupList) (now : Table) (said0 said1 : List ℕ) → message ≡ Exchange node groups
-    → ((before : Table) → OnlyThese (map (λ group. group.0) groups) before now → (outputs : List Output) × SaysTable before now said0 said1 outputs)
-    → (before : State) (applied : Option Update) → now ≡ table_taken message applied before → (outputs : List Output) × SaysTable before.table now said0 said1 outputs × TellsNoMoreOf message applied outputs
+    → (outputs : List Output) × SaysRows (map (λ group. group.0) groups) now said0 said1 outputs
+    → (before : State) (applied : Option Update) → now ≡ table_taken message applied before → MessageTold message now said0 said1 before applied
 exchange_told message node groups now said0 said1 is told before applied made =
     let merges : now ≡ all_merged before.table groups before.ended = made ∙ ap (λ (m : Message). table_taken m applied before) is in
-    let h = told before.table (subst (λ (t : Table). OnlyThese (map (λ group. group.0) groups) before.table t) (sym merges) (only_named groups before.table before.ended)) in
-    (h.0, h.1, subst (λ (m : Message). TellsNoMoreOf m applied h.0) (sym is) tt)
+    let only = subst (λ (t : Table). OnlyThese (map (λ group. group.0) groups) before.table t) (sym merges) (only_named groups before.table before.ended) in (
+      told.0,
+      rows_table (map (λ group. group.0) groups) before.table now said0 said1 told.0 told.1 only,
+      subst (λ (m : Message). TellsMessage m applied now told.0) (sym is) (map (λ group. group.0) groups, told.1.rows),
+    )
 
 pub exchange_all : {E : Type 0} (result : Result (Unit {0}) E) (message : Message) (node : Node) (groups : GroupList) (began : Option (OpId × Update)) (names : List Term) (after : State) (table : Table)
     (said0 said1 : List ℕ) → table ≡ after.table → message ≡ Exchange node groups
-    → OnOk result ((before : Table) → OnlyThese (map (λ group. group.0) groups) before table → (outputs : List Output) × SaysTable before table said0 said1 outputs)
-    → OnOk result (IfTaken message began names after (λ before applied. (outputs : List Output) × SaysTable before.table after.table said0 said1 outputs × TellsNoMoreOf message applied outputs))
+    → OnOk result ((outputs : List Output) × SaysRows (map (λ group. group.0) groups) table said0 said1 outputs)
+    → OnOk result (IfTaken message began names after (MessageTold message after.table said0 said1))
 exchange_all (Ok done) message node groups began names after table said0 said1 same is told = λ before applied applies left kept made.
     exchange_told message node groups after.table said0 said1 is
-    (subst (λ (t : Table). (before : Table) → OnlyThese (map (λ group. group.0) groups) before t → (outputs : List Output) × SaysTable before t said0 said1 outputs) same told) before applied made
+    (subst (λ (t : Table). (outputs : List Output) × SaysRows (map (λ group. group.0) groups) t said0 said1 outputs) same told) before applied made
 exchange_all (Err fault) message node groups began names after table said0 said1 same is told = tt
+
+-- the groups of a process that has ended are told as they are
+pub down_told : (message : Message) (pid : Pid) (names : List Term) (now : Table) (said0 said1 : List ℕ) → message ≡ Down pid
+    → (outputs : List Output) × SaysRows names now said0 said1 outputs
+    → (before : State) (applied : Option Update) → AreLeft message before.table names → now ≡ table_taken message applied before → MessageTold message now said0 said1 before applied
+down_told message pid names now said0 said1 is told before applied left made =
+    let are : AreGroupsOf before.table pid names = subst (λ (m : Message). AreLeft m before.table names) is left in
+    let out : now ≡ without before.table pid = made ∙ ap (λ (m : Message). table_taken m applied before) is in (
+      told.0,
+      rows_table names before.table now said0 said1 told.0 told.1 (left_only pid names before.table now are out),
+      subst (λ (m : Message). TellsMessage m applied now told.0) (sym is) (names, told.1.rows),
+    )
+
+pub down_all : {E : Type 0} (result : Result (Unit {0}) E) (message : Message) (pid : Pid) (began : Option (OpId × Update)) (names : List Term) (after : State) (table : Table)
+    (said0 said1 : List ℕ) → table ≡ after.table → message ≡ Down pid
+    → OnOk result ((outputs : List Output) × SaysRows names table said0 said1 outputs)
+    → OnOk result (IfTaken message began names after (MessageTold message after.table said0 said1))
+down_all (Ok done) message pid began names after table said0 said1 same is told = λ before applied applies left kept made.
+    down_told message pid names after.table said0 said1 is
+    (subst (λ (t : Table). (outputs : List Output) × SaysRows names t said0 said1 outputs) same told) before applied left made
+down_all (Err fault) message pid began names after table said0 said1 same is told = tt
+
+-- ---- an update
+
+-- what is told of an update that was applied, where one was
+abbrev pub AppliedTold : Option Update → Table → (Pid → Bool) → List ℕ → List ℕ → Type 0
+AppliedTold update now ended said0 said1 = (before : Table) → now ≡ by_update update before ended → (outputs : List Output) × SaysTable before now said0 said1 outputs × TellsUpdate update outputs
+
+pub applied_all : {E : Type 0} (result : Result (Unit {0}) E) (some : Option (Bor Update)) (one : Bor Update) (joined : Bool) (table now : Table) (ended : Pid → Bool) (said0 said1 : List ℕ)
+    → table ≡ now → some ≡ Some one → joined ≡ has_joined one.now ended → OnOk result (SaysUpdate one.now joined table said0 said1) → OnOk result (AppliedTold (option_copied some) now ended said0 said1)
+applied_all (Ok done) some one joined table now ended said0 said1 same is told says = subst (λ (o : Option (Bor Update)). AppliedTold (option_copied o) now ended said0 said1) (sym is)
+    (λ before makes. subst (λ (t : Table). SaysUpdate one.now joined t said0 said1) same says before ended makes (sym told))
+applied_all (Err fault) some one joined table now ended said0 said1 same is told says = tt
 
 -- ---- the groups that a process leaves
 
@@ -76,36 +117,28 @@ left_by (Err fault) ends one table now same is are = tt
 
 -- ---- an end by a command
 
-zero_of : (n : ℕ) → false ≡ nat_lt 0 n → n ≡ 0
-zero_of n none = grind (arith, none)
-
--- a process that counts in no group is taken out of none
-less_none : (v : Value) (pid : Pid) → false ≡ nat_lt 0 (count_in v pid) → less v (same_pid pid) ≡ v
-less_none None pid none = refl
-less_none (Some counts) pid none = ap Some (fun_ext (λ q. go q (same_pid pid q) refl))
-  where
-    go : (q : Pid) (b : Bool) → same_pid pid q ≡ b → cond b 0 (counts q) ≡ counts q
-    go q true is = sym (zero_of (counts pid) none) ∙ ap counts (pid_is pid q is)
-    go q false is = refl
-
 without_none : (table : Table) (pid : Pid) → AreGroupsOf table pid [] → without table pid ≡ table
-without_none table pid none = fun_ext (λ name. less_none (table name) pid (none name))
+without_none table pid none = fun_ext (λ name. left_only pid [] table (without table pid) none refl name refl)
 
 -- what is told of the end of a process by a command, from the table before to this one
 abbrev pub FinishTold : Pid → List Term → Table → (Pid → Bool) → List ℕ → List ℕ → Type 0
 FinishTold pid names now ended said0 said1 =
     (before : State) → (before.ended pid ≡ false → AreGroupsOf before.table pid names) → (before.ended pid ≡ true → names ≡ []) → now ≡ table_issued (Finish pid) None before ended
-    → (outputs : List Output) × SaysTable before.table now said0 said1 outputs
+    → (outputs : List Output) × SaysTable before.table now said0 said1 outputs × TellsRows now outputs
+
+-- no group is told
+pub no_rows : (now : Table) → TellsRows now []
+no_rows now = ([], λ before. refl)
 
 module _ (pid : Pid) (names : List Term) (now : Table) (ended : Pid → Bool) where
   -- it did not end
   pub living_told : (bytes : List ℕ) → ended pid ≡ false → FinishTold pid names now ended bytes bytes
   living_told bytes living before groups none made =
-      ([], nothing_told before.table now bytes (made ∙ ap (λ b. cond (b && not (before.ended pid)) (without before.table pid) before.table) living))
+      ([], nothing_told before.table now bytes (made ∙ ap (λ b. cond (b && not (before.ended pid)) (without before.table pid) before.table) living), no_rows now)
 
   -- it was in no group
   pub alone_told : (bytes : List ℕ) → names ≡ [] → FinishTold pid names now ended bytes bytes
-  alone_told bytes alone before groups none made = ([], nothing_told before.table now bytes (made ∙ go (ended pid) (before.ended pid) refl))
+  alone_told bytes alone before groups none made = ([], nothing_told before.table now bytes (made ∙ go (ended pid) (before.ended pid) refl), no_rows now)
     where
       go : (is was : Bool) → before.ended pid ≡ was → cond (is && not was) (without before.table pid) before.table ≡ before.table
       go false was e = refl
@@ -114,20 +147,18 @@ module _ (pid : Pid) (names : List Term) (now : Table) (ended : Pid → Bool) wh
 
   -- it ended, and was in some
   pub ended_told : (said0 said1 : List ℕ) → ended pid ≡ true → (names ≡ [] → ⊥)
-      → ((before : Table) → AreGroupsOf before pid names → (outputs : List Output) × SaysTable before (without before pid) said0 said1 outputs)
+      → (outputs : List Output) × SaysRows names now said0 said1 outputs
       → FinishTold pid names now ended said0 said1
   ended_told said0 said1 is some told before groups none made = go (before.ended pid) refl
     where
-      go : (was : Bool) → before.ended pid ≡ was → (outputs : List Output) × SaysTable before.table now said0 said1 outputs
+      go : (was : Bool) → before.ended pid ≡ was → (outputs : List Output) × SaysTable before.table now said0 said1 outputs × TellsRows now outputs
       go true e = absurd (some (none e))
       go false e =
-          let h = told before.table (groups e) in (
-            h.0,
-            subst (λ (t : Table). SaysTable before.table t said0 said1 h.0) (sym (made ∙ (λ i. cond (is i && not (e i)) (without before.table pid) before.table))) h.1,
-          )
+          let out : now ≡ without before.table pid = made ∙ (λ i. cond (is i && not (e i)) (without before.table pid) before.table) in
+          (told.0, rows_table names before.table now said0 said1 told.0 told.1 (left_only pid names before.table now (groups e) out), (names, told.1.rows))
 
   pub ended_all : {E : Type 0} (said0 said1 : List ℕ) (result : Result (Unit {0}) E) → ended pid ≡ true → (names ≡ [] → ⊥)
-      → OnOk result ((before : Table) → AreGroupsOf before pid names → (outputs : List Output) × SaysTable before (without before pid) said0 said1 outputs)
+      → OnOk result ((outputs : List Output) × SaysRows names now said0 said1 outputs)
       → OnOk result (FinishTold pid names now ended said0 said1)
   ended_all said0 said1 (Ok done) is some told = ended_told said0 said1 is some told
   ended_all said0 said1 (Err fault) is some told = tt

@@ -46,6 +46,7 @@ use Rattle.pg_node_process.specs.declared.retries.Courtesy.{Courtesy}
 use Rattle.pg_term.specs.declared.term.Term.{Term}
 use Rattle.pg_term.specs.declared.pid.Pid.{Pid}
 use Rattle.pg_process.specs.Tables.{applied_taken}
+use Rattle.pg_process.proofs.Mirrored.{no_rows}
 use Rattle.pg_process.proofs.Tables.{applies_so, down_of, ended_stays, table_moves}
 use Rattle.pg_process.specs.Chains.{Makes, Rests, Silent}
 use Rattle.pg_process.specs.declared.fault.ProcessFault.{ProcessFault}
@@ -53,7 +54,7 @@ use Rattle.pg_process.specs.declared.fault.ProcessFault.TheVariants as causes
 use Rattle.pg_node_process.specs.Logs.{entry_bytes}
 use Rattle.pg_process.specs.Deeds.{AsideSame, Broke, Deed, Does, Took, is_lost, logged, SaysTaken, Tells, fault_term, formed_said, told_formed, told_next}
 use Rattle.pg_process.specs.Locks.{is_formed}
-use Rattle.pg_process.specs.Mirrors.{AreLeft, IfTaken, KeepsEnded, TellsNoMore, TellsNoMoreOf, ended_in}
+use Rattle.pg_process.specs.Mirrors.{AreLeft, IfTaken, KeepsEnded, TellsInput, TellsMessage, ended_in}
 use Rattle.pg_node.specs.PgStep.declared.command.OpId.{OpId}
 use Rattle.std.proofs.lemmas.List.Concat.{flat_map-append}
 use Rattle.std.proofs.lemmas.List.{take-append-le, take_all}
@@ -83,12 +84,12 @@ update_none : (applied : Option Update) → TellsUpdate applied []
 update_none None = refl
 update_none (Some update) = inl refl
 
-packet_none : (message : Message) (applied : Option Update) → TellsNoMoreOf message applied []
-packet_none (Call reference request) applied = update_none applied
-packet_none (Reply reference said) applied = update_none applied
-packet_none (DelLock name reference) applied = update_none applied
-packet_none (Exchange node groups) applied = tt
-packet_none (Down pid) applied = tt
+packet_none : (message : Message) (applied : Option Update) (after : Table) → TellsMessage message applied after []
+packet_none (Call reference request) applied after = update_none applied
+packet_none (Reply reference said) applied after = update_none applied
+packet_none (DelLock name reference) applied after = update_none applied
+packet_none (Exchange node groups) applied after = no_rows after
+packet_none (Down pid) applied after = no_rows after
 
 pub untold_said : (set : Setting) (peer : ℕ) (act : Act) (a b : Situation) (formed : Bool) → a.told.mirrored ≡ false → formed ≡ is_formed set b → b.told ≡ told_formed formed a.told
     → TakesPacket set a peer act b → SaysTaken set act a b (formed_said formed a.told.formed)
@@ -96,7 +97,7 @@ untold_said set peer act a b formed untold is told taken = record {
   table = [];
   tells = record {
     table = subst (λ (m : Bool). TellsTable m (table_of a) (table_of b) []) (sym untold) refl;
-    brief = subst (λ (g : Given). TellsNoMore g act.turn.reported.applied []) (sym taken.given) (packet_none (stamped_of taken.packet).packet act.turn.reported.applied);
+    form = subst (λ (g : Given). TellsInput g act.turn.reported.applied (table_of b) []) (sym taken.given) (packet_none (stamped_of taken.packet).packet act.turn.reported.applied (table_of b));
   };
   says = ap (λ f. formed_said f a.told.formed) is;
   told = told ∙ ap (λ f. told_formed f a.told) is;
@@ -108,9 +109,9 @@ untold_said set peer act a b formed untold is told taken = record {
 pub mirrored_said : (set : Setting) (peer : ℕ) (act : Act) (a b : Situation) (formed : Bool) (packet : Packet) (turn : TimedTurn) (table : List Output) → a.told.mirrored ≡ true → formed ≡ is_formed set b
     → b.told ≡ told_formed formed a.told → next_packet (a.links peer) ≡ Ok (Some packet)
     → step_take (whole_in set.names) (name_at set.names (peer + 1)) (stamped_of packet) a.node.state ≡ Ok turn
-    → TellsTable true (table_of a) (table_of b) table → TellsNoMore (TookPacket peer (stamped_of packet)) turn.reported.applied table
+    → TellsTable true (table_of a) (table_of b) table → TellsInput (TookPacket peer (stamped_of packet)) turn.reported.applied (table_of b) table
     → TakesPacket set a peer act b → SaysTaken set act a b (table ++ formed_said formed a.told.formed)
-mirrored_said set peer act a b formed packet turn table mirrored is told next made tells brief taken =
+mirrored_said set peer act a b formed packet turn table mirrored is told next made tells form taken =
     let same : taken.packet ≡ packet = one_packet taken.packet packet (sym taken.next ∙ next) in
     let input : act.input ≡ TookPacket peer (stamped_of packet) = taken.given ∙ ap (λ (x : Packet). TookPacket peer (stamped_of x)) same in
     let leads = subst (λ (g : Given). act_step set.names set.ports a.node.state g ≡ Ok act.turn) input taken.takes.leads.made in
@@ -118,8 +119,8 @@ mirrored_said set peer act a b formed packet turn table mirrored is told next ma
       table = table;
       tells = record {
         table = subst (λ (m : Bool). TellsTable m (table_of a) (table_of b) table) (sym mirrored) tells;
-        brief = subst (λ (g : Given). TellsNoMore g act.turn.reported.applied table) (sym input)
-            (subst (λ (t : TimedTurn). TellsNoMore (TookPacket peer (stamped_of packet)) t.reported.applied table) turns brief);
+        form = subst (λ (g : Given). TellsInput g act.turn.reported.applied (table_of b) table) (sym input)
+            (subst (λ (t : TimedTurn). TellsInput (TookPacket peer (stamped_of packet)) t.reported.applied (table_of b) table) turns form);
       };
       says = ap (λ f. table ++ formed_said f a.told.formed) is;
       told = told ∙ ap (λ f. told_formed f a.told) is;
@@ -135,7 +136,7 @@ mirrored_said set peer act a b formed packet turn table mirrored is told next ma
 
 -- what is told of a packet that led from one table to another
 abbrev pub TellsPacket : Message → List ℕ → List ℕ → Table → State → Option Update → Type 0
-TellsPacket message said0 said1 now before applied = (outputs : List Output) × SaysTable before.table now said0 said1 outputs × TellsNoMoreOf message applied outputs
+TellsPacket message said0 said1 now before applied = (outputs : List Output) × SaysTable before.table now said0 said1 outputs × TellsMessage message applied now outputs
 
 take_front : (xs more : List ℕ) → take (length xs) (xs ++ more) ≡ xs
 take_front xs more = take-append-le (length xs) xs more (omega arith) ∙ take_all (length xs) xs (omega arith)
@@ -153,7 +154,7 @@ module _ (a : Process) (packet : Packet) (began : Option (OpId × Update)) (name
       let formed = formed_said (is_formed (setting_of a) (situation_of a)) a.told.formed in record {
         table = h.0;
         tells = h.1.tells;
-        brief = h.2;
+        form = h.2;
         framed = h.1.framed;
         gathered = gathered
             ∙ (ap (λ w. w ++ flat_map bytes_said formed) h.1.gathered
@@ -300,7 +301,8 @@ module _ (a mid told b : Process) (peer : ℕ) (packet : Packet) (done : FramedD
       (read_takes set.names p (links_of a.node peer) s (answers_of (held_by a.node)) (whole_in set.names) packet live next (state_of (held_by mid.node)) (answers_of (held_by mid.node)) done came)
       fits small sent (ap (λ n. state_of n) held) (ap (λ n. answers_of n) held) wires (ap (λ n. names_of n) held ∙ names) (ap (λ n. ports_of n) held ∙ ports) said
       (λ act taken. mirrored_said set peer act (situation_of a) (situation_of b) formed packet happened.turn t.table mirrored formed_now told_now next happened.made
-      (subst (λ (now : Table). TellsTable true (table_of (situation_of a)) now t.table) (ap (λ n. (kept_by n).table) (sym held)) t.tells) t.brief taken)
+      (subst (λ (now : Table). TellsTable true (table_of (situation_of a)) now t.table) (ap (λ n. (kept_by n).table) (sym held)) t.tells)
+      (subst (λ (now : Table). TellsInput (TookPacket peer (stamped_of packet)) happened.turn.reported.applied now t.table) (ap (λ n. (kept_by n).table) (sym held)) t.form) taken)
       (All-append IsFramed t.table (formed_said formed a.told.formed) t.framed (formed_framed formed a.told.formed))
       (said_last ∙ t.gathered ∙ ap (λ w. w ++ flat_map bytes_said (t.table ++ formed_said formed mid.told.formed)) same_said
       ∙ ap (λ (o : Told). a.outlet.gathered.items ++ flat_map bytes_said (t.table ++ formed_said formed o.formed)) same_told)

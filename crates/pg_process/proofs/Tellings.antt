@@ -16,7 +16,7 @@ use Rattle.pg_node_process.specs.declared.desk.Numbered.{Numbered}
 use Rattle.pg_node_process.specs.Mirrors.{TellsTable}
 use Rattle.pg_node_run.specs.Acts.{Act, Did, Given, act_step}
 use Rattle.pg_process.specs.Deeds.{joins_ended}
-use Rattle.pg_process.specs.Mirrors.{KeepsEndedBy, TellsAct, TellsNoMore}
+use Rattle.pg_process.specs.Mirrors.{KeepsEndedBy, TellsAct, TellsInput}
 use Rattle.pg_process.specs.Tables.{began_update, by_update, table_issued}
 use Rattle.pg_process.specs.Takings.{TellsMade}
 use Rattle.pg_process.proofs.Tables.{applies_what_began, ended_stays, table_moves}
@@ -88,5 +88,6 @@ pub told_act : (mirrored : Bool) (act : Act) (input : Given) (applied : Option U
     → TellsAct mirrored act before after2 made.outputs
 told_act mirrored act input applied before after after2 said0 said1 made given applies is = record {
   table = subst (λ (t : Table). TellsTable mirrored before t made.outputs) is made.tells;
-  brief = subst (λ (x : Given). TellsNoMore x act.turn.reported.applied made.outputs) (sym given) (subst (λ (u : Option Update). TellsNoMore input u made.outputs) (sym applies) made.brief);
+  form = subst (λ (x : Given). TellsInput x act.turn.reported.applied after2 made.outputs) (sym given)
+      (subst (λ (u : Option Update). TellsInput input u after2 made.outputs) (sym applies) (subst (λ (t : Table). TellsInput input applied t made.outputs) is made.form));
 }

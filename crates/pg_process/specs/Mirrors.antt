@@ -11,21 +11,26 @@ use Rattle.pg_node.specs.PgStep.declared.command.Command.{Command}
 use Rattle.pg_node.specs.PgStep.declared.command.OpId.{OpId}
 use Rattle.pg_node.specs.PgStep.Step.{Issue}
 use Rattle.pg_node.specs.PgStep.declared.command.Command.TheVariants.{Finish}
-use Rattle.pg_node_process.specs.Mirrors.{AreGroupsOf, TellsTable, TellsUpdate}
+use Rattle.pg_node_process.specs.Mirrors.{AreGroupsOf, TellsRows, TellsTable, TellsUpdate}
 use Rattle.pg_node_process.specs.Outputs.{Output}
 use Rattle.pg_node_run.specs.Acts.{Act, Did, Given, Took}
 use Rattle.pg_process.specs.Tables.{applied_taken, table_taken}
 
--- An exchange and the end of a process may be told by many assignments, and no other act is.
-abbrev pub TellsNoMoreOf : Message → Option Update → List Output → Type 0
-TellsNoMoreOf (Exchange node groups) applied said = ⊤
-TellsNoMoreOf (Down pid) applied said = ⊤
-TellsNoMoreOf message applied said = TellsUpdate applied said
+-- An exchange and the end of a process are told by whole groups, as the table behind them has them. Any other act is told by one assignment,
+-- or by none.
+abbrev pub TellsMessage : Message → Option Update → Table → List Output → Type 0
+TellsMessage (Exchange node groups) applied after said = TellsRows after said
+TellsMessage (Down pid) applied after said = TellsRows after said
+TellsMessage message applied after said = TellsUpdate applied said
 
-abbrev pub TellsNoMore : Given → Option Update → List Output → Type 0
-TellsNoMore (Took peer x) applied said = TellsNoMoreOf x.packet applied said
-TellsNoMore (Did (Issue port (Finish pid))) applied said = ⊤
-TellsNoMore given applied said = TellsUpdate applied said
+abbrev pub TellsCommand : Command → Option Update → Table → List Output → Type 0
+TellsCommand (Finish pid) applied after said = TellsRows after said
+TellsCommand command applied after said = TellsUpdate applied said
+
+abbrev pub TellsInput : Given → Option Update → Table → List Output → Type 0
+TellsInput (Took peer x) applied after said = TellsMessage x.packet applied after said
+TellsInput (Did (Issue port command)) applied after said = TellsCommand command applied after said
+TellsInput given applied after said = TellsUpdate applied said
 
 -- where a message tells of an end, these are the groups of the process
 abbrev pub AreLeft : Message → Table → List Term → Type 0
@@ -64,4 +69,4 @@ living ended (Some pid) = cond (ended pid) None (Some pid)
 -- An act is told to a host that mirrors the table: from the one table to the other.
 pub record TellsAct (mirrored : Bool) (act : Act) (before after : Table) (said : List Output) : Type 0 where
   pub table : TellsTable mirrored before after said
-  pub brief : TellsNoMore act.input act.turn.reported.applied said
+  pub form : TellsInput act.input act.turn.reported.applied after said

@@ -21,7 +21,7 @@ use Rattle.pg_process.specs.declared.process.Process.{Process}
 use Rattle.pg_process.specs.Chains.{Makes, Rests, Silent}
 use Rattle.pg_process.specs.Deeds.{Broke, Took, formed_said, told_formed, told_next}
 use Rattle.pg_process.specs.Locks.{is_formed}
-use Rattle.pg_process.specs.Mirrors.{TellsNoMore}
+use Rattle.pg_process.specs.Mirrors.{TellsInput}
 use Rattle.pg_process.specs.Situations.{setting_of, situation_of, table_of}
 
 -- a fault tells that nothing of a peer is there to be taken
@@ -54,7 +54,7 @@ TakesOne peer false a b = Rests a b × HasNone peer a
 pub record TellsMade (mirrored : Bool) (input : Given) (applied : Option Update) (before after : Table) (said0 said1 : List ℕ) : Type 0 where
   pub outputs : List Output
   pub tells : TellsTable mirrored before after outputs
-  pub brief : TellsNoMore input applied outputs
+  pub form : TellsInput input applied after outputs
   pub framed : AllByRecursion IsFramed outputs
   pub gathered : said1 ≡ said0 ++ flat_map bytes_said outputs
 
@@ -62,7 +62,7 @@ pub record TellsMade (mirrored : Bool) (input : Given) (applied : Option Update)
 pub record TellsTaken (input : Given) (applied : Option Update) (before : Table) (a b : Process) : Type 0 where
   pub table : List Output
   pub tells : TellsTable true before (table_of (situation_of a)) table
-  pub brief : TellsNoMore input applied table
+  pub form : TellsInput input applied (table_of (situation_of a)) table
   pub framed : AllByRecursion IsFramed table
   pub gathered : b.outlet.gathered.items ≡ a.outlet.gathered.items ++ flat_map bytes_said (table ++ formed_said (is_formed (setting_of a) (situation_of a)) a.told.formed)
   pub told : b.told ≡ told_formed (is_formed (setting_of a) (situation_of a)) a.told

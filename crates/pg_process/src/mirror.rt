@@ -5,10 +5,10 @@ ghost use Rattle.pg_term.specs.declared.pid.Pid.{Pid};
 ghost use Rattle.pg_node.specs.PgGroup.Table.{Table};
 ghost use Rattle.pg_node.specs.PgNodeState.States.{kept_by};
 ghost use Rattle.pg_node.specs.PgStep.State.{State};
-ghost use Rattle.pg_node_process.specs.Mirrors.{AreGroupsOf, SaysTable, TellsUpdate, has_joined as has_joined_in};
+ghost use Rattle.pg_node_process.specs.Mirrors.{AreGroupsOf, SaysTable, TellsRows, TellsUpdate, has_joined as has_joined_in};
 ghost use Rattle.pg_node_process.specs.Outputs.{Output};
 ghost use Rattle.pg_node.specs.PgStep.declared.command.Command.TheVariants.{Finish};
-ghost use Rattle.pg_process.specs.Mirrors.{IfTaken, TellsNoMoreOf, ended_in, finished_in, living};
+ghost use Rattle.pg_process.specs.Mirrors.{IfTaken, TellsMessage, ended_in, finished_in, living};
 ghost use Rattle.pg_process.specs.Tables.{by_update, began_update, table_issued};
 
 use crate::fault::ProcessFault;
@@ -89,13 +89,13 @@ pub(crate) fn tell_finished(
 ) -> Result<(), AllocError>
     ensures ok { OnOk result ((before : State) → (before.ended pid.now ≡ false → AreGroupsOf before.table pid.now names.now) → (before.ended pid.now ≡ true → names.now ≡ [])
         → (kept_by state.now).table ≡ table_issued (Finish pid.now) None before (kept_by state.now).ended
-        → (outputs : List Output) × SaysTable before.table (kept_by state.now).table outlet.old.gathered.items outlet.new.gathered.items outputs) }
+        → (outputs : List Output) × SaysTable before.table (kept_by state.now).table outlet.old.gathered.items outlet.new.gathered.items outputs × TellsRows (kept_by state.now).table outputs) }
     ensures err { OnErr result (outlet.new.gathered.items ≡ outlet.old.gathered.items) }
 {
     if names.is_empty() || !state.ended(pid) {
         return Ok(());
     }
-    tell_end(outlet, alloc, pid, names)
+    tell_end(outlet, alloc, state.table(), names)
 }
 
 /// Tells what a packet made of the table. `names`: the groups that its process was a member of, where it tells of an end.
@@ -108,7 +108,7 @@ pub(crate) fn tell_packet(
     done: &Done<Framed>,
 ) -> Result<(), AllocError>
     ensures ok { OnOk result (IfTaken packet.now.message done.now.began names.now (kept_by state.now) (λ before applied.
-        (outputs : List Output) × SaysTable before.table (kept_by state.now).table outlet.old.gathered.items outlet.new.gathered.items outputs × TellsNoMoreOf packet.now.message applied outputs)) }
+        (outputs : List Output) × SaysTable before.table (kept_by state.now).table outlet.old.gathered.items outlet.new.gathered.items outputs × TellsMessage packet.now.message applied (kept_by state.now).table outputs)) }
     ensures err { OnErr result (outlet.new.gathered.items ≡ outlet.old.gathered.items) }
 {
     match &packet.message {
@@ -119,7 +119,7 @@ pub(crate) fn tell_packet(
             Some(update),
         ),
         Message::Exchange(_, groups) => tell_rows(outlet, alloc, state.table(), groups.as_slice()),
-        Message::Down(pid) => tell_end(outlet, alloc, pid, names),
+        Message::Down(_) => tell_end(outlet, alloc, state.table(), names),
         Message::Reply(..) => tell_applied(outlet, alloc, state, began(done)),
         Message::Call(_, Request::SetLock(_)) | Message::DelLock(..) => Ok(()),
     }
