@@ -22,13 +22,13 @@ use Rattle.pg_process.proofs.Unseen.{act_unseen, take_unseen}
 -- ---- one deed, and one after another
 
 -- what is made of a situation by these acts, these bytes that come and go, these answers said, and what is handed over and happens at the ports
-record Moves (set : Setting) (acts : List Act) (fed sent : ℕ → List ℕ) (said : ℕ → List Answer) (marks : ℕ → List Bool)
+pub record Moves (set : Setting) (acts : List Act) (fed sent : ℕ → List ℕ) (said : ℕ → List Answer) (marks : ℕ → List Bool)
     (happened : ℕ → List Happening) (a b : Situation) : Type 0 where
-  node : NodeGoes set acts said a.node b.node
-  links : LinksGo acts fed sent a.links b.links
-  ports : PortsGo acts marks happened a.ports b.ports
+  pub node : NodeGoes set acts said a.node b.node
+  pub links : LinksGo acts fed sent a.links b.links
+  pub ports : PortsGo acts marks happened a.ports b.ports
 
-abbrev DeedMoves : Setting → Deed → Situation → Situation → Type 0
+abbrev pub DeedMoves : Setting → Deed → Situation → Situation → Type 0
 DeedMoves set deed a b =
     Moves set (act_of deed) (λ peer. fed_of peer deed) (λ peer. sent_of peer deed) (λ port. said_of port deed) (λ port. hands_of port deed)
     (λ port. happened_of port deed) a b
@@ -85,7 +85,7 @@ handed_there : (port : ℕ) (a b : ℕ → Port) (change : Numbered) → b ≡ a
 handed_there port a b change is next =
     sym (ap (λ (f : ℕ → Port). (f port).current) is ∙ ap (λ (p : Port). p.current) (placed_here a port (λ p. port_after p Opened))) ∙ next
 
-moves_by : (set : Setting) (a : Situation) (deed : Deed) (said : List Output) (b : Situation) → LostNone a → Does set a deed said b → DeedMoves set deed a b
+pub moves_by : (set : Setting) (a : Situation) (deed : Deed) (said : List Output) (b : Situation) → LostNone a → Does set a deed said b → DeedMoves set deed a b
 moves_by set a (Read body) said b sound does = still set a b _ does.1 refl refl refl
 moves_by set a Brought said b sound does = still set a b _ does.1 refl refl refl
 moves_by set a Blamed said b sound does = still set a b _ does.1 refl refl refl

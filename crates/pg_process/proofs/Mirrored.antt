@@ -1,18 +1,16 @@
 -- What a host that mirrors the table is told of what was taken, and of an end.
 use Rattle.std.proofs.Common.{Bor, suc, ◌≡◌, ◌∙◌, List, ℕ, Bool, true, false, not, ◌&&◌, cond, [], ◌∷◌, Option, Some, None, refl, sym, ap, subst, append-nil, arith}
 use Rattle.std.specs.Global.{Vec}
-use Rattle.std.specs.Prelude.{IfOk, OnOk, Result, Ok, Err, ◌==◌, length, option_copied, ◌||◌, nat_lt, map}
+use Rattle.std.specs.Prelude.{IfOk, OnOk, Result, Ok, Err, ◌==◌, length, option_copied, ◌||◌, map}
 use Rattle.std.specs.List.{list_any}
 use Rattle.std.proofs.Math.Path.{fun_ext}
 use Rattle.std.proofs.lemmas.Bool.Decides.{nat_tests}
 use Rattle.pg_term.specs.declared.pid.Pid.{Pid}
 use Rattle.pg_term.specs.declared.term.Term.{Term}
-use Rattle.pg_term.specs.Same.{same_pid, same_term}
-use Rattle.pg_term.proofs.Same.{pid_is}
+use Rattle.pg_term.specs.Same.{same_term}
 use Rattle.pg_term.specs.contracts.term.TermEq.TheImpl.Laws as term_laws
 use Rattle.pg_step.proofs.PgGroup.Changes.{upd_other}
 use Rattle.pg_node.specs.PgGroup.Table.{GroupList, Table, all_merged, exchanged, merged, without}
-use Rattle.pg_node.specs.PgGroup.Value.{Value, count_in, less}
 use Rattle.pg_node.specs.PgGroup.declared.update.Update.{Update}
 use Rattle.pg_node.specs.PgMessageTypes.declared.message.Message.{Message}
 use Rattle.pg_node.specs.PgMessageTypes.declared.message.Message.TheVariants.{Down, Exchange}

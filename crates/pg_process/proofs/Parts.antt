@@ -42,7 +42,7 @@ at_one R this place xs change vs here there = go (cases_eq this place)
         subst (λ (b : Bool). R (cond b xs []) (vs this) (cond b (change (vs place)) (vs this))) (sym (ne_eqb place this (λ e. n (sym e)))) there
 
 -- what holds by whether a place is this one
-at_bool : (P : Bool → ℕ → Type 0) (this place : ℕ) → P true place → P false this → P (nat_eq place this) this
+pub at_bool : (P : Bool → ℕ → Type 0) (this place : ℕ) → P true place → P false this → P (nat_eq place this) this
 at_bool P this place here there = go (cases_eq this place)
   where
     go : (this ≡ place) ⊎ (this ≢ place) → P (nat_eq place this) this

@@ -24,7 +24,7 @@ use Rattle.pg_process.specs.declared.process.Process.{Process}
 use Rattle.pg_process.specs.Chains.{Goes, AllDo, Fails, IsCause, IsWork, Makes, Step, Works, WorksUntil, logged_in, said_in}
 use Rattle.pg_process.specs.declared.fault.ProcessFault.{ProcessFault}
 use Rattle.pg_process.specs.Deeds.{Brought, Deed, Read, logged}
-use Rattle.pg_process.specs.Hearing.{deeds_of, heeded, whom_of}
+use Rattle.pg_process.specs.Hearing.{deeds_of, heeded, is_tick, whom_of}
 use Rattle.pg_process.specs.Parties.{whom_of as whom_by}
 use Rattle.pg_process.specs.Turns.{Attends, HearsInTurn}
 use Rattle.pg_process.specs.Serving.{AllTakeTurns, AreAllHeard, AreHeard, HearsAll, IsHaltedBy, IsPassedTo, IsStoppedBy, IsUpToDate, Stops, TakeTurns, log_of, out_of, whom_in}
@@ -33,9 +33,16 @@ use Rattle.pg_process.specs.Situations.{Setting, Situation, setting_of, situatio
 use Rattle.pg_process.specs.Stories.{CantHear, CantHearFirst, HasServed, HearsFirst, HearsFirstUntil, HearsNext, HearsNone, HearsSome, IsCut, IsHalted, IsNew, IsServing, Story}
 use Rattle.pg_node.specs.PgStep.Machines.Clocked.{Timed}
 use Rattle.pg_node.specs.PgStep.State.{State}
+use Rattle.pg_node_process.specs.declared.config.ProcessConfig.{ProcessConfig}
+use Rattle.pg_step.specs.PgExchange.GroupList.{GroupList}
+use Rattle.pg_process.specs.Beginnings.{StartsAs}
+use Rattle.pg_process.specs.Replies.{Replies}
+use Rattle.pg_process.specs.Waits.{KeepsShortly}
 use Rattle.pg_process.specs.Accounts.{Accounts}
 use Rattle.pg_process.specs.declared.process.Told.{Told}
 use Rattle.pg_process.proofs.Accounting.{chains_account}
+use Rattle.pg_process.proofs.Replying.{chains_reply}
+use Rattle.pg_process.proofs.Shortly.{keeps_shortly, sound_on, starts_sound}
 use Rattle.pg_process.proofs.Whole.{whole_mirror}
 use Rattle.pg_process.proofs.Chained.{all_then, deeds_then, do_then, ends_on, fails_ends, makes_goes, step_of, work_deeds}
 use Rattle.pg_process.proofs.Chained.{goes_on as goes_on_after}
@@ -84,9 +91,20 @@ hears_then set a m b first xs ys steps more missing p does framed heard = record
 
 -- one more is heard in its turn
 turns_then : (set : Setting) (bodies : List (List ℕ)) (body : List ℕ) (a : Situation) (p q : Process) → TakeTurns set bodies a (situation_of p) → setting_of p ≡ set → HearsInTurn body p q
-    → TakeTurns set (bodies ++ body ∷ []) a (situation_of q)
-turns_then set [] body a p q turns is turn = (p, q, is, turns, turn, refl)
-turns_then set (x ∷ xs) body a p q turns is turn = (turns.0, turns.1, turns.2, turns.3, turns.4, turns_then set xs body (situation_of turns.1) p q turns.5 is turn)
+    → KeepsShortly set (is_tick (body_of p.parties body)) (situation_of p) (situation_of q) → TakeTurns set (bodies ++ body ∷ []) a (situation_of q)
+turns_then set [] body a p q turns is turn shortly =
+    (p, q, is, turns, turn, subst (λ (s : Situation). KeepsShortly set (is_tick (body_of p.parties body)) s (situation_of q)) turns shortly, refl)
+turns_then set (x ∷ xs) body a p q turns is turn shortly =
+    (turns.0, turns.1, turns.2, turns.3, turns.4, turns.5, turns_then set xs body (situation_of turns.1) p q turns.6 is turn shortly)
+
+-- no port keeps a change over two ticks
+shortly_then : (config : ProcessConfig) (groups : GroupList) (set : Setting) (start : Situation) (steps : List Step) (body : List ℕ) (p q : Process) → StartsAs config groups set start
+    → AllDo set start steps (situation_of p) → setting_of p ≡ set → setting_of q ≡ setting_of p → HearsInTurn body p q → IsAtRest (setting_of q) (situation_of q)
+    → KeepsShortly set (is_tick (body_of p.parties body)) (situation_of p) (situation_of q)
+shortly_then config groups set start steps body p q starts does is same turn rest =
+    subst (λ (v : Setting). KeepsShortly v (is_tick (body_of p.parties body)) (situation_of p) (situation_of q)) is
+    (keeps_shortly body p q turn (sound_on set steps start (situation_of p) does (starts_sound config groups set start starts))
+    (λ port less. rest.handed port (subst (λ (v : Setting). port < v.ports) (sym same) less)))
 
 -- whom the bodies of a process are of
 pub whom_is : (a : Process) → whom_of a ≡ whom_in (setting_of a)
@@ -219,7 +237,8 @@ module _ {W L : Type 0} (contents : W → Option (List ℕ)) (flushed : W → Ty
           mirrored = p.turns.mirrored;
           brings = p.turns.brings;
           attends = p.turns.attends;
-          others = turns_then story.set p.bodies next.body (situation_of p.turns.served) a b p.turns.others p.set next.turn;
+          others = turns_then story.set p.bodies next.body (situation_of p.turns.served) a b p.turns.others p.set next.turn
+              (shortly_then story.config story.starts.groups story.set story.start (p.passed ++ p.kept) next.body a b story.starts.starts p.hears.does p.set next.hears.goes.setting next.turn next.rest);
         };
         set = next.hears.goes.setting ∙ p.set;
         wrote = p.wrote;
@@ -345,6 +364,11 @@ module _ {W L : Type 0} (contents : W → Option (List ℕ)) (flushed : W → Ty
     accounts_so steps missing bodies now hears =
         chains_account story.set story.start steps now hears.does (λ node. ap (λ (s : Timed State). s.state.lost node) story.starts.starts.state)
 
+    -- and what they reply
+    replies_so : (steps : List Step) (missing : List Deed) (bodies : List (List ℕ)) (now : Situation) → HearsAll story.set story.start story.first bodies steps missing now
+        → (port : ℕ) → Replies port steps now
+    replies_so steps missing bodies now hears = chains_reply story.config story.starts.groups story.set story.start steps now story.starts.starts hears.does
+
     -- the log fails: nothing of what is gathered goes out
     pub stops_logging : (input : List ℕ) (a : Process) (w w2 : W) (l l2 : L) → IsCut contents flushed entries synced story input a w l
         → w2 ≡ w → WritesPart (entries l) (entries l2) a.journal.gathered.items → FailedAt unlogged l2 → StopsBy (ends.Pass pass.Log) input w2 l2
@@ -361,6 +385,7 @@ module _ {W L : Type 0} (contents : W → Option (List ℕ)) (flushed : W → Ty
       now = cut.now;
       hears = cut.hears;
       accounts = accounts_so (cut.passed ++ cut.kept) cut.missing cut.bodies cut.now cut.hears;
+      replies = replies_so (cut.passed ++ cut.kept) cut.missing cut.bodies cut.now cut.hears;
       more = cut.more;
       passes = record {
         passed = cut.passed;
@@ -396,6 +421,7 @@ module _ {W L : Type 0} (contents : W → Option (List ℕ)) (flushed : W → Ty
       now = cut.now;
       hears = cut.hears;
       accounts = accounts_so (cut.passed ++ cut.kept) cut.missing cut.bodies cut.now cut.hears;
+      replies = replies_so (cut.passed ++ cut.kept) cut.missing cut.bodies cut.now cut.hears;
       more = cut.more;
       passes = record {
         passed = cut.passed;
@@ -457,6 +483,7 @@ module _ {W L : Type 0} (contents : W → Option (List ℕ)) (flushed : W → Ty
           now = cut.now;
           hears = cut.hears;
           accounts = accounts_so (cut.passed ++ cut.kept) cut.missing cut.bodies cut.now cut.hears;
+          replies = replies_so (cut.passed ++ cut.kept) cut.missing cut.bodies cut.now cut.hears;
           more = cut.more;
           passes = record {
             passed = cut.passed ++ cut.kept;
@@ -504,6 +531,7 @@ module _ {W L : Type 0} (contents : W → Option (List ℕ)) (flushed : W → Ty
           hears = p.hears;
           turns = p.turns;
           accounts = accounts_so (p.passed ++ p.kept) [] p.bodies (situation_of a) p.hears;
+          replies = replies_so (p.passed ++ p.kept) [] p.bodies (situation_of a) p.hears;
           mirror = λ is. whole_mirror story.set story.start story.first p.bodies (p.passed ++ p.kept) (situation_of a) p.hears (ap (λ (t : Told). t.mirrored) story.starts.starts.told ∙ is);
           rest = subst (λ (set : Setting). IsAtRest set (situation_of a)) p.set served.rest;
           wrote = subst (λ (bytes : List ℕ). Appends (contents story.out) (contents w) bytes)

@@ -3,12 +3,14 @@ pub mod Beginnings
 pub mod Chains
 pub mod Changes
 pub mod Deeds
+pub mod Delays
 pub mod Faults
 pub mod Hearing
 pub mod Kept
 pub mod Locks
 pub mod Mirrors
 pub mod Parties
+pub mod Replies
 pub mod Serving
 pub mod Settled
 pub mod Situations
@@ -16,3 +18,4 @@ pub mod Stories
 pub mod Tables
 pub mod Takings
 pub mod Turns
+pub mod Waits

@@ -23,11 +23,13 @@ use Rattle.pg_process.specs.Beginnings.{CantBegin, StartsAs}
 use Rattle.pg_process.specs.declared.process.Process.{Process}
 use Rattle.pg_process.specs.Chains.{AllDo, IsCause, IsWork, Makes, Step, logged_in, said_in}
 use Rattle.pg_process.specs.Deeds.{Brought, Deed, Read}
-use Rattle.pg_process.specs.Hearing.{deeds_of, heeded}
+use Rattle.pg_process.specs.Hearing.{deeds_of, heeded, is_tick}
 use Rattle.pg_process.specs.Parties.{whom_of}
+use Rattle.pg_process.specs.Replies.{Replies}
 use Rattle.pg_process.specs.Settled.{IsAtRest}
 use Rattle.pg_process.specs.Situations.{Setting, Situation, setting_of, situation_of, table_of}
 use Rattle.pg_process.specs.Turns.{Attends, HearsInTurn}
+use Rattle.pg_process.specs.Waits.{KeepsShortly}
 
 -- ---- bodies, one after another
 
@@ -55,10 +57,11 @@ pub record HearsAll (set : Setting) (a : Situation) (first : List ℕ) (bodies :
   pub does : AllDo set a steps b
   pub framed : AllByRecursion IsFramed (said_in steps)
 
--- each of these bodies is heard in its turn
+-- Each of these bodies is heard in its turn, and no port keeps a change over two ticks.
 abbrev pub TakeTurns : Setting → List (List ℕ) → Situation → Situation → Type 0
 TakeTurns set [] a b = b ≡ a
-TakeTurns set (body ∷ bodies) a b = (p : Process) × (q : Process) × (setting_of p ≡ set) × (situation_of p ≡ a) × HearsInTurn body p q × TakeTurns set bodies (situation_of q) b
+TakeTurns set (body ∷ bodies) a b = (p : Process) × (q : Process) × (setting_of p ≡ set) × (situation_of p ≡ a) × HearsInTurn body p q
+    × KeepsShortly set (is_tick (body_of p.parties body)) a (situation_of q) × TakeTurns set bodies (situation_of q) b
 
 -- The first body is logged, what it brought is told, and what follows is done in its order. Then each other is heard in its turn.
 pub record AllTakeTurns (set : Setting) (a : Situation) (first : List ℕ) (bodies : List (List ℕ)) (b : Situation) : Type 0 where
@@ -157,6 +160,7 @@ module _ {W L : Type 0} (contents : W → Option (List ℕ)) (flushed : W → Ty
     pub hears : HearsAll set start first bodies steps [] now
     pub turns : AllTakeTurns set start first bodies now
     pub accounts : Accounts set start steps now
+    pub replies : (port : ℕ) → Replies port steps now
     pub mirror : config.mirrored ≡ true → mirror (said_in steps) no_groups ≡ table_of now
     pub rest : IsAtRest set now
     pub wrote : Appends (contents w0) (contents w) (out_of steps)
@@ -195,6 +199,7 @@ module _ {W L : Type 0} (contents : W → Option (List ℕ)) (flushed : W → Ty
     pub now : Situation
     pub hears : HearsAll set start first bodies steps missing now
     pub accounts : Accounts set start steps now
+    pub replies : (port : ℕ) → Replies port steps now
     pub more : List Entry
     pub passes : PassesPart fault steps more (contents w0) (contents w1) (entries l0) (entries l1)
     pub cause : IsStoppedBy fault set now unread missing w1 l1

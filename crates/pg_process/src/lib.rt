@@ -20,6 +20,6 @@ mod telling;
 mod work;
 
 pub use fault::{BeginFault, EndFault, ProcessFault};
-pub use laws::{chains_account, chains_keep_mirrors};
+pub use laws::{chains_account, chains_keep_mirrors, chains_reply, no_port_keeps_for_long};
 pub use process::{Process, Told};
 pub use serving::serve;
