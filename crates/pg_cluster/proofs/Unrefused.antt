@@ -6,7 +6,7 @@ use Rattle.std.specs.List.{AllByRecursion, IsDistinct}
 use Rattle.std.proofs.lemmas.Bool.{eq-eqb}
 use Rattle.pg_term.specs.Same.{same_atom}
 use Rattle.pg_cluster_judges.specs.PgMessageTypes.declared.message.Message.{Message}
-use Rattle.pg_cluster_judges.specs.PgStep.Machines.Clocked.{Timed, Stamped}
+use Rattle.pg_cluster_judges.specs.PgStep.Machines.Clocked.{Timed, Stamped, timed as clocked_turn, timed_turn}
 use Rattle.pg_cluster_judges.specs.PgStep.Machines.Losing.{LosingEvent, LosingLeads, Noticed, Sent, Last, Step}
 use Rattle.pg_cluster_judges.specs.PgStep.Machines.Losing.{Lose, can_keep, each_place, losing_happens, mapped_turn, nobody_gone}
 use Rattle.pg_cluster_judges.specs.PgStep.Machines.Machine.{Event, Turn, Taken, Own, Take, Do, happens, node_of, start_of}
@@ -15,14 +15,14 @@ use Rattle.pg_cluster_judges.proofs.PgStep.Machines.Options.{cond_is_some, map_i
 use Rattle.pg_cluster_judges.proofs.PgStep.Machines.Steps.{did, pair_apart, took}
 use Rattle.pg_cluster_judges.specs.PgStep.Config.{Config, name_at, names_of, nodes_at, ports_at}
 use Rattle.pg_cluster_judges.specs.PgStep.Faults.{first_that_holds}
-use Rattle.pg_cluster_judges.specs.PgStep.FrameMachine.{frame_machine, last_notice, losing_frame_machine, sent_packet}
+use Rattle.pg_cluster_judges.specs.PgStep.FrameMachine.{frame_machine, last_notice, losing_frame_machine, place_turn, placed, sent_packet}
 use Rattle.pg_cluster_judges.specs.PgStep.LossLaws.{LosingFrameWorld, way_is_drained, is_notice}
 use Rattle.pg_cluster_judges.specs.PgStep.State.{State}
-use Rattle.pg_cluster_judges.specs.PgStep.Step.{Action, Issue, Retry, TimedTurn, node_acts, node_takes, step_act, timed as node_turn}
+use Rattle.pg_cluster_judges.specs.PgStep.Step.{Action, CLOCK_LIMIT, Issue, Retry, TimedTurn, at_clock, node_acts, node_takes, step_act, timed as node_turn}
 use Rattle.pg_cluster_judges.specs.PgStep.StepLaws.{port_of, refusal_of}
 use Rattle.pg_cluster_judges.specs.PgStep.Turns.{NodeTurn, Report}
 use Rattle.pg_cluster_judges.specs.PgStep.declared.refusal.Refusal.{Refusal}
-use Rattle.pg_cluster_judges.specs.PgStep.declared.refusal.Refusal.TheVariants.{NodeLost, NoSuchPlace}
+use Rattle.pg_cluster_judges.specs.PgStep.declared.refusal.Refusal.TheVariants.{ClockFull, NodeLost, NoSuchPlace}
 use Rattle.pg_cluster_judges.proofs.PgStep.Lost.{seen_exactly}
 use Rattle.pg_cluster_judges.proofs.PgStep.Unnoticed.{frames_embed}
 use Rattle.pg_cluster_judges.proofs.PgLaws.ends.Apart.{pair_first, pair_second}
@@ -39,8 +39,17 @@ use Rattle.pg_cluster_judges.specs.PgWorldPackets.Losing.{CanBeMade, can_stay, c
 use Rattle.pg_cluster_judges.specs.PgWorldPackets.Losing.{told_loss, told_of, told_own, told_sight, told_take}
 use Rattle.pg_cluster_judges.specs.Schedule.{seen_step}
 use Rattle.pg_cluster_judges.specs.Together.{MadeInTurn, losing_event}
-use Rattle.pg_cluster_judges.proofs.Replaying.{turn_told}
 use Rattle.pg_cluster.proofs.Scheduled.{KeepsEach, is_sight, marked_event}
+
+-- a turn of the machine is one that the node tells
+turn_told : (config : Config) (clock : ℕ) (made : Result NodeTurn Refusal) (turn : Turn (Timed State) (Stamped Message) Report)
+    → clocked_turn CLOCK_LIMIT clock (placed config made) ≡ Some turn → (told : TimedTurn) × (node_turn clock made ≡ Ok told)
+turn_told config clock (Err refusal) turn e = absurd cc
+turn_told config clock (Ok made) turn e = (at_clock clock made, go (nat_le clock CLOCK_LIMIT) e)
+  where
+    go : (b : Bool) → cond b (Some (timed_turn clock (place_turn config made))) None ≡ Some turn → cond b (Ok (at_clock clock made)) (Err ClockFull) ≡ Ok (at_clock clock made)
+    go true is = refl
+    go false is = absurd cc
 
 no : true ≡ false → ⊥
 no e = absurd (cc)

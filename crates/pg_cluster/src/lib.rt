@@ -29,8 +29,8 @@ pub use pg_cluster_judges::{
     Peer, Port, RefFault, RefSource, Refusal, Reply, Request, Rest, Said, ServeFault, Sleepless,
     Start, Step, Stepped, Stopped, TurnCount, Turned, World, WorldFault, decode, encode_into,
     frame_into, nodes_of_one_run_agree, one_losing_run_replays, one_run_replays, order_of_logs,
-    port_pair, run_node, serve, starting_nodes, survivors_of_one_run_agree, which_groups,
-    write_packet_into,
+    port_pair, run_node, serve, starting_nodes, steps_without_losses_lose_nobody,
+    survivors_of_one_run_agree, which_groups, write_packet_into,
 };
 pub use pg_ring::{
     Inlet, Link, MemRing, RingFault, RingIn, RingOut, SlotIn, SlotOut, ring_pair, slot_pair,

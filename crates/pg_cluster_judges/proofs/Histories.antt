@@ -1,5 +1,5 @@
 -- The history of a group in the world to which a schedule leads.
-use Rattle.std.proofs.Common.{◌≡◌, ◌≢◌, ◌∙◌, ℕ, Bool, true, false, List, ◌++◌, [], ◌∷◌, map}
+use Rattle.std.proofs.Common.{◌≡◌, ◌≢◌, ◌∙◌, ℕ, true, false, List, ◌++◌, [], ◌∷◌, map}
 use Rattle.std.proofs.Common.{Option, Some, None, Result, Ok, Err, sym, ap, subst}
 use Rattle.std.specs.Prelude.{IfOk, IfSome, is_some}
 use Rattle.std.specs.Option.{option_to_list}
@@ -16,18 +16,16 @@ use Rattle.pg_world.specs.PgStep.Config.{Config}
 use Rattle.pg_world.specs.PgStep.LossLaws.{LosingFrameWorld}
 use Rattle.pg_world.specs.PgWorldPackets.declared.step.FrameStep.{FrameStep}
 use Rattle.pg_world.specs.PgWorldPackets.Losing.{ShowsLosing}
-use Rattle.pg_world.specs.PgWorldPackets.LosingRuns.{RanLosing, packets_past_losses}
 use Rattle.pg_world.specs.PgWorldPackets.Openings.{CanBegin, CantBegin}
-use Rattle.pg_world.specs.PgWorldPackets.Runs.{Ran, LosesNone, over_packets}
+use Rattle.pg_world.specs.PgWorldPackets.Past.{RanFrames}
 use Rattle.pg_world.specs.PgWorldPackets.Views.{View}
-use Rattle.pg_world.specs.PgWorldPackets.Worlds.{ShowsWorld}
 use Rattle.pg_cluster_judges.specs.declared.closed.Closed.{Closed}
 use Rattle.pg_cluster_judges.specs.Closed.{AreStepsOf, IsHistory}
 use Rattle.pg_cluster_judges.specs.Judges.{all_made, ran_out}
 use Rattle.pg_cluster_judges.specs.NodeOf.{NodeOf}
-use Rattle.pg_cluster_judges.specs.Together.{AreOneLosingRun}
 use Rattle.pg_cluster_judges.specs.Told.{HasHistory}
-use Rattle.pg_cluster_judges.proofs.ReplayingLosses.{losing_again}
+use Rattle.pg_cluster_judges.proofs.Judging.{seen_as}
+use Rattle.pg_cluster_judges.proofs.Replaying.{LeadsThere, there_again}
 
 -- entries, and one more behind them
 pub with_last : (entries : List Entry) (last : Option Entry) → map as_entry (entries ++ option_to_list last) ≡ map as_entry entries ++ last_entries last
@@ -36,41 +34,24 @@ with_last entries (Some last) = map-append as_entry entries (last ∷ [])
 
 -- what is found in a world that a schedule leads to
 pub found_history : {E : Type 0} (given : Config) (schedule : List FrameStep) (name : Term) (view : View) (gone numbers : List ℕ) (result : Result (Option (Vec Entry Global)) E)
-    → (LosesNone schedule → Ran over_packets given schedule numbers (λ config. ShowsWorld config view))
-    → RanLosing packets_past_losses given schedule numbers (λ config. ShowsLosing config view gone)
+    → RanFrames given schedule numbers (λ config. ShowsLosing config view gone)
     → IfOk result (λ found. IfSome found (λ entries. map as_entry entries.items ≡ view.account.histories name)) → IfOk result (λ found. is_some found ≡ all_made numbers)
     → IfOk result (λ found. IfSome found (λ entries. HasHistory given schedule name (map as_entry entries.items)))
-found_history given schedule name view gone numbers (Ok (Some entries)) ran losing is some = record {
+found_history given schedule name view gone numbers (Ok (Some entries)) ran is some = record {
   numbers = numbers;
   made = sym some;
-  unlost = λ none. let r = ran none in record {
-    config = r.config;
-    orders = r.orders;
-    events = r.events;
-    w = r.w;
-    runs = r.runs;
-    shows = sym (is ∙ r.shows.updates.history name);
-    history = r.history;
-  };
-  losing = record {
-    config = losing.config;
-    orders = losing.orders;
-    events = losing.events;
-    u = losing.u;
-    runs = losing.runs;
-    shows = ap (λ (u : LosingFrameWorld). history name u.world.reported) losing.shows.is ∙ sym (is ∙ losing.shows.shows.updates.history name);
-    survived = losing.survived;
-  };
+  ran = seen_as given schedule numbers (λ config. ShowsLosing config view gone) (λ config u. history name u.world.reported ≡ map as_entry entries.items) ran
+      (λ config u shows. ap (λ (x : LosingFrameWorld). history name x.world.reported) shows.is ∙ sym (is ∙ shows.shows.updates.history name));
 }
-found_history given schedule name view gone numbers (Ok None) ran losing is some = tt
-found_history given schedule name view gone numbers (Err e) ran losing is some = tt
+found_history given schedule name view gone numbers (Ok None) ran is some = tt
+found_history given schedule name view gone numbers (Err e) ran is some = tt
 
 -- of one run it is found
 pub always_found : {A E : Type 0} (ring : ℕ) (given : Config) (nodes : List NodeOf) (schedule : List FrameStep) (view : View) (gone numbers : List ℕ) (result : Result (Option A) E)
-    → RanLosing packets_past_losses given schedule numbers (λ config. ShowsLosing config view gone)
+    → RanFrames given schedule numbers (λ config. ShowsLosing config view gone)
     → IfOk result (λ found. is_some found ≡ all_made numbers) → IfOk result (λ found. ran_out numbers ≡ false)
-    → IfOk result (λ found. (lost : List Bool) → CanBegin ring given → AreOneLosingRun given lost nodes schedule → is_some found ≡ true)
-always_found ring given nodes schedule view gone numbers (Ok found) ran some none = λ lost can run. some ∙ (losing_again given lost nodes schedule run view gone numbers ran none).0
+    → IfOk result (λ found. CanBegin ring given → LeadsThere given nodes schedule → is_some found ≡ true)
+always_found ring given nodes schedule view gone numbers (Ok found) ran some none = λ can there. some ∙ (there_again given nodes schedule there view gone numbers ran none).0
 always_found ring given nodes schedule view gone numbers (Err e) ran some none = tt
 
 -- nothing is found where no world could begin, which is so of no configuration of which one can

@@ -18,13 +18,11 @@ pub mod Losing
 pub mod Lost
 pub mod Moved
 pub mod Next
-pub mod NoneLost
 pub mod Noticed
 pub mod Once
 pub mod Peers
 pub mod Reading
 pub mod Replaying
-pub mod ReplayingLosses
 pub mod Scheduling
 pub mod Seen
 pub mod Sent

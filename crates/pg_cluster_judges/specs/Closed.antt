@@ -8,14 +8,13 @@ use Rattle.pg_node_run.specs.declared.port.Client.{Client}
 use Rattle.pg_cluster_judges.specs.declared.closed.Closed.{Closed}
 use Rattle.pg_cluster_judges.specs.declared.closed.Stopped.{Stopped}
 use Rattle.pg_cluster_judges.specs.declared.closed.TurnCount.{TurnCount}
-use Rattle.pg_cluster_judges.specs.Judges.{Replays, ReplaysPastLosses}
+use Rattle.pg_cluster_judges.specs.Judges.{Replays}
 use Rattle.pg_cluster_judges.specs.Schedule.{AreSteps, IsSchedule, IsLosingSchedule}
 use Rattle.pg_cluster_judges.specs.NodeOf.{NodeOf}
 use Rattle.pg_cluster_judges.specs.Together.{AreOneLosingRun, AreOneRun}
 use Rattle.pg_cluster_judges.specs.Told.{HasHistory}
 use Rattle.pg_world.specs.PgStep.Config.{Config}
 use Rattle.pg_world.specs.PgWorldPackets.declared.step.FrameStep.{FrameStep}
-use Rattle.pg_world.specs.PgWorldPackets.Runs.{LosesNone}
 
 -- the nodes of a cluster whose threads have ended, their logs and turns, and its clients
 abbrev pub nodes_of : Stopped → List NodeOf
@@ -71,8 +70,7 @@ IsOneLosingRun given closed = (steps : List FrameStep) → AreStepsOf closed ste
 pub record IsReplayed (given : Config) (closed : Closed) : Type 0 where
   pub steps : List FrameStep
   pub are : AreStepsOf closed steps
-  pub unlost : LosesNone steps → Replays given steps closed.nodes.items
-  pub losing : ReplaysPastLosses given steps closed.nodes.items
+  pub replays : Replays given steps closed.nodes.items
 
 -- They lead from the start of the configuration to a world in which these entries are the history of the group, and none is refused.
 pub record IsHistory (given : Config) (closed : Closed) (name : Term) (entries : List Entry) : Type 0 where

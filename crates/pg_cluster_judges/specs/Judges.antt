@@ -16,9 +16,8 @@ use Rattle.pg_world.specs.PgStep.State.{State, formed}
 use Rattle.pg_world.specs.PgStep.Config.{Config}
 use Rattle.pg_world.specs.PgWorldPackets.declared.step.FrameStep.{FrameStep}
 use Rattle.pg_world.specs.Crossings.{node_of}
-use Rattle.pg_world.specs.PgWorldPackets.Runs.{Ran, over_packets}
 use Rattle.pg_cluster_judges.specs.ApartWithLosses.{nodes_in}
-use Rattle.pg_world.specs.PgWorldPackets.LosingRuns.{RanLosing, packets_past_losses}
+use Rattle.pg_world.specs.PgWorldPackets.Past.{RanFrames}
 use Rattle.pg_world.specs.PgWorldConfig.Seen.{Seen}
 use Rattle.pg_world.specs.PgWorldPackets.Worlds.{ShowsNode}
 
@@ -35,19 +34,12 @@ module _ {T : Type 0} {g : Ghosts T} where
   abbrev pub AreShown : List Seen → List (Node T g) → Type 0
   AreShown seen nodes = (i : ℕ) (node : Node T g) → slice_get nodes i ≡ Some node → slice_get seen i ≡ Some (node_of node)
 
-  -- The schedule, made step by step from the start of the configuration, leads to a frame world of which the headline holds
-  -- (`Ran`), and each of these nodes is the node at its place there.
+  -- The schedule, made step by step from the start of the configuration, leads to a world with losses of which all holds that a run
+  -- tells (`RanFrames`), and each of these nodes is the node at its place there. Each step was made.
   pub record Replays (given : Config) (schedule : List FrameStep) (nodes : List (Node T g)) : Type 0 where
     pub numbers : List ℕ
-    pub ran : Ran over_packets given schedule numbers (λ config w. (i : ℕ) (node : Node T g) → slice_get nodes i ≡ Some node → ShowsNode config w i (node_of node))
-
-  -- The same of a schedule in which nodes may be lost: the run is one of the machine with losses, of which all holds that survives losses
-  -- (`RanLosing`), and each step was made.
-  pub record ReplaysPastLosses (given : Config) (schedule : List FrameStep) (nodes : List (Node T g)) : Type 0 where
-    pub numbers : List ℕ
     pub made : all_made numbers ≡ true
-    pub ran : RanLosing packets_past_losses given schedule numbers
-        (λ config u. (i : ℕ) (node : Node T g) → slice_get nodes i ≡ Some node → ShowsNode config (nodes_in u) i (node_of node))
+    pub ran : RanFrames given schedule numbers (λ config u. (i : ℕ) (node : Node T g) → slice_get nodes i ≡ Some node → ShowsNode config (nodes_in u) i (node_of node))
 
   -- ---- one opinion
 

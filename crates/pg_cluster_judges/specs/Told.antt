@@ -10,18 +10,16 @@ use Rattle.pg_world.specs.PgNodeState.States.{answers_of}
 use Rattle.pg_world.specs.PgStep.declared.answer.Answer.{Answer}
 use Rattle.pg_world.specs.PgStep.Config.{Config}
 use Rattle.pg_world.specs.PgWorldPackets.declared.step.FrameStep.{FrameStep}
-use Rattle.pg_world.specs.PgWorldPackets.Runs.{Ran, LosesNone, over_packets}
-use Rattle.pg_world.specs.PgWorldPackets.LosingRuns.{RanLosing, packets_past_losses}
+use Rattle.pg_world.specs.PgWorldPackets.Past.{RanFrames}
 use Rattle.pg_cluster_judges.specs.Judges.{all_made}
 
 -- the answers that a node gave at a port, if it has that port
 abbrev pub answers_at : {T : Type 0} {g : Ghosts T} → ℕ → Node T g → Option (List Answer)
 answers_at port node = cond (nat_lt port (ports_of (held_by node))) (Some (answers_of (held_by node) port)) None
 
--- The schedule, made step by step from the start of the configuration, leads to a world of which the headline holds, or what
--- survives losses, and there these entries are the history of the group. Each step was made.
+-- The schedule, made step by step from the start of the configuration, leads to a world with losses of which all holds that a run
+-- tells (`RanFrames`), and there these entries are the history of the group. Each step was made.
 pub record HasHistory (given : Config) (schedule : List FrameStep) (name : Term) (entries : List Entry) : Type 0 where
   pub numbers : List ℕ
   pub made : all_made numbers ≡ true
-  pub unlost : LosesNone schedule → Ran over_packets given schedule numbers (λ config w. history name w.reported ≡ entries)
-  pub losing : RanLosing packets_past_losses given schedule numbers (λ config u. history name u.world.reported ≡ entries)
+  pub ran : RanFrames given schedule numbers (λ config u. history name u.world.reported ≡ entries)

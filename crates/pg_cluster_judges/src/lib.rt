@@ -32,6 +32,7 @@ pub use pg_world::{
     Stepped, World, WorldFault, configs_are_decided, decode, each_world_past_losses, encode_into,
     ended_processes_were_finished, ended_processes_were_finished_past_losses, fault_or_memory,
     frame_into, no_loss_is_seen, nodes_that_heard_the_lost_agree, one_history, run_frames,
-    same_group, same_groups, serve, starting_nodes, which_groups, write_packet_into,
+    same_group, same_groups, serve, starting_nodes, steps_without_losses_lose_nobody, which_groups,
+    write_packet_into,
 };
 pub use together::{nodes_ran_together, nodes_ran_together_past_losses};

@@ -2,11 +2,10 @@
 use Rattle.std.specs.Prelude.{◌≡◌, Bool, true, List, map}
 use Rattle.pg_cluster.specs.PgNodeRun.declared.port.Client.{Client}
 use Rattle.pg_cluster.specs.PgStep.Config.{Config}
-use Rattle.pg_cluster.specs.PgWorldPackets.Runs.{LosesNone}
 use Rattle.pg_cluster.specs.PgWorldPackets.declared.step.FrameStep.{FrameStep}
 use Rattle.rand_pcg.specs.Lcg.{Lcg}
 use Rattle.pg_cluster.specs.Clients.{AllHeard}
-use Rattle.pg_cluster.specs.PgClusterJudges.Judges.{Agree, Replays, ReplaysPastLosses}
+use Rattle.pg_cluster.specs.PgClusterJudges.Judges.{Agree, Replays}
 use Rattle.pg_cluster.specs.PgClusterJudges.Schedule.{IsLosingSchedule, NobodyLost}
 use Rattle.pg_cluster.specs.PgClusterJudges.Survivors.{Log, SurvivorsAgree}
 use Rattle.pg_cluster.specs.Threads.{Thread, AreMade, begun_by}
@@ -30,6 +29,5 @@ pub record IsJudged (given : Config) (lost : List Bool) (threads : List (Thread 
   pub survivors_agreed : ∥ SurvivorsAgree nodes lost logs ∥₁
   pub agree : verdict.agree ≡ true
   pub replay : verdict.replay ≡ true
-  -- what replays was made step by step, with a loss and without
-  pub replays : LosesNone schedule → Replays given schedule nodes
-  pub replays_past_losses : ReplaysPastLosses given schedule nodes
+  -- what replays was made step by step, whoever was lost
+  pub replays : Replays given schedule nodes

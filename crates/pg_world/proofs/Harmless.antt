@@ -2,18 +2,16 @@
 use Rattle.std.proofs.Common.{◌≡◌, ◌≢◌, ◌+◌, ℕ, Bool, true, false, cond, max, nat_le}
 use Rattle.std.proofs.Common.{map, List, ◌∷◌, ◌++◌, None, Result, Ok, Err, refl, ap}
 use Rattle.pg_world_packets.specs.PgMessageTypes.declared.message.Message.{Message}
-use Rattle.pg_world_packets.specs.PgStep.Machines.Places.{is_pair}
-use Rattle.pg_world_packets.specs.PgStep.Machines.Clocked.{Stamped, plain, packets_of}
+use Rattle.pg_world_packets.specs.PgStep.Machines.Clocked.{plain, packets_of}
 use Rattle.pg_world_packets.specs.PgStep.declared.refusal.Refusal.{Refusal}
 use Rattle.pg_world_packets.specs.PgStep.declared.refusal.Refusal.TheVariants.{NotAMessage, ClockFull}
 use Rattle.pg_world_packets.specs.PgStep.Config.{Config, name_at, nodes_at}
-use Rattle.std.specs.Prelude.{length, option_map}
+use Rattle.std.specs.Prelude.{option_map}
 use Rattle.pg_world_packets.specs.PgStep.Machines.Losing.{Noticed, Sent, mapped_turn}
 use Rattle.pg_world_packets.specs.PgStep.Machines.Machine.{Taken}
 use Rattle.pg_world_packets.specs.PgStep.FrameMachine.{placed, losing_machine_of, sent_packet}
-use Rattle.pg_world_packets.specs.PgStep.Step.{CLOCK_LIMIT, TimedTurn, at_clock, timed, step_take, node_takes}
+use Rattle.pg_world_packets.specs.PgStep.Step.{CLOCK_LIMIT, TimedTurn, at_clock, timed, node_takes}
 use Rattle.pg_world_packets.specs.PgStep.Turns.{NodeTurn}
-use Rattle.pg_world_packets.specs.PgLaws.Headline.{HarmsNobody}
 use Rattle.pg_world.specs.Crossings.{IsWelcome}
 use Rattle.pg_world_packets.specs.Losing.{losing_of, notices}
 use Rattle.pg_world_packets.specs.Worlds.{TimedFrameWorld}
@@ -27,18 +25,8 @@ refused_so config clock (Ok t) e = absurd (go (nat_le clock CLOCK_LIMIT) e)
     go true f = absurd (cc)
     go false f = absurd (cc)
 
-never_refused : (config : Config) (w : TimedFrameWorld) (i p : ℕ) (x : Stamped Message) (rest : List (Stamped Message)) → HarmsNobody config (plain w) → is_pair (length config) i p ≡ true
-    → w.wire p i ≡ x ∷ rest → step_take (nodes_at config i) (name_at config p) x (w.node i) ≡ Err NotAMessage → ⊥
-never_refused config w i p x rest harmless pair begins refused =
-    harmless.packets i p x.packet (packets_of rest) pair (ap packets_of begins)
-    (refused_so config (max (w.node i).clock x.stamp + 1) (node_takes (nodes_at config i) (name_at config p) x.packet (w.node i).state) refused)
-
 -- ---- who is welcome
 
-pub welcome_there : (config : Config) (w : TimedFrameWorld) (i p : ℕ) → HarmsNobody config (plain w) → is_pair (length config) i p ≡ true → IsWelcome config w i p
-welcome_there config w i p harmless pair x rest begins refused = never_refused config w i p x rest harmless pair begins refused
-
--- where nodes may be lost
 pub welcome_left : (config : Config) (w : TimedFrameWorld) (lost : List ℕ) (i p : ℕ)
     → ((packet : Noticed Message) (rest : List (Noticed Message)) → (plain (losing_of config w lost).world).wire p i ≡ packet ∷ rest
     → (losing_machine_of config).step i (w.node i).state (Taken p packet) ≢ None) → IsWelcome config w i p

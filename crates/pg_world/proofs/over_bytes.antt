@@ -6,4 +6,3 @@ pub mod Opened
 pub mod Past
 pub mod RunningOn
 pub mod Seen
-pub mod Unplaced

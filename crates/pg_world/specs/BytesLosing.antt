@@ -1,12 +1,12 @@
 -- Worlds over bytes whose nodes may be lost: the world with losses that they show, and what a step makes of it.
 use Rattle.std.specs.Prelude.{◌≡◌, ℕ, Bool, true, false, ◌||◌, cond, length, List, Option, Some, None, Result, Ok, Err}
 use Rattle.pg_world_packets.specs.PgStep.Machines.Places.{is_place, is_pair}
-use Rattle.pg_world_packets.specs.PgStep.Machines.Losing.{Lose}
+use Rattle.pg_world_packets.specs.PgStep.Machines.Losing.{LosingEvent, Lose}
 use Rattle.pg_world_packets.specs.PgStep.declared.refusal.Refusal.{Refusal}
 use Rattle.pg_world_packets.specs.PgStep.declared.refusal.Refusal.TheVariants.{NoSuchPlace, NodeLost, NotLost, NotDrained}
 use Rattle.pg_world_packets.specs.PgStep.Config.{Config}
 use Rattle.pg_world_packets.specs.PgStep.LossLaws.{LosingFrameWorld}
-use Rattle.pg_world_packets.specs.PgStep.Step.{Issue, Retry}
+use Rattle.pg_world_packets.specs.PgStep.Step.{Action, Issue, Retry}
 use Rattle.pg_world_packets.specs.PgLaws.WithLosses.{has_seen}
 use Rattle.pg_world_packets.specs.PgNodeState.declared.state.fault.NodeFault.{NodeFault}
 use Rattle.pg_world_packets.specs.PgNodeState.declared.state.fault.NodeFault.TheVariants.{Refused, OutOfMemory}
@@ -17,9 +17,10 @@ use Rattle.pg_world.specs.declared.step.Step.TheVariants as steps
 use Rattle.pg_world_packets.specs.declared.step.Stepped.{Stepped}
 use Rattle.pg_world_packets.specs.declared.step.Stepped.TheVariants.{Nothing, Moved, Gone}
 use Rattle.pg_world.specs.Crossings.{Crossing, ShowsBytesPast}
-use Rattle.pg_world_packets.specs.Losing.{SeenAreLost, Telling, is_told_first, losing_of, told_take}
+use Rattle.pg_world_packets.specs.Losing.{SeenAreLost, Telling, is_told_first, losing_of, told_of, told_take}
 use Rattle.pg_world_packets.specs.Losing.{told_own, told_sight, LosingLed, LosingComesTo}
 use Rattle.pg_world_packets.specs.PgWorldAccount.Histories.{Account}
+use Rattle.pg_world_packets.specs.Runs.{IsToldEvent}
 use Rattle.pg_world_packets.specs.Worlds.{TimedFrameWorld}
 
 -- ---- the world with losses that a world shows
@@ -99,3 +100,19 @@ StepLeaves config u (steps.Put x y max) result Shown = MoveLeaves (put_refusal c
 StepLeaves config u (steps.Pull y x max) result Shown = MoveLeaves (pull_refusal config u y x) result (Shown u)
 StepLeaves config u (steps.Event step) result Shown = EventLeaves config u step result Shown
 StepLeaves config u (steps.Lose i) result Shown = LossComesTo config u i result Shown
+
+-- ---- which events a step can be
+
+-- the loss of a node, whatever stays on the ways from it
+abbrev pub IsLossOf : ℕ → LosingEvent Action → Type 0
+IsLossOf i e = (keep : ℕ → ℕ) × (e ≡ Lose i keep)
+
+abbrev pub IsFrameEvent : Config → LosingFrameWorld → FrameStep → LosingEvent Action → Type 0
+IsFrameEvent config u (frames.Lose i keep) e = (gone_refusal config u i ≡ None) × IsLossOf i e
+IsFrameEvent config u step e = IsToldEvent (told_of config u step) e
+
+abbrev pub IsBytesEvent : Config → LosingFrameWorld → Step → LosingEvent Action → Type 0
+IsBytesEvent config u (steps.Put x y max) e = ⊥
+IsBytesEvent config u (steps.Pull y x max) e = ⊥
+IsBytesEvent config u (steps.Event step) e = IsFrameEvent config u step e
+IsBytesEvent config u (steps.Lose i) e = (gone_refusal config u i ≡ None) × IsLossOf i e

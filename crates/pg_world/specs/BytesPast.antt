@@ -11,8 +11,7 @@ use Rattle.pg_world_packets.specs.PgLawsLosses.Remains.Missed.{missed}
 use Rattle.pg_world_packets.specs.PgNodeState.declared.state.fault.NodeFault.{NodeFault}
 use Rattle.pg_world.specs.declared.step.Step.{Step}
 use Rattle.pg_world_packets.specs.declared.step.Stepped.{Stepped}
-use Rattle.pg_world.specs.BytesLosing.{ShowsLosingBytes, StepLeaves}
-use Rattle.pg_world.specs.BytesLosingRuns.{bytes_past_losses}
+use Rattle.pg_world.specs.BytesLosing.{IsBytesEvent, ShowsLosingBytes, StepLeaves}
 use Rattle.pg_world.specs.CrossingRuns.{CrossesAll}
 use Rattle.pg_world.specs.Crossings.{Crossing}
 use Rattle.pg_world_packets.specs.PgWorldAccount.Histories.{Account}
@@ -35,7 +34,8 @@ pub record BytesMissed (given : Config) (crossing : Crossing) (account : Account
 -- what a step made of them
 abbrev pub BytesGoOn : Config → Crossing → Account → List ℕ → Step → Result Stepped NodeFault → Crossing → Account → List ℕ → Type 0
 BytesGoOn given old account lost step result new later now =
-    PastGoesOn bytes_past_losses given (λ config u. ShowsLosingBytes config old account lost u) (λ config u. ShowsLosingBytes config new later now u) step result (λ config u Shown. StepLeaves config u step result Shown)
+    PastGoesOn (λ config u. IsBytesEvent config u step) given (λ config u. ShowsLosingBytes config old account lost u) (λ config u. ShowsLosingBytes config new later now u) result
+    (λ config u Shown. StepLeaves config u step result Shown)
 
 -- What steps made of them, one after another, where the rings have room for so many bytes: the numbers of the steps, and the events of those
 -- that happened, which led on from the world u to which the past led, and are the last of the past of what was left.

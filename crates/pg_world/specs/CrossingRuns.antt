@@ -12,8 +12,7 @@ use Rattle.pg_world_packets.specs.PgNodeState.declared.state.fault.NodeFault.{No
 use Rattle.pg_world.specs.declared.step.Step.{Step}
 use Rattle.pg_world_packets.specs.declared.step.Stepped.{Stepped}
 use Rattle.pg_world.specs.Bars.{RefusesBarred, StepTellsUndrained, bar_of}
-use Rattle.pg_world.specs.BytesLosing.{ShowsLosingBytes, StepLeaves}
-use Rattle.pg_world.specs.BytesLosingRuns.{IsBytesEvent}
+use Rattle.pg_world.specs.BytesLosing.{IsBytesEvent, ShowsLosingBytes, StepLeaves}
 use Rattle.pg_world_packets.specs.Losing.{IsReachedLosing}
 use Rattle.pg_world.specs.BytesStart.{OpensBytes}
 use Rattle.pg_world.specs.Changes.{StepChanges}

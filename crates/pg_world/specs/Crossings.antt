@@ -9,33 +9,31 @@ use Rattle.pg_world_packets.specs.PgMessageTypes.declared.message.Message.{Messa
 use Rattle.pg_world_packets.specs.PgMessageTypes.declared.packet.Packet.{Packet}
 use Rattle.pg_world_packets.specs.PgMessageTypes.Reading.{packet_spelled}
 use Rattle.pg_world_packets.specs.PgMessageTypes.Writing.{is_exchange, term_of_packet}
-use Rattle.pg_world_packets.specs.PgStep.Machines.Places.{is_place, is_pair}
+use Rattle.pg_world_packets.specs.PgStep.Machines.Places.{is_pair}
 use Rattle.pg_world_packets.specs.PgStep.Machines.Machine.{Event, Take, Do}
 use Rattle.pg_world_packets.specs.PgStep.Machines.Clocked.{Stamped}
 use Rattle.pg_world_packets.specs.PgFrame.Pieces.{Bytes, ArePackets, AreCut}
-use Rattle.pg_world_packets.specs.PgStep.declared.refusal.Refusal.TheVariants.{NoSuchPlace, NotAMessage}
+use Rattle.pg_world_packets.specs.PgStep.declared.refusal.Refusal.TheVariants.{NotAMessage}
 use Rattle.pg_world_packets.specs.PgStep.Config.{Config, name_at, nodes_at}
 use Rattle.pg_world_packets.specs.PgStep.FrameMachine.{frame_machine}
-use Rattle.pg_world_packets.specs.PgStep.Step.{Action, Issue, Retry, step_take}
+use Rattle.pg_world_packets.specs.PgStep.Step.{Action, step_take}
 use Rattle.pg_node.specs.declared.node.Node.{Node}
 use Rattle.pg_world_packets.specs.PgNodeState.declared.state.fault.NodeFault.{NodeFault}
 use Rattle.pg_world_packets.specs.PgNodeState.declared.state.fault.NodeFault.TheVariants.{Refused, OutOfMemory}
 use Rattle.pg_node.specs.Links.{Link, idle_link}
 use Rattle.pg_node.specs.Nodes.{held_by, links_of}
 use Rattle.pg_world.specs.declared.rings.Rings.{Rings}
-use Rattle.pg_world_packets.specs.declared.step.FrameStep.{FrameStep}
-use Rattle.pg_world_packets.specs.declared.step.FrameStep.TheVariants as frames
 use Rattle.pg_world.specs.declared.step.Step.{Step}
 use Rattle.pg_world.specs.declared.step.Step.TheVariants as steps
 use Rattle.pg_world_packets.specs.declared.step.Stepped.{Stepped}
-use Rattle.pg_world_packets.specs.declared.step.Stepped.TheVariants.{Nothing, Moved, Happened}
+use Rattle.pg_world_packets.specs.declared.step.Stepped.TheVariants.{Nothing, Happened}
 use Rattle.pg_world.specs.declared.bytes.ByteNodes.{ByteNodes}
 use Rattle.pg_world_packets.specs.PgWorldAccount.Losses.{is_lost}
 use Rattle.pg_world_packets.specs.PgWorldConfig.Seen.{Seen, seen_of}
 use Rattle.pg_world_packets.specs.Effects.{effect_in}
 use Rattle.pg_world_packets.specs.Views.{peer_place}
 use Rattle.pg_world_packets.specs.PgWorldAccount.Histories.{Account}
-use Rattle.pg_world_packets.specs.Worlds.{TimedFrameWorld, ShowsNodes, ShowsUpdates, EventLed, IsUnseen, is_loss, told_event}
+use Rattle.pg_world_packets.specs.Worlds.{TimedFrameWorld, ShowsNodes, ShowsUpdates, EventLed, is_loss, told_event}
 
 -- ---- a world as it is seen
 
@@ -148,37 +146,6 @@ EventComesTo config w e (Ok stepped) Shown = ⊥
 EventComesTo config w e (Err OutOfMemory) Shown = Shown w
 EventComesTo config w e (Err (Refused refusal)) Shown = (told_event config w e ≡ Some (Err refusal)) × Shown w
 EventComesTo config w e (Err fault) Shown = ⊥
-
--- What came of bytes that should move between two nodes: they moved, or memory ran out; or the nodes are not there. The world w
--- is shown.
-abbrev pub MoveComesTo : Config → ℕ → ℕ → Result Stepped NodeFault → Type 0 → Type 0
-MoveComesTo config x y (Ok (Moved count)) Shown = (is_pair (length config) x y ≡ true) × Shown
-MoveComesTo config x y (Ok stepped) Shown = ⊥
-MoveComesTo config x y (Err OutOfMemory) Shown = (is_pair (length config) x y ≡ true) × Shown
-MoveComesTo config x y (Err (Refused refusal)) Shown = (refusal ≡ NoSuchPlace) × (is_pair (length config) x y ≡ false) × Shown
-MoveComesTo config x y (Err fault) Shown = ⊥
-
--- What came of the loss of a node where none is lost: it is lost; or memory ran out, or it is not there, and the world w is shown.
-abbrev pub LossLeaves : Config → ℕ → Result Stepped NodeFault → Type 0 → Type 0
-LossLeaves config i (Ok stepped) Shown = Unit {0}
-LossLeaves config i (Err OutOfMemory) Shown = Shown
-LossLeaves config i (Err (Refused refusal)) Shown = (refusal ≡ NoSuchPlace) × (is_place (length config) i ≡ false) × Shown
-LossLeaves config i (Err fault) Shown = ⊥
-
--- What came of an event where no node is lost.
-abbrev pub FrameComesTo : Config → TimedFrameWorld → FrameStep → Result Stepped NodeFault → (TimedFrameWorld → Type 0) → Type 0
-FrameComesTo config w (frames.Take i p) result Shown = EventComesTo config w (Take i p) result Shown
-FrameComesTo config w (frames.Command i port command) result Shown = EventComesTo config w (Do i (Issue port command)) result Shown
-FrameComesTo config w (frames.Retry i op) result Shown = EventComesTo config w (Do i (Retry op)) result Shown
-FrameComesTo config w (frames.SeeLoss i p) result Shown = IsUnseen (is_pair (length config) i p) result × Shown w
-FrameComesTo config w (frames.Lose i keep) result Shown = LossLeaves config i result (Shown w)
-
--- What came of a step over bytes where no node is lost. What the loss of a node leaves is said where nodes may be lost.
-abbrev pub StepComesTo : Config → TimedFrameWorld → Step → Result Stepped NodeFault → (TimedFrameWorld → Type 0) → Type 0
-StepComesTo config w (steps.Put from to max) result Shown = MoveComesTo config from to result (Shown w)
-StepComesTo config w (steps.Pull to from max) result Shown = MoveComesTo config from to result (Shown w)
-StepComesTo config w (steps.Event step) result Shown = FrameComesTo config w step result Shown
-StepComesTo config w (steps.Lose node) result Shown = LossLeaves config node result (Shown w)
 
 -- a step by which a node is lost
 abbrev pub is_loss_in : Step → Bool

@@ -1,7 +1,6 @@
 pub mod Bars
 pub mod ByteWorlds
 pub mod BytesLosing
-pub mod BytesLosingRuns
 pub mod BytesPast
 pub mod BytesStart
 pub mod Changes

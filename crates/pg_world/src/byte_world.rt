@@ -75,8 +75,7 @@ impl<T: GroupTable + Drop> World<T> {
     ghost use Rattle.pg_node.specs.Nodes.{has_lost, held_by, links_of};
     ghost use Rattle.pg_world_packets.specs.PgNodeState.States.{names_of};
     ghost use Rattle.pg_world.specs.Changes.{StepChanges};
-    ghost use Rattle.pg_world.specs.Crossings.{node_of, ShowsCrossing, ShowsBytes, StepComesTo};
-    ghost use Rattle.pg_world_packets.specs.Worlds.{IsReached};
+    ghost use Rattle.pg_world.specs.Crossings.{node_of, ShowsCrossing};
     ghost use Rattle.pg_world_packets.specs.PgWorldAccount.Histories.{as_entry, last_entries};
     ghost use Rattle.pg_world_packets.specs.PgWorldAccount.Losses.{is_lost};
     ghost use Rattle.pg_world_packets.specs.Past.{HistoriesGrow};
@@ -206,18 +205,17 @@ impl<T: GroupTable + Drop> World<T> {
     /// more, and the last; bytes that move add none. Of all of them, and of the world to which they lead, everything
     /// holds that `LossesSurvived` says, and where no node is lost all that `OneHistory` says. Each history grows.
     ///
-    /// Whatever frame world the world shows, as events lead to it from the start of a configuration: an event that
-    /// happens is the event of the frame machine there, and the world shows what it leaves; bytes that move leave the
-    /// frame world as it is.
+    /// Whatever world of the machine with losses the world shows, as events lead to it from the start of a configuration: an event
+    /// that happens is its event there, and the world shows what it leaves; bytes that move leave it as it is. Where no node is
+    /// lost it is an event of the frame machine.
     ///
     /// Errors, which change nothing, the first that holds: `Refused` by `NoSuchPlace` where a node, a port or a peer
     /// is not there, or a node and its peer are one; those of `NodeState::take`, once the whole frame has come, and of
     /// `command` and `retry`, of which `NotAMessage` never comes; `OutOfMemory` may come in the place of each, but not of
     /// `NoSuchPlace`, `NodeLost`, `NotLost` or `NotDrained`. No link is ever damaged.
     ///
-    /// Where nodes are lost, the same holds of whatever world with losses the world shows, as events lead to it from
-    /// the start: a step is the event of the machine with losses. A step of a node that is lost, and a put from it,
-    /// is refused by `NodeLost`, after `NoSuchPlace`, and so is a pull or a take of a peer whose loss was seen.
+    /// A step of a node that is lost, and a put from it, is refused by `NodeLost`, after `NoSuchPlace`, and so is a pull or a take
+    /// of a peer whose loss was seen.
     /// `SeeLoss`: `NoSuchPlace`; `NodeLost`, also where it was seen before; `NotLost`; `NotDrained` where bytes of
     /// the peer are on the ring, or a whole frame of it has come; `ClockFull`. `Lose`: `NoSuchPlace`, `NodeLost`.
     ///
@@ -227,9 +225,6 @@ impl<T: GroupTable + Drop> World<T> {
         ensures goes_on { ∥ BytesGoOn (given_of self.old) (crossing_of self.old) (account_of self.old) (lost_of self.old) step.now result (crossing_of self.new) (account_of self.new) (lost_of self.new) ∥₁ }
         ensures grows { HistoriesGrow (account_of self.old) (account_of self.new) }
         ensures given { given_of self.new ≡ given_of self.old }
-        ensures came { (config : Configuration) (w : TimedFrameWorld) → lost_of self.old ≡ [] → IsReached config w
-            → ShowsBytes config (crossing_of self.old) (account_of self.old) w
-            → StepComesTo config w step.now result (ShowsBytes config (crossing_of self.new) (account_of self.new)) }
         ensures losing { (config : Configuration) (u : LosingFrameWorld) → IsReachedLosing config u
             → ShowsLosingBytes config (crossing_of self.old) (account_of self.old) (lost_of self.old) u
             → StepLeaves config u step.now result (ShowsLosingBytes config (crossing_of self.new) (account_of self.new) (lost_of self.new)) }

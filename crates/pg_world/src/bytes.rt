@@ -20,7 +20,7 @@ use pg_node::{Held, Node, NodeFault};
 use pg_world_packets::{
     Command, Effect, FrameStep, GroupTable, Histories, Losses, OpId, Packet, Refusal, Stepped,
     front_is_first_of_cut, front_is_first_packet, loss_cuts_packets, moving_keeps_packets,
-    no_packet_is_refused, nobody_is_harmed, peer_place, sending_adds_packets,
+    no_packet_is_refused, peer_place, sending_adds_packets,
 };
 pub use runs::run;
 use std::alloc::{AllocError, Global};
@@ -66,9 +66,7 @@ impl<T: GroupTable + Drop> ByteNodes<T> {
     ghost use Rattle.pg_world.specs.Changes.{is_harmless, spares, spares_links};
     ghost use Rattle.pg_world_packets.specs.PgFrame.Pieces.{ring_put, pull};
     ghost use Rattle.pg_world.specs.Crossings.{crossing_of, node_of, room_of, idle_crossing, link_at};
-    ghost use Rattle.pg_world.specs.Crossings.{bytes_at, IsWelcome, ShowsPast, ShowsBytes};
-    ghost use Rattle.pg_world.specs.Crossings.{ShowsBytesPast, EventComesTo, FrameComesTo, StepComesTo};
-    ghost use Rattle.pg_world_packets.specs.Worlds.{IsReached};
+    ghost use Rattle.pg_world.specs.Crossings.{bytes_at, IsWelcome, ShowsPast, ShowsBytesPast, EventComesTo};
 
     /// A world of these nodes, with an empty ring from each to each other, which has room for `ring` bytes, and where
     /// nothing has begun.
@@ -104,24 +102,19 @@ impl<T: GroupTable + Drop> ByteNodes<T> {
         self.nodes.get(place)
     }
 
-    /// Makes one step. Whatever frame world the world shows, as events lead to it from the start of a configuration:
-    /// an event that happens is the event of the frame machine there, and the world shows what it leaves; bytes that
-    /// move leave the frame world as it is.
+    /// Makes one step. Whatever world of the machine with losses the world shows, as events lead to it from the start of a
+    /// configuration: an event that happens is its event there, and the world shows what it leaves; bytes that move leave it as it is.
     ///
     /// Errors, which change nothing, the first that holds: `Refused` by `NoSuchPlace` where a node, a port or a peer
     /// is not there, or a node and its peer are one; those of `NodeState::take`, once the whole frame has come, and of
     /// `command` and `retry`, of which `NotAMessage` never comes; `OutOfMemory` may come in the place of each, but not of
     /// `NoSuchPlace`, `NodeLost`, `NotLost` or `NotDrained`. No link is ever damaged: none of the faults does that.
     ///
-    /// Where nodes are lost, the same holds of whatever world with losses the world shows, as events lead to it from
-    /// the start: a step is the event of the machine with losses. A step of a node that is lost, and a put from it,
-    /// is refused by `NodeLost`, after `NoSuchPlace`, and so is a pull or a take of a peer whose loss was seen.
+    /// A step of a node that is lost, and a put from it, is refused by `NodeLost`, after `NoSuchPlace`, and so is a pull or a take
+    /// of a peer whose loss was seen.
     /// `SeeLoss`: `NoSuchPlace`; `NodeLost`, also where it was seen before; `NotLost`; `NotDrained` where bytes of
     /// the peer are on the ring, or a whole frame of it has come; `ClockFull`. `Lose`: `NoSuchPlace`, `NodeLost`.
     pub(crate) fn step(&mut self, step: &Step) -> Result<Stepped, NodeFault>
-        ensures came { (config : Config) (w : TimedFrameWorld) → lost_in self.old.losses ≡ [] → IsReached config w
-            → ShowsBytes config (crossing_of self.old) (account_of self.old.histories) w
-            → StepComesTo config w step.now result (ShowsBytes config (crossing_of self.new) (account_of self.new.histories)) }
         ensures losing { (config : Config) (u : LosingFrameWorld) → IsReachedLosing config u
             → ShowsLosingBytes config (crossing_of self.old) (account_of self.old.histories) (lost_in self.old.losses) u
             → StepLeaves config u step.now result (ShowsLosingBytes config (crossing_of self.new) (account_of self.new.histories) (lost_in self.new.losses)) }
@@ -226,9 +219,6 @@ impl<T: GroupTable + Drop> ByteNodes<T> {
 
     /// An event.
     fn event(&mut self, event: &FrameStep) -> Result<Stepped, NodeFault>
-        ensures came { (config : Config) (w : TimedFrameWorld) → lost_in self.old.losses ≡ [] → IsReached config w
-            → ShowsBytes config (crossing_of self.old) (account_of self.old.histories) w
-            → FrameComesTo config w event.now result (ShowsBytes config (crossing_of self.new) (account_of self.new.histories)) }
         ensures losing { (config : Config) (u : LosingFrameWorld) → IsReachedLosing config u
             → ShowsLosingBytes config (crossing_of self.old) (account_of self.old.histories) (lost_in self.old.losses) u
             → EventLeaves config u event.now result (ShowsLosingBytes config (crossing_of self.new) (account_of self.new.histories) (lost_in self.new.losses)) }
@@ -242,7 +232,6 @@ impl<T: GroupTable + Drop> ByteNodes<T> {
             ≡ formed_after event.now result (crossing_of self.old).nodes (lost_in self.old.losses) self.old.histories.formed }
         ensures room { room_of self.new ≡ room_of self.old }
     {
-        nobody_is_harmed();
         no_packet_is_refused();
         if !self.has_places(event) {
             return Err(NodeFault::Refused(Refusal::NoSuchPlace));

@@ -24,7 +24,7 @@ pub use pg_world_packets::{
     first_packets_were_welcome, frame_into, long_groups_do_not_fit, losing_nodes_keep_time,
     no_loss_is_seen, nodes_keep_time, nodes_that_heard_the_lost_agree, one_history,
     orders_keep_tables, packet_len, pending_ends_are_listed, pieces_continue, refusals_are_exact,
-    run_frames, same_group, same_groups, which_groups, write_frame, write_packet_into,
-    written_is_read,
+    run_frames, same_group, same_groups, steps_without_losses_lose_nobody, which_groups,
+    write_frame, write_packet_into, written_is_read,
 };
 pub use step::Step;

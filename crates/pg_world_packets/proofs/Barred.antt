@@ -183,7 +183,7 @@ made_unrefused : (config : Config) (r : Result TimedTurn Refusal) (turn : Turn (
 made_unrefused config (Ok t) turn made = refl
 made_unrefused config (Err refusal) turn made = absurd (cc)
 
-taken_unrefused : (config : Config) (i p : ℕ) (s : Timed State) (xs : List (Stamped Message)) (more : List (Stamped (Noticed Message))) (input : Input (Stamped Message) Action)
+pub taken_unrefused : (config : Config) (i p : ℕ) (s : Timed State) (xs : List (Stamped Message)) (more : List (Stamped (Noticed Message))) (input : Input (Stamped Message) Action)
     (turn : Turn (Timed State) (Stamped Message) Report) → first_from p xs ≡ Some input → (frame_machine config).step i s input ≡ Some turn
     → first_refusal (nodes_at config i) (name_at config p) s (map sent_packet xs ++ more) ≡ None
 taken_unrefused config i p s [] more input turn given made = absurd (cc)
@@ -192,7 +192,7 @@ taken_unrefused config i p s (x ∷ xs) more input turn given made =
     made_unrefused config (step_take (nodes_at config i) (name_at config p) x s) turn
     (sym (same_step config (max s.clock x.stamp + 1) (node_takes (nodes_at config i) (name_at config p) x.packet s.state)) ∙ (ap ((frame_machine config).step i s) same ∙ made))
 
-own_unrefused : (config : Config) (i : ℕ) (action : Action) (s : Timed State) (input : Input (Stamped Message) Action) (turn : Turn (Timed State) (Stamped Message) Report)
+pub own_unrefused : (config : Config) (i : ℕ) (action : Action) (s : Timed State) (input : Input (Stamped Message) Action) (turn : Turn (Timed State) (Stamped Message) Report)
     → Own action ≡ input → (frame_machine config).step i s input ≡ Some turn → refusal_of (step_act (nodes_at config i) (ports_at config i) action s) ≡ None
 own_unrefused config i action s input turn same made =
     made_unrefused config (step_act (nodes_at config i) (ports_at config i) action s) turn
@@ -206,7 +206,7 @@ only_notices m p s last [] false e = (refl, refl)
 only_notices m p s last (x ∷ xs) b e = absurd (cc)
 
 -- a packet that is taken was on the way
-taken_sent : (p : ℕ) (xs : List (Stamped Message)) (more : List (Stamped (Noticed Message))) (input : Input (Stamped Message) Action)
+pub taken_sent : (p : ℕ) (xs : List (Stamped Message)) (more : List (Stamped (Noticed Message))) (input : Input (Stamped Message) Action)
     → first_from p xs ≡ Some input → none_sent (map sent_packet xs ++ more) ≡ false
 taken_sent p [] more input e = absurd (cc)
 taken_sent p (x ∷ xs) more input e = refl

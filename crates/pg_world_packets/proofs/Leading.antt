@@ -15,7 +15,7 @@ use Rattle.pg_node_state.specs.PgStep.Machines.Clocked.{Timed, plain}
 use Rattle.pg_node_state.specs.PgStep.Machines.Losing.{LosingEvent, Step, Lose, LosingLeads}
 use Rattle.pg_node_state.specs.PgStep.Machines.Losing.{losing_happens, nobody_gone, all_steps}
 use Rattle.pg_node_state.specs.PgStep.Machines.Machine.{start_of}
-use Rattle.pg_node_state.specs.PgStep.Machines.Places.{is_pair, is_place}
+use Rattle.pg_node_state.specs.PgStep.Machines.Places.{is_place}
 use Rattle.pg_node_state.specs.PgStep.Config.{Config, names_of, nodes_at}
 use Rattle.pg_node_state.specs.PgStep.FrameMachine.{losing_frame_machine, last_notice}
 use Rattle.pg_node_state.specs.PgStep.LossLaws.{LosingFrameWorld}
@@ -37,24 +37,23 @@ use Rattle.pg_node_state.specs.declared.state.fault.NodeFault.TheVariants.{Messa
 use Rattle.pg_world_packets.specs.declared.step.FrameStep.{FrameStep}
 use Rattle.pg_world_packets.specs.declared.step.Stepped.{Stepped}
 use Rattle.pg_world_packets.specs.declared.step.Stepped.TheVariants.{Happened, Moved, Nothing, Gone}
-use Rattle.pg_world_packets.specs.Losing.{Telling, LosingComesTo, SeenAreLost, ShowsLosing, formed_after, losing_of, seen_at, told_of}
-use Rattle.pg_world_packets.specs.LosingRuns.{LosingKind, LosingGoesTo, IsToldEvent, packets_past_losses}
+use Rattle.pg_world_packets.specs.Losing.{Telling, LosingComesTo, ShowsLosing, formed_after, losing_of, told_of}
+use Rattle.pg_world_packets.specs.Runs.{GoesTo, IsToldEvent}
 use Rattle.pg_world_account.specs.Losses.{is_lost}
 use Rattle.pg_world_packets.specs.Past.{Adds, HasHeadline, IsPast, HasPast, LedOn, PastGoesOn, FramesHavePast}
-use Rattle.pg_world_packets.specs.Past.{FormedFirst, FramesGoOn, FramesRunOn, HistoriesGrow, MissedInRun, RunsOn, missed_in}
+use Rattle.pg_world_packets.specs.Past.{FormedFirst, FramesGoOn, FramesRunOn, HistoriesGrow, MissedInRun, RanFrames, missed_in}
 use Rattle.pg_world_packets.specs.Pending.{AgreeOn, has_formed, pending_of, sees_free}
 use Rattle.pg_world_packets.specs.Starts.{Begins, Orders}
 use Rattle.pg_world_config.specs.Seen.{Seen}
 use Rattle.pg_world_packets.specs.Views.{View}
 use Rattle.pg_world_account.specs.Histories.{Account}
-use Rattle.pg_world_packets.specs.Worlds.{TimedFrameWorld, ShowsWorld, ShowsNodes, ShowsUpdates}
+use Rattle.pg_world_packets.specs.Worlds.{TimedFrameWorld, ShowsNodes, ShowsUpdates}
 use Rattle.pg_world_packets.proofs.AtLosses.{ToldBehind, lost_here, none_told, told_more, told_same}
 use Rattle.pg_world_packets.proofs.FormedSeen.{ToldOf, told_frames}
-use Rattle.pg_world_packets.proofs.Barred.{pair_here, seen_is}
 use Rattle.pg_world_packets.proofs.Ordered.{ordered_length}
 use Rattle.pg_laws_losses.specs.Remains.Missed.{missed}
 use Rattle.pg_world_packets.proofs.MissedSeen.{missed_is}
-use Rattle.pg_world_packets.proofs.LosingRunning.{start_shown, losing_leads}
+use Rattle.pg_world_packets.proofs.Running.{leads, start_shown}
 
 -- ---- events of which none is a loss
 
@@ -144,20 +143,20 @@ module _ (given : Config) (New : Config → LosingFrameWorld → Type 0) (apart 
     past = past_next config events u v e orders reached happened shows;
   }
 
-  module _ {S : Type 0} (kind : LosingKind S) (step : S) (result : Result Stepped NodeFault) (was now : Bool) (Old : Config → LosingFrameWorld → Type 0)
+  module _ (Is : Config → LosingFrameWorld → LosingEvent Action → Type 0) (result : Result Stepped NodeFault) (was now : Bool) (Old : Config → LosingFrameWorld → Type 0)
       (Comes : Config → LosingFrameWorld → (LosingFrameWorld → Type 0) → Type 0)
       -- what comes of a step leads to near worlds
       (mapped : (config : Config) (u : LosingFrameWorld) → Old config u → (((x : ℕ) → u.gone x ≡ false) → (k : ℕ) → NoneLost (u.world.node k).state)
-      → (P Q : LosingFrameWorld → Type 0) → ((v : LosingFrameWorld) → NearBy config (Adds (kind.Is config u step) result) was now u v → P v → Q v) → Comes config u P → Comes config u Q) where
+      → (P Q : LosingFrameWorld → Type 0) → ((v : LosingFrameWorld) → NearBy config (Adds (Is config u) result) was now u v → P v → Q v) → Comes config u P → Comes config u Q) where
     pub goes_on : HasPast given was Old → ((config : Config) (u : LosingFrameWorld) (events : List (LosingEvent Action)) → LosingReaches config events u → Old config u → Comes config u (New config))
-        → PastGoesOn kind given Old New step result Comes
+        → PastGoesOn Is given Old New result Comes
     goes_on past came = record {
       config = past.config;
       events = past.events;
       u = past.u;
       past = past.is;
-      comes = mapped past.config past.u past.is.shows (none_seen past.config past.events past.u past.is.reached) (New past.config) (LedOn given New (Adds (kind.Is past.config past.u step) result) past.config past.events past.u)
-          (λ v near shows. led_near (Adds (kind.Is past.config past.u step) result) was now past.config past.events past.u v past.is.orders past.is.reached near shows)
+      comes = mapped past.config past.u past.is.shows (none_seen past.config past.events past.u past.is.reached) (New past.config) (LedOn given New (Adds (Is past.config past.u) result) past.config past.events past.u)
+          (λ v near shows. led_near (Adds (Is past.config past.u) result) was now past.config past.events past.u v past.is.orders past.is.reached near shows)
           (came past.config past.u past.events past.is.reached past.is.shows);
     }
 
@@ -165,7 +164,7 @@ module _ (given : Config) (New : Config → LosingFrameWorld → Type 0) (apart 
     pub past_after : ((config : Config) (u : LosingFrameWorld) (Q : LosingFrameWorld → Type 0) → Comes config u Q → (v : LosingFrameWorld) × Q v) → HasPast given was Old
         → ((config : Config) (u : LosingFrameWorld) (events : List (LosingEvent Action)) → LosingReaches config events u → Old config u → Comes config u (New config)) → HasPast given now New
     past_after some past came =
-        let Q = λ (v : LosingFrameWorld). NearBy config (Adds (kind.Is config u step) result) was now u v × New config v in
+        let Q = λ (v : LosingFrameWorld). NearBy config (Adds (Is config u) result) was now u v × New config v in
         let led = some config u Q (mapped config u past.is.shows (none_seen config events u past.is.reached) (New config) Q (λ v near shows. (near, shows)) (came config u events past.is.reached past.is.shows)) in
         go led.0 led.1.0 led.1.1
       where
@@ -178,7 +177,7 @@ module _ (given : Config) (New : Config → LosingFrameWorld → Type 0) (apart 
         u : LosingFrameWorld
         u = past.u
 
-        go : (v : LosingFrameWorld) → NearBy config (Adds (kind.Is config u step) result) was now u v → New config v → HasPast given now New
+        go : (v : LosingFrameWorld) → NearBy config (Adds (Is config u) result) was now u v → New config v → HasPast given now New
         go v (Here same told) shows = record {
           config = config;
           events = events ++ [];
@@ -195,25 +194,6 @@ module _ (given : Config) (New : Config → LosingFrameWorld → Type 0) (apart 
           at_losses = told_more config events u past.is.reached e was now told.0 past.at_losses;
           few = past.few;
         }
-
--- steps, one after another
-pub runs_on : {S : Type 0} (kind : LosingKind S) (given : Config) (Old New : Config → LosingFrameWorld → Type 0) (all : List S) (numbers : List ℕ) → AreApart New → Survive → (was : Bool) → HasPast given was Old
-    → ((config : Config) (u : LosingFrameWorld) (events : List (LosingEvent Action)) → LosingReaches config events u → Old config u → LosingGoesTo kind config u all numbers (New config))
-    → RunsOn kind given Old New all numbers
-runs_on kind given Old New all numbers apart survive was past came =
-    let start = nobody_gone (start_of (losing_frame_machine past.config)) in
-    let goes = came past.config past.u past.events past.is.reached past.is.shows in
-    let led = losing_leads kind past.config all numbers past.u goes.left goes.events goes.runs in
-    record {
-      config = past.config;
-      events = past.events;
-      u = past.u;
-      past = past.is;
-      more = goes.events;
-      v = goes.left;
-      runs = goes.runs;
-      later = past_of given New apart survive past.config (past.events ++ goes.events) goes.left past.is.orders (leads_on past.config past.events goes.events start past.u goes.left past.is.reached led) goes.shown;
-    }
 
 -- ---- over packets
 
@@ -267,6 +247,9 @@ module _ (given : Config) (survive : Survive) (old : View) (lost : List ℕ) (st
   abbrev Before : Config → LosingFrameWorld → Type 0
   Before config u = ShowsLosing config old lost u
 
+  abbrev IsEvent : Config → LosingFrameWorld → LosingEvent Action → Type 0
+  IsEvent config u e = IsToldEvent (told_of config u step) e
+
   onward_from : (config : Config) (u : LosingFrameWorld) → Before config u → (((x : ℕ) → u.gone x ≡ false) → (k : ℕ) → NoneLost (u.world.node k).state)
       → (P Q : LosingFrameWorld → Type 0) → ((v : LosingFrameWorld) → NearBy config (Adds (IsToldEvent (told_of config u step)) result) old.account.formed new.account.formed u v → P v → Q v) → Comes config u P → Comes config u Q
   onward_from config u shows seen P Q onward comes =
@@ -278,18 +261,48 @@ module _ (given : Config) (survive : Survive) (old : View) (lost : List ℕ) (st
       (told_frames config old.traffic.nodes lost shows.frames u shows.shows.traffic.nodes shows.is seen P old.account.formed new.account.formed step result told comes)) comes
 
   pub frames_go_on : FramesHavePast given old lost → FramesGoOn given old lost step result new now
-  frames_go_on past = goes_on given After apart survive packets_past_losses step result old.account.formed new.account.formed Before Comes onward_from past (λ config u events reached shows. came config u shows)
+  frames_go_on past = goes_on given After apart survive IsEvent result old.account.formed new.account.formed Before Comes onward_from past (λ config u events reached shows. came config u shows)
 
   pub frames_past : FramesHavePast given old lost → FramesHavePast given new now
-  frames_past past = past_after given After apart survive packets_past_losses step result old.account.formed new.account.formed Before Comes onward_from
+  frames_past past = past_after given After apart survive IsEvent result old.account.formed new.account.formed Before Comes onward_from
       (λ config u Q comes. some_comes config u (told_of config u step) Q result comes) past (λ config u events reached shows. came config u shows)
 
+-- steps, one after another
 pub frames_run_on : (given : Config) → Survive → (old : View) (lost : List ℕ) (all : List FrameStep) (numbers : List ℕ) (new : View) (now : List ℕ)
-    → ((config : Config) (u : LosingFrameWorld) → ShowsLosing config old lost u → LosingGoesTo packets_past_losses config u all numbers (ShowsLosing config new now))
+    → ((config : Config) (u : LosingFrameWorld) → ShowsLosing config old lost u → GoesTo config u all numbers (ShowsLosing config new now))
     → FramesHavePast given old lost → FramesRunOn given old lost all numbers new now
 frames_run_on given survive old lost all numbers new now came past =
-    runs_on packets_past_losses given (λ config u. ShowsLosing config old lost u) (λ config u. ShowsLosing config new now u) all numbers (λ config u shows. shows.shows.traffic.nodes.apart) survive old.account.formed past
-    (λ config u events reached shows. came config u shows)
+    let start = nobody_gone (start_of (losing_frame_machine past.config)) in
+    let goes = came past.config past.u past.is.shows in
+    let led = leads past.config all numbers past.u goes.left goes.events goes.runs in
+    record {
+      config = past.config;
+      events = past.events;
+      u = past.u;
+      past = past.is;
+      more = goes.events;
+      v = goes.left;
+      runs = goes.runs;
+      later = past_of given (λ config u. ShowsLosing config new now u) (λ config u shows. shows.shows.traffic.nodes.apart) survive past.config (past.events ++ goes.events) goes.left past.is.orders
+          (leads_on past.config past.events goes.events start past.u goes.left past.is.reached led) goes.shown;
+    }
+
+-- a run from the start of a configuration
+pub frames_ran : Survive → (given : Config) (before : View) (all : List FrameStep) (numbers : List ℕ) (new : View) (now : List ℕ) → Begins given before
+    → ((config : Config) (u : LosingFrameWorld) → ShowsLosing config before [] u → GoesTo config u all numbers (ShowsLosing config new now))
+    → RanFrames given all numbers (λ config. ShowsLosing config new now)
+frames_ran survive given before all numbers new now begins came =
+    let config = begins.0 in
+    let start = nobody_gone (start_of (losing_frame_machine config)) in
+    let goes = came config start (start_shown config before begins.2) in
+    record {
+      config = config;
+      events = goes.events;
+      u = goes.left;
+      runs = goes.runs;
+      past = past_of given (λ c u. ShowsLosing c new now u) (λ c u shows. shows.shows.traffic.nodes.apart) survive config goes.events goes.left begins.1
+          (leads config all numbers start goes.left goes.events goes.runs) goes.shown;
+    }
 
 -- the start of a configuration
 pub frames_begin : (survive : Survive) (given : Config) (view : View) (lost : List ℕ) → lost ≡ [] → view.account.formed ≡ true → length given ≤ 16 → Begins given view → FramesHavePast given view lost
@@ -379,7 +392,7 @@ step_grows given old new lost now step result goes =
 pub run_grows : (given : Config) (old new : View) (lost now : List ℕ) (all : List FrameStep) (numbers : List ℕ) → FramesRunOn given old lost all numbers new now → HistoriesGrow old.account new.account
 run_grows given old new lost now all numbers ran =
     histories_grow ran.config old.account new.account ran.u ran.v ran.more (shown_history ran.config old lost ran.u ran.past.shows) (shown_history ran.config new now ran.v ran.later.shows)
-    (losing_leads packets_past_losses ran.config all numbers ran.u ran.v ran.more ran.runs)
+    (leads ran.config all numbers ran.u ran.v ran.more ran.runs)
 
 pub applied_all : (given : Config) (view : View) (lost : List ℕ) (x : ℕ) (node : Seen) (name : Term) → FramesHavePast given view lost → lost ≡ [] → slice_get view.traffic.nodes x ≡ Some node → node.state.state.locks name ≡ None
     → x < length view.traffic.nodes → (i : ℕ) → i < length view.traffic.nodes → view.account.applied i name ≡ length (view.account.histories name)
@@ -418,13 +431,3 @@ frames_missed given view lost i name within lives entries told past = record {
 
 pub frames_formed : (given : Config) (view : View) (lost : List ℕ) (formed : Bool) → formed ≡ view.account.formed → FramesHavePast given view lost → FormedFirst given view lost formed
 frames_formed given view lost formed told past = record { past = past; is = (λ e. past.at_losses.0 (sym told ∙ e), λ all. told ∙ past.at_losses.1 all) }
-
--- where no node is lost, whatever world is shown knows of no loss
-pub unseen_there : (given : Config) (view : View) (lost : List ℕ) → lost ≡ [] → FramesHavePast given view lost → (config : Config) (w : TimedFrameWorld) → ShowsWorld config view w → SeenAreLost config w []
-unseen_there given view lost none past config w shows i p pair has =
-    let old = past.is.shows in
-    let nodes = view.traffic.nodes in
-    let here : is_pair (length nodes) i p ≡ true = pair_here config nodes w lost shows.traffic.nodes i p ∙ pair in
-    let there : is_pair (length past.config) i p ≡ true = sym (pair_here past.config nodes old.frames lost old.shows.traffic.nodes i p) ∙ here in
-    let seen : seen_at nodes i p ≡ true = seen_is config nodes w lost shows.traffic.nodes i p pair ∙ has in
-    subst (λ (l : List ℕ). is_lost l p ≡ true) none (old.seen i p there (sym (seen_is past.config nodes old.frames lost old.shows.traffic.nodes i p there) ∙ seen))

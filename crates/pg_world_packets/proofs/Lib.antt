@@ -10,7 +10,6 @@ pub mod FormedSeen
 pub mod Leading
 pub mod Listed
 mod LongGroups
-pub mod LosingRunning
 pub mod Lossy
 mod Messages
 pub mod MissedSeen
@@ -34,7 +33,7 @@ pub mod Starting
 pub mod Stopped
 mod Taking
 pub mod Turning
-pub mod Unplaced
+pub mod Unlost
 pub mod Viewing
 pub use Rattle.pg_world_config.proofs as PgWorldConfig
 pub use Rattle.pg_node_state.proofs.PgFrame

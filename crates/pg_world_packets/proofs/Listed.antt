@@ -36,7 +36,7 @@ use Rattle.pg_world_packets.specs.Pending.{IsPending, has_end, is_pending, is_un
 use Rattle.pg_world_packets.specs.Pending.{live_states, own_of, pending_among, pending_at, pending_of}
 use Rattle.pg_world_config.specs.Seen.{Seen, seen_of}
 use Rattle.pg_world_packets.specs.Worlds.{ShowsNodes, TimedFrameWorld}
-use Rattle.pg_world_packets.proofs.LosingRunning.{start_is}
+use Rattle.pg_world_packets.proofs.Running.{start_is}
 use Rattle.pg_world_packets.proofs.Lossy.{lifted}
 
 -- ---- elements

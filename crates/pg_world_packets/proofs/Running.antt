@@ -1,23 +1,25 @@
 -- Steps that are made one after another.
-use Rattle.std.proofs.Common.{◌≡◌, ℕ, ◌+◌, ◌<◌, List, [], ◌∷◌, ◌++◌, Ok, Err, Result}
-use Rattle.std.proofs.Common.{take, length, get_or, refl, sym, ap, ◌∙◌, inl, inr, subst}
-use Rattle.std.specs.Prelude.{slice_set, ◌-◌, not, ◌&&◌, nat_eq, Bool, true, false, Some, None}
-use Rattle.std.specs.List.{IsDistinct, AllPass}
+use Rattle.std.proofs.Common.{◌≡◌, ℕ, suc, ◌+◌, ◌<◌, Bool, true, false, List, [], ◌∷◌, ◌++◌, map, Option, Some}
+use Rattle.std.proofs.Common.{None, Ok, Err, Result, take, length, get_or, refl, sym, ap, ◌∙◌, inl, inr, subst, arith}
+use Rattle.std.specs.Prelude.{slice_set, cond, not, option_map}
+use Rattle.std.specs.List.{AllPass}
 use Rattle.std.specs.Option.{option_map_or}
-use Rattle.std.proofs.lemmas.List.{take_more, take_more_set}
+use Rattle.std.proofs.Math.Path.{fun_ext}
 use Rattle.std.proofs.Math.Seq.{take-length}
-use Rattle.pg_node_state.specs.PgStep.Machines.Machine.{Event, Take, Do, happens, start_of}
-use Rattle.pg_node_state.specs.PgStep.Machines.Clocked.{plain}
-use Rattle.pg_node_state.specs.PgStep.Machines.Runs.{Leads}
-use Rattle.pg_node_state.specs.PgStep.Config.{Config, names_of}
-use Rattle.pg_node_state.specs.PgStep.Machines.Places.{is_place, is_pair}
-use Rattle.pg_node_state.specs.PgStep.Faults.{first_that_holds, refusal_number_of}
-use Rattle.pg_node_state.specs.PgStep.FrameMachine.{frame_machine}
+use Rattle.std.proofs.lemmas.List.{append-nil, take_more, take_more_set}
+use Rattle.pg_node_state.specs.PgMessageTypes.declared.message.Message.{Message}
+use Rattle.pg_node_state.specs.PgStep.Machines.Clocked.{Stamped, TimedWorld, stamped}
+use Rattle.pg_node_state.specs.PgStep.Machines.Losing.{Noticed, Sent, LosingEvent, Step, LosingLeads, losing_happens, nobody_gone}
+use Rattle.pg_node_state.specs.PgStep.Machines.Machine.{Event, Take, Do, happens, node_of, start_of}
+use Rattle.pg_node_state.specs.PgStep.Config.{Config}
+use Rattle.pg_node_state.specs.PgStep.Faults.{refusal_number_of}
+use Rattle.pg_node_state.specs.PgStep.FrameMachine.{machine_of, frame_machine, losing_frame_machine, last_notice, sent_packet}
+use Rattle.pg_node_state.specs.PgStep.LossLaws.{LosingFrameWorld}
+use Rattle.pg_node_state.specs.PgStep.State.{State}
 use Rattle.pg_node_state.specs.PgStep.Step.{Action, Issue, Retry}
-use Rattle.pg_term.specs.Same.{same_atom}
-use Rattle.pg_laws_losses.specs.PgLaws.Headline.{OneHistory}
-use Rattle.pg_laws_losses.specs.PgLaws.Reached.{Reaches}
-use Rattle.pg_node_state.specs.PgStep.declared.refusal.Refusal.TheVariants.{NoSuchPlace, NodeLost}
+use Rattle.pg_node_state.specs.PgStep.Turns.{Report}
+use Rattle.pg_node_state.specs.PgStep.declared.refusal.Refusal.{Refusal}
+use Rattle.pg_node_state.proofs.PgStep.Machines.Options.{some_is}
 use Rattle.pg_node_state.specs.NodeFault.{node_number_of}
 use Rattle.pg_node_state.specs.declared.state.fault.NodeFault.{NodeFault}
 use Rattle.pg_node_state.specs.declared.state.fault.NodeFault.TheVariants.{Refused, OutOfMemory}
@@ -26,14 +28,44 @@ use Rattle.pg_world_packets.specs.declared.step.FrameStep.{FrameStep}
 use Rattle.pg_world_packets.specs.declared.step.FrameStep.TheVariants as frames
 use Rattle.pg_world_packets.specs.declared.step.Stepped.{Stepped}
 use Rattle.pg_world_packets.specs.declared.step.Stepped.TheVariants.{Happened, Moved, Nothing, Gone}
-use Rattle.pg_world_packets.specs.Worlds.{IsReached}
-use Rattle.pg_world_packets.specs.Losing.{can_stay, is_told_first, lost_after, losing_of, told_loss, told_of, LosingComesTo}
-use Rattle.pg_node_state.specs.PgStep.LossLaws.{LosingFrameWorld}
+use Rattle.pg_world_packets.specs.Losing.{IsReachedLosing, LosingComesTo, ShowsLosing, Telling, losing_of, lost_after, notices, told_of}
+use Rattle.pg_world_packets.specs.Runs.{GoesTo, LosesNone, RunsTo, StepsTo}
 use Rattle.pg_world_packets.specs.Views.{View}
-use Rattle.pg_world_packets.specs.Worlds.{TimedFrameWorld, ShowsWorld, ComesTo, IsUnseen, StepComesTo, is_loss, event_of}
-use Rattle.pg_world_packets.specs.Runs.{Kind, over_packets, IsTold, ChangesNothing, IsUnlost}
-use Rattle.pg_world_packets.specs.Runs.{SeesNone, number_told, StepsTo, RunsTo, GoesTo, Ran}
-use Rattle.pg_world_packets.specs.Starts.{Orders}
+use Rattle.pg_world_packets.specs.Worlds.{TimedFrameWorld, ShowsWorld, is_loss}
+use Rattle.pg_world_packets.proofs.Lossy.{no_notice}
+
+-- ---- the start
+
+sent_stamped : (clock : ℕ) (xs : List Message) → ◌≡◌ {A = List (Stamped (Noticed Message))} (stamped clock (map Sent xs)) (map sent_packet (stamped clock xs))
+sent_stamped clock [] = refl
+sent_stamped clock (x ∷ xs) = ap (λ (ys : List (Stamped (Noticed Message))). record { stamp = clock; packet = Sent x } ∷ ys) (sent_stamped clock xs)
+
+-- nobody is lost at the start, and no notice is on the way
+pub start_is : (config : Config) → nobody_gone (start_of (losing_frame_machine config)) ≡ losing_of config (start_of (frame_machine config)) []
+start_is config = λ j. record {
+  world = record { node = (frame_machine config).first; wire = (fun_ext (λ x. fun_ext (wires x))) j; reported = [] };
+  gone = λ i. false;
+}
+  where
+    start : TimedFrameWorld
+    start = start_of (frame_machine config)
+
+    wires : (x y : ℕ) → (losing_frame_machine config).opening x y ≡ map sent_packet (start.wire x y) ++ notices config start [] x y
+    wires x y =
+        sent_stamped 0 ((machine_of config).opening x y)
+        ∙ sym (append-nil (map sent_packet (start.wire x y)))
+        ∙ ap (λ (ns : List (Stamped (Noticed Message))). map sent_packet (start.wire x y) ++ ns) (sym (no_notice config start [] x y refl))
+
+-- a world that shows the start of the nodes shows that of nodes that may be lost
+pub start_shown : (config : Config) (view : View) → ShowsWorld config view (start_of (frame_machine config)) → ShowsLosing config view [] (nobody_gone (start_of (losing_frame_machine config)))
+start_shown config view shows = record {
+  frames = start_of (frame_machine config);
+  shows = shows;
+  seen = λ i p pair saw. let no : false ≡ true = saw in absurd (cc);
+  is = start_is config;
+}
+
+-- ---- losses
 
 -- a step of some of which none is a loss is none
 pub passes_at : {S : Type 0} (loses : S → Bool) (steps : List S) (k : ℕ) (s : S) → k < length steps → s ≡ get_or steps k s → AllPass (λ x. not (loses x)) steps → loses s ≡ false
@@ -51,42 +83,62 @@ none_more (frames.Retry i op) result lost keeps = refl
 none_more (frames.SeeLoss i p) result lost keeps = refl
 none_more (frames.Lose i keep) result lost keeps = absurd (cc)
 
--- who is lost is one at least
-pub one_at_least : (i : ℕ) (xs : List ℕ) → xs ++ i ∷ [] ≡ [] → ⊥
-one_at_least i [] e = absurd (cc)
-one_at_least i (x ∷ xs) e = absurd (cc)
+-- an event of a node loses nobody
+gone_stays : (config : Config) (u v : LosingFrameWorld) (e : Event Action) → losing_happens (losing_frame_machine config) last_notice u (Step e) ≡ Some v → v.gone ≡ u.gone
+unfolding losing_happens
+gone_stays config u v e h = go (u.gone (node_of e)) (happens (losing_frame_machine config) u.world e) h
+  where
+    go : (b : Bool) (o : Option (TimedWorld State (Noticed Message) Report)) → cond b None (option_map (λ (w : TimedWorld State (Noticed Message) Report). record { world = w; gone = u.gone }) o) ≡ Some v → v.gone ≡ u.gone
+    go true o is = absurd (cc)
+    go false None is = absurd (cc)
+    go false (Some w) is = sym (ap (λ (x : LosingFrameWorld). x.gone) (some_is is))
 
--- none was lost before a step behind which none is
-pub none_before : (step : FrameStep) (result : Result Stepped NodeFault) (lost : List ℕ) → lost_after step result lost ≡ [] → lost ≡ []
-none_before (frames.Take i p) result lost none = none
-none_before (frames.Command i port c) result lost none = none
-none_before (frames.Retry i op) result lost none = none
-none_before (frames.SeeLoss i p) result lost none = none
-none_before (frames.Lose i keep) (Ok stepped) lost none = absurd (one_at_least i lost none)
-none_before (frames.Lose i keep) (Err fault) lost none = none
+-- so does a step that is no loss
+step_stays : (config : Config) (u v w : LosingFrameWorld) (step : FrameStep) (e : LosingEvent Action) → not (is_loss step) ≡ true → e ≡ (told_of config w step).event
+    → losing_happens (losing_frame_machine config) last_notice u e ≡ Some v → v.gone ≡ u.gone
+step_stays config u v w (frames.Take i p) e none is happened = gone_stays config u v (Take i p) (ap (losing_happens (losing_frame_machine config) last_notice u) (sym is) ∙ happened)
+step_stays config u v w (frames.Command i port c) e none is happened = gone_stays config u v (Do i (Issue port c)) (ap (losing_happens (losing_frame_machine config) last_notice u) (sym is) ∙ happened)
+step_stays config u v w (frames.Retry i op) e none is happened = gone_stays config u v (Do i (Retry op)) (ap (losing_happens (losing_frame_machine config) last_notice u) (sym is) ∙ happened)
+step_stays config u v w (frames.SeeLoss i p) e none is happened = gone_stays config u v (Take i p) (ap (losing_happens (losing_frame_machine config) last_notice u) (sym is) ∙ happened)
+step_stays config u v w (frames.Lose i keep) e none is happened = absurd (cc)
+
+-- and steps of which none is one
+pub nobody_more : (config : Config) (u v : LosingFrameWorld) (all : List FrameStep) (numbers : List ℕ) (events : List (LosingEvent Action)) → LosesNone all → RunsTo config u all numbers events v → v.gone ≡ u.gone
+nobody_more config u v [] [] events none (done, same) = ap (λ (x : LosingFrameWorld). x.gone) (sym same)
+nobody_more config u v [] (number ∷ numbers) events none runs = absurd runs
+nobody_more config u v (step ∷ all) [] events none runs = absurd runs
+nobody_more config u v (step ∷ all) (number ∷ numbers) events none (inl goes) =
+    nobody_more config goes.left v all numbers goes.rest.later (λ i d low. none (suc i) d (omega (arith, low))) goes.rest.rest
+    ∙ step_stays config u goes.left u step goes.e (none 0 step (omega arith)) goes.is.0 goes.happened
+nobody_more config u v (step ∷ all) (number ∷ numbers) events none (inr passed) = nobody_more config u v all numbers events (λ i d low. none (suc i) d (omega (arith, low))) passed.1
+
+-- ---- runs
 
 -- events that lead on from where others led
-leads_on : (config : Config) (es fs : List (Event Action)) (w u v : TimedFrameWorld) → Leads (frame_machine config) w es u → Leads (frame_machine config) u fs v → Leads (frame_machine config) w (es ++ fs) v
-leads_on config [] fs w u v same led = subst (λ (x : TimedFrameWorld). Leads (frame_machine config) x fs v) (sym same) led
+leads_on : (config : Config) (es fs : List (LosingEvent Action)) (w u v : LosingFrameWorld) → LosingLeads (losing_frame_machine config) last_notice w es u → LosingLeads (losing_frame_machine config) last_notice u fs v
+    → LosingLeads (losing_frame_machine config) last_notice w (es ++ fs) v
+leads_on config [] fs w u v same led = subst (λ (x : LosingFrameWorld). LosingLeads (losing_frame_machine config) last_notice x fs v) (sym same) led
 leads_on config (e ∷ es) fs w u v (x, happened, rest) led = (x, happened, leads_on config es fs x u v rest led)
 
-pub reached_on : (config : Config) (w v : TimedFrameWorld) (events : List (Event Action)) → IsReached config w → Leads (frame_machine config) w events v → IsReached config v
-reached_on config w v events reached led = (reached.0 ++ events, leads_on config reached.0 events (start_of (frame_machine config)) w v reached.1 led)
+pub reached_on : (config : Config) (u v : LosingFrameWorld) (events : List (LosingEvent Action)) → IsReachedLosing config u → LosingLeads (losing_frame_machine config) last_notice u events v → IsReachedLosing config v
+reached_on config u v events reached led = (reached.0 ++ events, leads_on config reached.0 events (nobody_gone (start_of (losing_frame_machine config))) u v reached.1 led)
 
-module _ {S : Type 0} (kind : Kind S) (config : Config) where
+module _ (config : Config) where
   -- the events that happened lead on
-  pub leads : (steps : List S) (numbers : List ℕ) (w v : TimedFrameWorld) (events : List (Event Action)) → RunsTo kind config w steps numbers events v → Leads (frame_machine config) w events v
-  leads [] [] w v events (none, same) = subst (λ (es : List (Event Action)). Leads (frame_machine config) w es v) (sym none) same
-  leads [] (number ∷ numbers) w v events runs = absurd runs
-  leads (step ∷ steps) [] w v events runs = absurd runs
-  leads (step ∷ steps) (number ∷ numbers) w v events (inl goes) =
-      subst (λ (es : List (Event Action)). Leads (frame_machine config) w es v) (sym goes.rest.first) (goes.left, goes.happened, leads steps numbers goes.left v goes.rest.later goes.rest.rest)
-  leads (step ∷ steps) (number ∷ numbers) w v events (inr passed) = leads steps numbers w v events passed.1
+  pub leads : (steps : List FrameStep) (numbers : List ℕ) (u v : LosingFrameWorld) (events : List (LosingEvent Action))
+      → RunsTo config u steps numbers events v → LosingLeads (losing_frame_machine config) last_notice u events v
+  leads [] [] u v events (none, same) = subst (λ (es : List (LosingEvent Action)). LosingLeads (losing_frame_machine config) last_notice u es v) (sym none) same
+  leads [] (number ∷ numbers) u v events runs = absurd runs
+  leads (step ∷ steps) [] u v events runs = absurd runs
+  leads (step ∷ steps) (number ∷ numbers) u v events (inl goes) =
+      subst (λ (es : List (LosingEvent Action)). LosingLeads (losing_frame_machine config) last_notice u es v) (sym goes.rest.first)
+      (goes.left, goes.happened, leads steps numbers goes.left v goes.rest.later goes.rest.rest)
+  leads (step ∷ steps) (number ∷ numbers) u v events (inr passed) = leads steps numbers u v events passed.1
 
-  module _ (step : S) (number : ℕ) (Shown : TimedFrameWorld → Type 0) where
+  module _ (step : FrameStep) (number : ℕ) (Shown : LosingFrameWorld → Type 0) where
     -- one more step
-    one_step : (w u : TimedFrameWorld) → w ≡ u → StepsTo kind config u step number Shown → GoesTo kind config w (step ∷ []) (number ∷ []) Shown
-    one_step w u same (inl goes) = record {
+    one_here : (u : LosingFrameWorld) → StepsTo config u step number Shown → GoesTo config u (step ∷ []) (number ∷ []) Shown
+    one_here u (inl goes) = record {
       events = goes.e ∷ [];
       left = goes.left;
       runs = inl (record {
@@ -94,21 +146,17 @@ module _ {S : Type 0} (kind : Kind S) (config : Config) where
         e = goes.e;
         is = goes.is;
         left = goes.left;
-        happened = ap (λ (x : TimedFrameWorld). happens (frame_machine config) x goes.e) same ∙ goes.happened;
+        happened = goes.happened;
         rest = record { later = []; first = refl; rest = (refl, refl) };
       });
       shown = goes.rest;
     }
-    one_step w u same (inr passed) = record {
-      events = [];
-      left = u;
-      runs = inr (subst (λ (x : TimedFrameWorld). kind.Passed config x step number) (sym same) passed.0, (refl, same));
-      shown = passed.1;
-    }
+    one_here u (inr passed) = record { events = []; left = u; runs = inr (passed.0, (refl, refl)); shown = passed.1 }
 
-    pub step_more : (steps : List S) (numbers : List ℕ) (w u : TimedFrameWorld) (events : List (Event Action)) → RunsTo kind config w steps numbers events u → StepsTo kind config u step number Shown
-        → GoesTo kind config w (steps ++ step ∷ []) (numbers ++ number ∷ []) Shown
-    step_more [] [] w u events (none, same) steps_to = one_step w u same steps_to
+    step_more : (steps : List FrameStep) (numbers : List ℕ) (w u : LosingFrameWorld) (events : List (LosingEvent Action))
+        → RunsTo config w steps numbers events u → StepsTo config u step number Shown
+        → GoesTo config w (steps ++ step ∷ []) (numbers ++ number ∷ []) Shown
+    step_more [] [] w u events (none, same) steps_to = subst (λ (x : LosingFrameWorld). GoesTo config x (step ∷ []) (number ∷ []) Shown) (sym same) (one_here u steps_to)
     step_more [] (n ∷ ns) w u events runs steps_to = absurd runs
     step_more (s ∷ ss) [] w u events runs steps_to = absurd runs
     step_more (s ∷ ss) (n ∷ ns) w u events (inl goes) steps_to =
@@ -116,7 +164,14 @@ module _ {S : Type 0} (kind : Kind S) (config : Config) where
         record {
           events = goes.e ∷ rest.events;
           left = rest.left;
-          runs = inl (record { listed = goes.listed; e = goes.e; is = goes.is; left = goes.left; happened = goes.happened; rest = record { later = rest.events; first = refl; rest = rest.runs } });
+          runs = inl (record {
+            listed = goes.listed;
+            e = goes.e;
+            is = goes.is;
+            left = goes.left;
+            happened = goes.happened;
+            rest = record { later = rest.events; first = refl; rest = rest.runs };
+          });
           shown = rest.shown;
         }
     step_more (s ∷ ss) (n ∷ ns) w u events (inr passed) steps_to =
@@ -124,120 +179,51 @@ module _ {S : Type 0} (kind : Kind S) (config : Config) where
         record { events = rest.events; left = rest.left; runs = inr (passed.0, rest.runs); shown = rest.shown }
 
   -- the steps so far, and one more, whose number was put in its place
-  pub steps_more : (steps : List S) (numbers : List ℕ) (k number : ℕ) (step : S) (w : TimedFrameWorld) (Before Shown : TimedFrameWorld → Type 0) → k < length steps → k < length numbers
-      → step ≡ get_or steps k step → GoesTo kind config w (take k steps) (take k numbers) Before
-      → ((u : TimedFrameWorld) (events : List (Event Action)) → Leads (frame_machine config) w events u → Before u → StepsTo kind config u step number Shown)
-      → GoesTo kind config w (take (k + 1) steps) (take (k + 1) (slice_set numbers k number)) Shown
+  pub steps_more : (steps : List FrameStep) (numbers : List ℕ) (k number : ℕ) (step : FrameStep) (w : LosingFrameWorld) (Before Shown : LosingFrameWorld → Type 0) → k < length steps → k < length numbers
+      → step ≡ get_or steps k step → GoesTo config w (take k steps) (take k numbers) Before
+      → ((u : LosingFrameWorld) (events : List (LosingEvent Action)) → LosingLeads (losing_frame_machine config) last_notice w events u → Before u → StepsTo config u step number Shown)
+      → GoesTo config w (take (k + 1) steps) (take (k + 1) (slice_set numbers k number)) Shown
   steps_more steps numbers k number step w Before Shown within inside here before then =
       let led = leads (take k steps) (take k numbers) w before.left before.events before.runs in
       let goes = step_more step number Shown (take k steps) (take k numbers) w before.left before.events before.runs (then before.left before.events led before.shown) in
-      subst (λ (ss : List S). GoesTo kind config w ss (take (k + 1) (slice_set numbers k number)) Shown) (ap (λ s. take k steps ++ s ∷ []) here ∙ sym (take_more steps k step within))
-      (subst (λ (ns : List ℕ). GoesTo kind config w (take k steps ++ step ∷ []) ns Shown) (sym (put numbers k number inside)) goes)
+      subst (λ (ss : List FrameStep). GoesTo config w ss (take (k + 1) (slice_set numbers k number)) Shown) (ap (λ s. take k steps ++ s ∷ []) here ∙ sym (take_more steps k step within))
+      (subst (λ (ns : List ℕ). GoesTo config w (take k steps ++ step ∷ []) ns Shown) (sym (put numbers k number inside)) goes)
     where
       put : (ns : List ℕ) (k n : ℕ) → k < length ns → take (k + 1) (slice_set ns k n) ≡ take k ns ++ n ∷ []
       put ns k n l = take_more_set ns k n l
 
   -- all steps were made
-  pub all_taken : (w : TimedFrameWorld) (steps : List S) (numbers : List ℕ) (k : ℕ) (Shown : TimedFrameWorld → Type 0) → k ≡ length steps → length numbers ≡ length steps
-      → GoesTo kind config w (take k steps) (take k numbers) Shown → GoesTo kind config w steps numbers Shown
-  all_taken w steps numbers k Shown last same goes =
-      subst (λ (ns : List ℕ). GoesTo kind config w steps ns Shown) (ap (λ n. take n numbers) (last ∙ sym same) ∙ take-length numbers)
-      (subst (λ (ss : List S). GoesTo kind config w ss (take k numbers) Shown) (ap (λ n. take n steps) last ∙ take-length steps) goes)
+  pub all_made : (w : LosingFrameWorld) (steps : List FrameStep) (numbers : List ℕ) (k : ℕ) (Shown : LosingFrameWorld → Type 0) → k ≡ length steps → length numbers ≡ length steps
+      → GoesTo config w (take k steps) (take k numbers) Shown → GoesTo config w steps numbers Shown
+  all_made w steps numbers k Shown last same goes =
+      subst (λ (ns : List ℕ). GoesTo config w steps ns Shown) (ap (λ n. take n numbers) (last ∙ sym same) ∙ take-length numbers)
+      (subst (λ (ss : List FrameStep). GoesTo config w ss (take k numbers) Shown) (ap (λ n. take n steps) last ∙ take-length steps) goes)
 
--- what a step came to, by its number
-module _ (config : Config) (w : TimedFrameWorld) (old new : View) where
-  module _ (step : FrameStep) (e : Event Action) (is : event_of step ≡ Some e) (passes : (number : ℕ) → IsTold config w e number → ChangesNothing config w step number) where
-    event_so : (result : Result Stepped NodeFault) (stepped : Stepped) → result ≡ Ok stepped → ShowsWorld config old w
-        → ComesTo config w e result (ShowsWorld config new) → (result ≡ Ok Nothing → new ≡ old) → StepsTo over_packets config w step 0 (ShowsWorld config new)
-    event_so (Ok (Happened effect)) stepped r shows (did, (v, happened, shown)) nothing = inl (record { listed = refl; e = e; is = is; left = v; happened = happened; rest = shown })
-    event_so (Ok Nothing) stepped r shows comes nothing =
-        inr (passes 0 (inl (sym (ap number_told comes))), subst (λ (view : View). ShowsWorld config view w) (sym (nothing refl)) shows)
-    event_so (Ok (Moved count)) stepped r shows comes nothing = absurd comes
-    event_so (Ok Gone) stepped r shows comes nothing = absurd comes
-    event_so (Err fault) stepped r shows comes nothing = absurd (cc)
+-- ---- one step over packets
 
-    event_refused : (result : Result Stepped NodeFault) (fault : NodeFault) → result ≡ Err fault → ShowsWorld config old w
-        → ComesTo config w e result (ShowsWorld config new) → new ≡ old → StepsTo over_packets config w step (node_number_of fault) (ShowsWorld config new)
-    event_refused (Ok stepped) fault r shows comes same = absurd (cc)
-    event_refused (Err OutOfMemory) fault r shows comes same =
-        let one : OutOfMemory ≡ fault = cc in
-        inr (passes (node_number_of fault) (inr (comes, ap node_number_of (sym one))), subst (λ (view : View). ShowsWorld config view w) (sym same) shows)
-    event_refused (Err (Refused refusal)) fault r shows comes same =
-        let one : Refused refusal ≡ fault = cc in
-        inr (passes (node_number_of fault) (inl (ap node_number_of (sym one) ∙ sym (ap number_told comes))), subst (λ (view : View). ShowsWorld config view w) (sym same) shows)
-    event_refused (Err (BadMessage m)) fault r shows comes same = absurd comes
-    event_refused (Err TooLong) fault r shows comes same = absurd comes
-    event_refused (Err Damaged) fault r shows comes same = absurd comes
+module _ (config : Config) (u : LosingFrameWorld) (step : FrameStep) (Shown : LosingFrameWorld → Type 0) where
+  abbrev told : Telling
+  told = told_of config u step
 
-  -- no loss is seen
-  pub unseen_never : (pair : Bool) (result : Result Stepped NodeFault) (stepped : Stepped) → result ≡ Ok stepped → IsUnseen pair result → ⊥
-  unseen_never pair (Ok other) stepped r unseen = unseen
-  unseen_never pair (Err fault) stepped r unseen = absurd (cc)
-
-  pub unseen_number : (pair : Bool) (result : Result Stepped NodeFault) (fault : NodeFault) → result ≡ Err fault → IsUnseen pair result → SeesNone pair (node_number_of fault)
-  unseen_number pair (Ok other) fault r unseen = absurd (cc)
-  unseen_number pair (Err OutOfMemory) fault r unseen = absurd unseen
-  unseen_number pair (Err (Refused refusal)) fault r unseen = let one : Refused refusal ≡ fault = cc in ap node_number_of (sym one) ∙ ap refusal_number_of unseen
-  unseen_number pair (Err (BadMessage m)) fault r unseen = absurd unseen
-  unseen_number pair (Err TooLong) fault r unseen = absurd unseen
-  unseen_number pair (Err Damaged) fault r unseen = absurd unseen
-
-  -- a loss is refused as is told
-  unlost_so : (i : ℕ) (keep : List ℕ) (Shown : LosingFrameWorld → Type 0) (result : Result Stepped NodeFault) (fault : NodeFault) → result ≡ Err fault
-      → LosingComesTo config (losing_of config w []) (told_loss config (losing_of config w []) i keep) result Shown → IsUnlost config w i keep (node_number_of fault)
-  unlost_so i keep Shown (Ok stepped) fault r comes = absurd (cc)
-  unlost_so i keep Shown (Err OutOfMemory) fault r (late, shown) =
-      let one : OutOfMemory ≡ fault = cc in
-      ap node_number_of (sym one) ∙ sym (ap (λ o. option_map_or refusal_number_of o 10)
-      (none_told (not (is_place (length config) i && (nat_eq (length keep) (length config - 1) && can_stay config (losing_of config w []) i keep))) false late))
+  -- what a step came to, by its number
+  pub made_so : (result : Result Stepped NodeFault) (stepped : Stepped) → result ≡ Ok stepped → LosingComesTo config u told result Shown → StepsTo config u step 0 Shown
+  made_so (Ok (Happened effect)) stepped r (loss, busy, did, (v, happened, shown)) = inl (record { listed = refl; e = told.event; is = (refl, busy); left = v; happened = happened; rest = shown })
+  made_so (Ok Gone) stepped r comes = inl (record { listed = refl; e = told.event; is = (refl, comes.1); left = comes.2.0; happened = comes.2.1; rest = comes.2.2 })
+  made_so (Ok Nothing) stepped r comes = inr (inl (sym (idle told.refusal told.is_idle comes.1 comes.0)), comes.2)
     where
-      -- what refuses a loss is told first
-      none_told : (a b : Bool) → is_told_first (first_that_holds ((a, NoSuchPlace) ∷ (b, NodeLost) ∷ [])) ≡ false → first_that_holds ((a, NoSuchPlace) ∷ (b, NodeLost) ∷ []) ≡ None
-      none_told true b e = absurd (cc)
-      none_told false true e = absurd (cc)
-      none_told false false e = refl
-  unlost_so i keep Shown (Err (Refused refusal)) fault r (is, shown) =
-      let one : Refused refusal ≡ fault = cc in ap node_number_of (sym one) ∙ sym (ap (λ o. option_map_or refusal_number_of o 10) is)
-  unlost_so i keep Shown (Err (BadMessage m)) fault r comes = absurd comes
-  unlost_so i keep Shown (Err TooLong) fault r comes = absurd comes
-  unlost_so i keep Shown (Err Damaged) fault r comes = absurd comes
+      idle : (refusal : Option Refusal) (idle : Bool) → refusal ≡ None → idle ≡ true → option_map_or refusal_number_of refusal (cond idle 0 10) ≡ 0
+      idle None true a b = refl
+      idle None false a b = absurd (cc)
+      idle (Some refusal) none a b = absurd (cc)
+  made_so (Ok (Moved count)) stepped r comes = absurd comes
+  made_so (Err fault) stepped r comes = absurd (cc)
 
-  pub happened_so : (step : FrameStep) (lost : List ℕ) (result : Result Stepped NodeFault) (stepped : Stepped) → result ≡ Ok stepped → lost_after step result lost ≡ [] → ShowsWorld config old w
-      → StepComesTo config w step result (ShowsWorld config new) → (result ≡ Ok Nothing → new ≡ old) → StepsTo over_packets config w step 0 (ShowsWorld config new)
-  happened_so (frames.Take i p) lost result stepped r none = event_so (frames.Take i p) (Take i p) refl (λ number told. told) result stepped r
-  happened_so (frames.Command i port c) lost result stepped r none = event_so (frames.Command i port c) (Do i (Issue port c)) refl (λ number told. told) result stepped r
-  happened_so (frames.Retry i op) lost result stepped r none = event_so (frames.Retry i op) (Do i (Retry op)) refl (λ number told. told) result stepped r
-  happened_so (frames.SeeLoss i p) lost result stepped r none = λ shows comes nothing. absurd (unseen_never (is_pair (length config) i p) result stepped r comes)
-  happened_so (frames.Lose i keep) lost (Ok other) stepped r none = absurd (one_at_least i lost none)
-  happened_so (frames.Lose i keep) lost (Err fault) stepped r none = absurd (cc)
-
-  pub refused_so : (step : FrameStep) (result : Result Stepped NodeFault) (fault : NodeFault) → result ≡ Err fault → ShowsWorld config old w
-      → StepComesTo config w step result (ShowsWorld config new) → new ≡ old → (Shown : LosingFrameWorld → Type 0) → LosingComesTo config (losing_of config w []) (told_of config (losing_of config w []) step) result Shown
-      → StepsTo over_packets config w step (node_number_of fault) (ShowsWorld config new)
-  refused_so (frames.Take i p) result fault r shows comes same Shown losing = event_refused (frames.Take i p) (Take i p) refl (λ number told. told) result fault r shows comes same
-  refused_so (frames.Command i port c) result fault r shows comes same Shown losing = event_refused (frames.Command i port c) (Do i (Issue port c)) refl (λ number told. told) result fault r shows comes same
-  refused_so (frames.Retry i op) result fault r shows comes same Shown losing = event_refused (frames.Retry i op) (Do i (Retry op)) refl (λ number told. told) result fault r shows comes same
-  refused_so (frames.SeeLoss i p) result fault r shows comes same Shown losing =
-      inr (unseen_number (is_pair (length config) i p) result fault r comes, subst (λ (view : View). ShowsWorld config view w) (sym same) shows)
-  refused_so (frames.Lose i keep) result fault r shows comes same Shown losing =
-      inr (unlost_so i keep.items Shown result fault r losing, subst (λ (view : View). ShowsWorld config view w) (sym same) shows)
-
--- a run from the start of a configuration, where one history is known of each world
-pub ran_so : {S : Type 0} (kind : Kind S) (given : Config) (Before Shown : Config → TimedFrameWorld → Type 0) (steps : List S) (numbers : List ℕ)
-    → ((config : Config) × Orders given config × Before config (start_of (frame_machine config)))
-    → ((config : Config) → Before config (start_of (frame_machine config)) → GoesTo kind config (start_of (frame_machine config)) steps numbers (Shown config))
-    → ((config : Config) (w : TimedFrameWorld) → Shown config w → IsDistinct same_atom (names_of config))
-    → ((config : Config) (w : TimedFrameWorld) (events : List (Event Action)) → IsDistinct same_atom (names_of config) → Reaches config events w → OneHistory config events (plain w))
-    → Ran kind given steps numbers Shown
-ran_so kind given Before Shown steps numbers begins goes apart history =
-    let config = begins.0 in
-    let run = goes config begins.2 in
-    record {
-      config = config;
-      orders = begins.1;
-      events = run.events;
-      w = run.left;
-      runs = run.runs;
-      shows = run.shown;
-      history = history config run.left run.events (apart config run.left run.shown) (leads kind config steps numbers (start_of (frame_machine config)) run.left run.events run.runs);
-    }
+  pub left_out_so : (result : Result Stepped NodeFault) (fault : NodeFault) → result ≡ Err fault → LosingComesTo config u told result Shown → StepsTo config u step (node_number_of fault) Shown
+  left_out_so (Ok stepped) fault r comes = absurd (cc)
+  left_out_so (Err OutOfMemory) fault r comes = let one : OutOfMemory ≡ fault = cc in inr (inr (comes.0, ap node_number_of (sym one)), comes.1)
+  left_out_so (Err (Refused refusal)) fault r comes =
+      let one : Refused refusal ≡ fault = cc in
+      inr (inl (ap node_number_of (sym one) ∙ sym (ap (λ (o : Option Refusal). option_map_or refusal_number_of o (cond told.is_idle 0 10)) comes.0)), comes.1)
+  left_out_so (Err (BadMessage m)) fault r comes = absurd comes
+  left_out_so (Err TooLong) fault r comes = absurd comes
+  left_out_so (Err Damaged) fault r comes = absurd comes

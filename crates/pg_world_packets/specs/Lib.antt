@@ -3,7 +3,6 @@ pub mod Effects
 pub mod Fitting
 pub mod FrameWorlds
 pub mod Losing
-pub mod LosingRuns
 pub mod Openings
 pub mod Past
 pub mod Pending

@@ -3,6 +3,7 @@ use Rattle.std.specs.Prelude.{◌≡◌, ◌↔◌, ◌≤◌, ◌&&◌, ℕ, Bo
 use Rattle.pg_term.specs.declared.term.Term.{Term}
 use Rattle.pg_node_state.specs.PgStep.Machines.Clocked.{plain}
 use Rattle.pg_node_state.specs.PgStep.Machines.Losing.{LosingEvent, LosingLeads, nobody_gone, mapped}
+use Rattle.pg_node_state.specs.PgStep.Machines.Machine.{start_of}
 use Rattle.pg_node_state.specs.PgStep.Config.{Config}
 use Rattle.pg_node_state.specs.PgStep.FrameMachine.{losing_frame_machine, last_notice, sent_packet}
 use Rattle.pg_node_state.specs.PgStep.LossLaws.{LosingFrameWorld}
@@ -21,7 +22,7 @@ use Rattle.pg_world_packets.specs.declared.step.FrameStep.{FrameStep}
 use Rattle.pg_world_packets.specs.declared.step.Stepped.{Stepped}
 use Rattle.pg_world_packets.specs.declared.step.Stepped.TheVariants.{Happened, Gone}
 use Rattle.pg_world_packets.specs.Losing.{ShowsLosing, LosingComesTo, seen_at, told_of}
-use Rattle.pg_world_packets.specs.LosingRuns.{LosingKind, LosingRunsTo, packets_past_losses}
+use Rattle.pg_world_packets.specs.Runs.{IsToldEvent, RunsTo}
 use Rattle.pg_world_packets.specs.Starts.{Orders}
 use Rattle.pg_world_packets.specs.Views.{View}
 use Rattle.pg_world_config.specs.Seen.{Seen}
@@ -98,27 +99,15 @@ pub record LedOn (given : Config) (Shown : Config → LosingFrameWorld → Type 
   pub past : IsPast given Shown config (events ++ more) v
 
 -- What a step made of a world: what came of it in the world u to which its past led, and the past of what it left, which has the step's
--- own event more, where it happened. Old and New: what the code's world shows before and after; Comes: what comes of the step in a world,
--- which leads to worlds that are so.
-pub record PastGoesOn {S : Type 0} (kind : LosingKind S) (given : Config) (Old New : Config → LosingFrameWorld → Type 0) (step : S) (result : Result Stepped NodeFault)
+-- own event more, where it happened. Old and New: what the code's world shows before and after; Is: which events the step can be in a
+-- world; Comes: what comes of it there, which leads to worlds that are so.
+pub record PastGoesOn (Is : Config → LosingFrameWorld → LosingEvent Action → Type 0) (given : Config) (Old New : Config → LosingFrameWorld → Type 0) (result : Result Stepped NodeFault)
     (Comes : Config → LosingFrameWorld → (LosingFrameWorld → Type 0) → Type 0) : Type 0 where
   pub config : Config
   pub events : List (LosingEvent Action)
   pub u : LosingFrameWorld
   pub past : IsPast given Old config events u
-  pub comes : Comes config u (LedOn given New (Adds (kind.Is config u step) result) config events u)
-
--- What steps made of a world, one after another: the numbers of the steps, and the events of those that happened, which led on from
--- the world u to which its past led, and are the last of the past of what was left.
-pub record RunsOn {S : Type 0} (kind : LosingKind S) (given : Config) (Old New : Config → LosingFrameWorld → Type 0) (all : List S) (numbers : List ℕ) : Type 0 where
-  pub config : Config
-  pub events : List (LosingEvent Action)
-  pub u : LosingFrameWorld
-  pub past : IsPast given Old config events u
-  pub more : List (LosingEvent Action)
-  pub v : LosingFrameWorld
-  pub runs : LosingRunsTo kind config u all numbers more v
-  pub later : IsPast given New config (events ++ more) v
+  pub comes : Comes config u (LedOn given New (Adds (Is config u) result) config events u)
 
 -- each history begins with the older one of its group
 abbrev pub HistoriesGrow : Account → Account → Type 0
@@ -129,8 +118,28 @@ HistoriesGrow old new = (name : Term) → take (length (old.histories name)) (ne
 -- what a step made of them
 abbrev pub FramesGoOn : Config → View → List ℕ → FrameStep → Result Stepped NodeFault → View → List ℕ → Type 0
 FramesGoOn given old lost step result new now =
-    PastGoesOn packets_past_losses given (λ config u. ShowsLosing config old lost u) (λ config u. ShowsLosing config new now u) step result (λ config u Shown. LosingComesTo config u (told_of config u step) result Shown)
+    PastGoesOn (λ config u. IsToldEvent (told_of config u step)) given (λ config u. ShowsLosing config old lost u) (λ config u. ShowsLosing config new now u) result
+    (λ config u Shown. LosingComesTo config u (told_of config u step) result Shown)
 
--- what steps made of them, one after another
-abbrev pub FramesRunOn : Config → View → List ℕ → List FrameStep → List ℕ → View → List ℕ → Type 0
-FramesRunOn given old lost all numbers new now = RunsOn packets_past_losses given (λ config u. ShowsLosing config old lost u) (λ config u. ShowsLosing config new now u) all numbers
+-- What steps made of them, one after another: the numbers of the steps, and the events of those that happened, which led on from
+-- the world u to which the past led, and are the last of the past of what was left.
+pub record FramesRunOn (given : Config) (old : View) (lost : List ℕ) (all : List FrameStep) (numbers : List ℕ) (new : View) (now : List ℕ) : Type 0 where
+  pub config : Config
+  pub events : List (LosingEvent Action)
+  pub u : LosingFrameWorld
+  pub past : IsPast given (λ config u. ShowsLosing config old lost u) config events u
+  pub more : List (LosingEvent Action)
+  pub v : LosingFrameWorld
+  pub runs : RunsTo config u all numbers more v
+  pub later : IsPast given (λ config u. ShowsLosing config new now u) config (events ++ more) v
+
+-- What steps from the start of a configuration came to, with the number of each, whoever was lost. Shown: the worlds of a configuration
+-- that the code's world shows then.
+pub record RanFrames (given : Config) (all : List FrameStep) (numbers : List ℕ) (Shown : Config → LosingFrameWorld → Type 0) : Type 0 where
+  pub config : Config
+  -- the events of the steps that happened, and the world to which they lead
+  pub events : List (LosingEvent Action)
+  pub u : LosingFrameWorld
+  pub runs : RunsTo config (nobody_gone (start_of (losing_frame_machine config))) all numbers events u
+  -- what holds of them: what survives losses, and where no node is lost the headline
+  pub past : IsPast given Shown config events u

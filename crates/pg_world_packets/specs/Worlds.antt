@@ -12,7 +12,7 @@ use Rattle.pg_node_state.specs.PgStep.Machines.Machine.{Event, Take, Do, happens
 use Rattle.pg_node_state.specs.PgStep.Machines.Clocked.{Timed, Stamped, TimedWorld}
 use Rattle.pg_node_state.specs.PgStep.declared.answer.Answer.{Answer}
 use Rattle.pg_node_state.specs.PgStep.declared.refusal.Refusal.{Refusal}
-use Rattle.pg_node_state.specs.PgStep.declared.refusal.Refusal.TheVariants.{NoSuchPlace, NotLost}
+use Rattle.pg_node_state.specs.PgStep.declared.refusal.Refusal.TheVariants.{NoSuchPlace}
 use Rattle.pg_node_state.specs.PgStep.Commands.{Answers}
 use Rattle.pg_node_state.specs.PgStep.Config.{Config, names_of as names_in, name_at, nodes_at, ports_at}
 use Rattle.pg_node_state.specs.PgStep.FrameMachine.{frame_machine}
@@ -34,7 +34,6 @@ use Rattle.pg_world_config.specs.Seen.{Seen}
 use Rattle.pg_world_packets.specs.Effects.{effect_in}
 use Rattle.pg_world_packets.specs.Views.{Traffic, View, traffic_in, on_the_way}
 use Rattle.pg_world_account.specs.Histories.{Account}
-use Rattle.pg_laws_losses.specs.PgLaws.Reached.{Reaches}
 use Rattle.pg_laws_losses.specs.Remains.Missed.{marks}
 
 -- a world as it is seen
@@ -138,25 +137,7 @@ ComesTo config w e (Err OutOfMemory) Shown = are_there config e ≡ true
 ComesTo config w e (Err (Refused refusal)) Shown = told_event config w e ≡ Some (Err refusal)
 ComesTo config w e (Err fault) Shown = ⊥
 
--- What came of seeing a loss where no node is lost: it is refused, since a place is not there or the peer is not lost.
-abbrev pub IsUnseen : Bool → Result Stepped NodeFault → Type 0
-IsUnseen pair (Ok stepped) = ⊥
-IsUnseen pair (Err (Refused refusal)) = refusal ≡ cond pair NotLost NoSuchPlace
-IsUnseen pair (Err fault) = ⊥
-
--- What came of a step in the world w, where no node is lost. What the loss of a node leaves is said where nodes may be lost.
-abbrev pub StepComesTo : Config → TimedFrameWorld → FrameStep → Result Stepped NodeFault → (TimedFrameWorld → Type 0) → Type 0
-StepComesTo config w (steps.Take i p) result Shown = ComesTo config w (Take i p) result Shown
-StepComesTo config w (steps.Command i port command) result Shown = ComesTo config w (Do i (Issue port command)) result Shown
-StepComesTo config w (steps.Retry i op) result Shown = ComesTo config w (Do i (Retry op)) result Shown
-StepComesTo config w (steps.SeeLoss i p) result Shown = IsUnseen (is_pair (length config) i p) result
-StepComesTo config w (steps.Lose i keep) result Shown = Unit {0}
-
 -- a step by which a node is lost
 abbrev pub is_loss : FrameStep → Bool
 is_loss (steps.Lose i keep) = true
 is_loss step = false
-
--- a frame world that events lead to from the start
-abbrev pub IsReached : Config → TimedFrameWorld → Type 0
-IsReached config w = (events : List (Event Action)) × Reaches config events w

@@ -81,7 +81,7 @@ impl<T: GroupTable + Drop> FrameWorld<T> {
     ghost use Rattle.pg_world_packets.specs.Pending.{AgreeOn, pending_of, sees_free};
     ghost use Rattle.pg_world_config.specs.Seen.{seen_of};
     ghost use Rattle.pg_world_packets.specs.Views.{on_the_way};
-    ghost use Rattle.pg_world_packets.specs.Worlds.{TimedFrameWorld, ShowsWorld, StepComesTo};
+    ghost use Rattle.pg_world_packets.specs.Worlds.{TimedFrameWorld, ShowsWorld};
 
     /// The same world: it is seen as the same, and the same nodes are lost. The caller lends the configuration from
     /// which it began.
@@ -243,18 +243,17 @@ impl<T: GroupTable + Drop> FrameWorld<T> {
     /// the last. Of all of them, and of the world to which they lead, everything holds that `LossesSurvived` says,
     /// and where no node is lost all that `OneHistory` says. Each history grows.
     ///
-    /// Whatever frame world the world shows, as the nodes of a configuration come to, the step is the event of the
-    /// frame machine there, and the world shows what it leaves.
+    /// Whatever world of the machine with losses the world shows, the step is its event there, and the world shows what it leaves.
+    /// Where no node is lost it is an event of the frame machine.
     ///
     /// Errors, which change nothing, the first that holds: `Refused` by `NoSuchPlace` where a node, a port or a peer
     /// is not there, or a node would take from itself; those of `NodeState::take`, `command` and `retry`;
     /// `OutOfMemory` may come in the place of each after `NoSuchPlace`, as room for what is sent is made before
     /// anything changes. It never comes in the place of `NoSuchPlace`, `NodeLost`, `NotLost` or `NotDrained`.
     ///
-    /// Where nodes are lost, the step is the event of the machine with losses. A step of a node that is lost is
-    /// refused by `NodeLost`, after `NoSuchPlace`, and so is a take of a peer whose loss was seen. `SeeLoss`:
-    /// `NoSuchPlace`; `NodeLost`, also where it was seen before; `NotLost`; `NotDrained` where a packet of the peer
-    /// is on the way; `ClockFull`. `Lose`: `NoSuchPlace`, also where `keep` has not one number for each peer, or more
+    /// A step of a node that is lost is refused by `NodeLost`, after `NoSuchPlace`, and so is a take of a peer whose loss was
+    /// seen. `SeeLoss`: `NoSuchPlace`; `NodeLost`, also where it was seen before; `NotLost`; `NotDrained` where a packet of the
+    /// peer is on the way; `ClockFull`. `Lose`: `NoSuchPlace`, also where `keep` has not one number for each peer, or more
     /// should stay than are on the way; `NodeLost`.
     ///
     /// Cost: that of the call of `NodeState`, O(log n) in the groups that were named, and memory for one more packet
@@ -263,8 +262,6 @@ impl<T: GroupTable + Drop> FrameWorld<T> {
         ensures goes_on { ∥ FramesGoOn (given_of self.old) (view_of self.old) (lost_of self.old) step.now result (view_of self.new) (lost_of self.new) ∥₁ }
         ensures grows { HistoriesGrow (view_of self.old).account (view_of self.new).account }
         ensures given { given_of self.new ≡ given_of self.old }
-        ensures event { (config : Configuration) (w : TimedFrameWorld) → lost_of self.old ≡ [] → ShowsWorld config (view_of self.old) w
-            → StepComesTo config w step.now result (ShowsWorld config (view_of self.new)) }
         ensures losing { (config : Configuration) (u : LosingFrameWorld) → ShowsLosing config (view_of self.old) (lost_of self.old) u
             → LosingComesTo config u (told_of config u step.now) result (ShowsLosing config (view_of self.new) (lost_of self.new)) }
         ensures lost { lost_of self.new ≡ lost_after step.now result (lost_of self.old) }

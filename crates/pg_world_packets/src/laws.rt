@@ -19,6 +19,8 @@ ghost use Rattle.pg_world_packets.specs.Losing.{losing_of};
 ghost use Rattle.pg_world_packets.specs.Openings.{AllFit, CanBegin, CantBegin, FitsOpening, SomeIsTooLong, are_few, have_few};
 ghost use Rattle.pg_world_packets.specs.Pending.{IsPending, pending_of};
 ghost use Rattle.pg_world_config.specs.Firsts.{seen_first};
+ghost use Rattle.pg_world_packets.specs.declared.step.FrameStep.{FrameStep};
+ghost use Rattle.pg_world_packets.specs.Runs.{LosesNone, RunsTo};
 ghost use Rattle.pg_world_packets.specs.Starts.{Orders};
 ghost use Rattle.pg_world_config.specs.Seen.{Seen};
 ghost use Rattle.pg_world_packets.specs.Worlds.{ShowsNodes, TimedFrameWorld};
@@ -75,3 +77,10 @@ pub fn pending_ends_are_listed()
     ended_processes_were_made_past_losses();
     numbered_from_one();
 }
+
+/// Steps of which none is a loss lose nobody, whatever else was lost before them. So a run of them from the start ends in a world in
+/// which nobody is lost, of which the headline holds.
+pub fn steps_without_losses_lose_nobody()
+    ensures { (config : Config) (u v : LosingFrameWorld) (all : List FrameStep) (numbers : List ℕ) (events : List (LosingEvent Action))
+        → LosesNone all → RunsTo config u all numbers events v → v.gone ≡ u.gone }
+{}

@@ -22,13 +22,14 @@ pub use frame_world::FrameWorld;
 pub use frames::run_frames;
 pub use laws::{
     long_groups_do_not_fit, orders_keep_tables, pending_ends_are_listed, refusals_are_exact,
+    steps_without_losses_lose_nobody,
 };
 pub use pending::pending_among;
 pub use pg_index::IndexTable;
 pub use pg_laws_losses::{
     each_world_past_losses, ended_processes_were_finished,
     ended_processes_were_finished_past_losses, first_packets_were_welcome, no_loss_is_seen,
-    no_packet_is_refused, nobody_is_harmed, nodes_that_heard_the_lost_agree, one_history,
+    no_packet_is_refused, nodes_that_heard_the_lost_agree, one_history,
 };
 pub use pg_node_state::{
     Answer, Command, Deframer, FrameFault, GroupTable, Message, MessageFault, NodeFault, NodeState,

@@ -37,7 +37,7 @@ impl<T: GroupTable + Drop> FrameNodes<T> {
     ghost use Rattle.pg_node_state.specs.PgStep.Step.{Issue, Retry};
     ghost use Rattle.pg_world_account.specs.Histories.{AreInRows};
     ghost use Rattle.pg_world_packets.specs.Worlds.{traffic_of, view_of, has_port, has_places};
-    ghost use Rattle.pg_world_packets.specs.Worlds.{TimedFrameWorld, ShowsWorld, ComesTo, StepComesTo};
+    ghost use Rattle.pg_world_packets.specs.Worlds.{TimedFrameWorld, ShowsWorld, ComesTo};
     ghost use Rattle.pg_node_state.specs.PgStep.LossLaws.{LosingFrameWorld};
     ghost use Rattle.pg_world_packets.specs.Losing.{lost_of, lost_after, formed_after, told_of, ShowsLosing, LosingComesTo};
 
@@ -61,22 +61,19 @@ impl<T: GroupTable + Drop> FrameNodes<T> {
         }
     }
 
-    /// Makes one step. Whatever frame world the world shows, as the nodes of a configuration come to, the step is the
-    /// event of the frame machine there, and the world shows what it leaves.
+    /// Makes one step. Whatever world of the machine with losses the world shows, the step is its event there, and the world shows
+    /// what it leaves.
     ///
     /// Errors, which change nothing, the first that holds: `Refused` by `NoSuchPlace` where a node, a port or a peer
     /// is not there, or a node would take from itself; those of `NodeState::take`, `command` and `retry`;
     /// `OutOfMemory` may come in the place of each after `NoSuchPlace`, as room for what is sent is made before
     /// anything changes. It never comes in the place of `NoSuchPlace`, `NodeLost`, `NotLost` or `NotDrained`.
     ///
-    /// Where nodes are lost, the step is the event of the machine with losses. A step of a node that is lost is
-    /// refused by `NodeLost`, after `NoSuchPlace`, and so is a take of a peer whose loss was seen. `SeeLoss`:
-    /// `NoSuchPlace`; `NodeLost`, also where it was seen before; `NotLost`; `NotDrained` where a packet of the peer
-    /// is on the way; `ClockFull`. `Lose`: `NoSuchPlace`, also where `keep` has not one number for each peer, or more
+    /// A step of a node that is lost is refused by `NodeLost`, after `NoSuchPlace`, and so is a take of a peer whose loss was
+    /// seen. `SeeLoss`: `NoSuchPlace`; `NodeLost`, also where it was seen before; `NotLost`; `NotDrained` where a packet of the
+    /// peer is on the way; `ClockFull`. `Lose`: `NoSuchPlace`, also where `keep` has not one number for each peer, or more
     /// should stay than are on the way; `NodeLost`.
     pub(crate) fn step(&mut self, step: &FrameStep) -> Result<Stepped, NodeFault>
-        ensures event { (config : Config) (w : TimedFrameWorld) → lost_of self.old ≡ [] → ShowsWorld config (view_of self.old) w
-            → StepComesTo config w step.now result (ShowsWorld config (view_of self.new)) }
         ensures losing { (config : Config) (u : LosingFrameWorld) → ShowsLosing config (view_of self.old) (lost_of self.old) u
             → LosingComesTo config u (told_of config u step.now) result (ShowsLosing config (view_of self.new) (lost_of self.new)) }
         ensures lost { lost_of self.new ≡ lost_after step.now result (lost_of self.old) }

@@ -6,15 +6,15 @@ ghost use Rattle.std.specs.declared.vec.Vec.{Vec};
 ghost use Rattle.pg_node_run.specs.declared.log.NodeEvent.{NodeEvent};
 ghost use Rattle.pg_world.specs.PgStep.Config.{Config};
 ghost use Rattle.pg_world.specs.PgWorldPackets.declared.step.FrameStep.{FrameStep};
-ghost use Rattle.pg_cluster_judges.specs.Judges.{Agree, Replays, ReplaysPastLosses};
+ghost use Rattle.pg_cluster_judges.specs.Judges.{Agree, Replays};
 ghost use Rattle.pg_cluster_judges.specs.Schedule.{IsLosingSchedule};
 ghost use Rattle.pg_cluster_judges.specs.Survivors.{SurvivorsAgree};
 ghost use Rattle.pg_cluster_judges.specs.NodeOf.{NodeOf};
 ghost use Rattle.pg_cluster_judges.specs.Together.{AreOneRun, AreOneLosingRun};
 
 use pg_world::{
-    ended_processes_were_finished, ended_processes_were_finished_past_losses, no_loss_is_seen,
-    nodes_that_heard_the_lost_agree,
+    each_world_past_losses, ended_processes_were_finished,
+    ended_processes_were_finished_past_losses, no_loss_is_seen, nodes_that_heard_the_lost_agree,
 };
 
 /// The nodes of one run agree.
@@ -40,10 +40,14 @@ pub fn survivors_of_one_run_agree()
 pub fn one_run_replays()
     ensures { (given : Config) (nodes : List NodeOf) (logs : List (List (ℕ × NodeEvent))) (schedule : List FrameStep)
         → AreOneRun given nodes logs schedule → Replays given schedule nodes }
-{}
+{
+    each_world_past_losses();
+}
 
 /// So does that of one run in which nodes were lost.
 pub fn one_losing_run_replays()
     ensures { (given : Config) (lost : List Bool) (nodes : List NodeOf) (schedule : List FrameStep)
-        → AreOneLosingRun given lost nodes schedule → ReplaysPastLosses given schedule nodes }
-{}
+        → AreOneLosingRun given lost nodes schedule → Replays given schedule nodes }
+{
+    each_world_past_losses();
+}

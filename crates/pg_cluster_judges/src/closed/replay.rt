@@ -11,7 +11,7 @@ use crate::closed::schedule::{add_with_loss, first_losses};
 use pg_node_run::LogEntry;
 use pg_world::{
     Config, FrameStep, FrameWorld, IndexTable, WorldFault, each_world_past_losses, fault_or_memory,
-    one_history, run_frames,
+    run_frames,
 };
 use std::alloc::{AllocError, Global};
 
@@ -131,7 +131,6 @@ impl Replay {
         ensures { OnOk result ((given : Configuration) (made : List FrameStep) → HasMade given made self.old
             → HasMade given (made ++ steps.now) self.new) }
     {
-        one_history();
         each_world_past_losses();
         let mut numbers = Vec::from_elem(alloc, 0, steps.len())?;
         self.world.run(steps, &mut numbers);

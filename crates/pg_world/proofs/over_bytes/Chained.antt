@@ -24,7 +24,7 @@ use Rattle.pg_world_packets.specs.declared.step.Stepped.TheVariants.{Happened, M
 use Rattle.pg_world.specs.Bars.{RefusesBarred, StepTellsUndrained, bar_of}
 use Rattle.pg_world.specs.BytesLosing.{ShowsLosingBytes, MoveLeaves, WholeComesTo, SightComesTo}
 use Rattle.pg_world.specs.BytesLosing.{LossComesTo, EventLeaves, StepLeaves, put_refusal, pull_refusal}
-use Rattle.pg_world.specs.BytesLosingRuns.{IsBytesEvent}
+use Rattle.pg_world.specs.BytesLosing.{IsBytesEvent}
 use Rattle.pg_world_packets.specs.Losing.{IsReachedLosing, LosingComesTo, Telling, told_own, told_sight, told_take}
 use Rattle.pg_world_packets.specs.Past.{Adds}
 use Rattle.pg_world.specs.BytesStart.{BytesBegin, OpensBytes}
@@ -33,7 +33,7 @@ use Rattle.pg_world.specs.Crossings.{Crossing}
 use Rattle.pg_world.specs.CrossingRuns.{CrossesAll, CrossesTo, RanBytes, number_of}
 use Rattle.pg_world_packets.specs.PgWorldAccount.Histories.{Account}
 use Rattle.pg_world_packets.proofs.Leading.{Near, Here, Next, Survive, leads_on, past_of}
-use Rattle.pg_world_packets.proofs.LosingRunning.{losing_reached_on, start_is}
+use Rattle.pg_world_packets.proofs.Running.{reached_on, start_is}
 use Rattle.pg_world.proofs.over_bytes.Leading.{Any, any_told, bytes_added, leaves_on}
 
 -- ---- the one world that a step leaves
@@ -138,7 +138,7 @@ crosses_so config room old new before account were lost u step result number rea
           undrained = undrained;
           changes = changes;
           leaves = left.2;
-          shown = record { account = account; lost = lost; reached = losing_reached_on config u v more reached left.1.2; shows = left.1.3 };
+          shown = record { account = account; lost = lost; reached = reached_on config u v more reached left.1.2; shows = left.1.3 };
         },
         sym (append-nil more),
         (refl, refl, refl),

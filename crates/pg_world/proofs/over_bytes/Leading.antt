@@ -34,7 +34,7 @@ use Rattle.pg_world_packets.specs.declared.step.Stepped.TheVariants.{Happened, M
 use Rattle.pg_world.specs.BytesLosing.{ShowsLosingBytes, MoveLeaves, WholeComesTo, SightComesTo}
 use Rattle.pg_world.specs.BytesLosing.{LossComesTo, EventLeaves, StepLeaves, put_refusal, pull_refusal, gone_refusal}
 use Rattle.pg_world_packets.specs.Losing.{IsReachedLosing}
-use Rattle.pg_world.specs.BytesLosingRuns.{bytes_past_losses, IsBytesEvent, IsFrameEvent, IsLossOf}
+use Rattle.pg_world.specs.BytesLosing.{IsBytesEvent, IsFrameEvent, IsLossOf}
 use Rattle.pg_world.specs.BytesStart.{BytesBegin}
 use Rattle.pg_world.specs.Crossings.{Crossing, ShowsPast, link_at, node_of, no_links}
 use Rattle.pg_node.specs.Links.{Link}
@@ -44,7 +44,7 @@ use Rattle.pg_world_packets.proofs.Counted.{place_there}
 use Rattle.pg_world_packets.proofs.Peering.{known, named, own_place, peer_name, same_place}
 use Rattle.pg_world_packets.proofs.Turning.{is_pair_so}
 use Rattle.pg_world_packets.specs.Losing.{Telling, formed_after, formed_with, losing_of, told_take, told_own, told_sight}
-use Rattle.pg_world_packets.specs.LosingRuns.{IsToldEvent}
+use Rattle.pg_world_packets.specs.Runs.{IsToldEvent}
 use Rattle.pg_world_packets.specs.Past.{Adds, HistoriesGrow, missed_in}
 use Rattle.pg_world.specs.Bars.{bytes_formed_after}
 use Rattle.pg_world.specs.BytesPast.{BytesFormedFirst, BytesHavePast, BytesGoOn, BytesMissed}
@@ -59,7 +59,7 @@ use Rattle.pg_world_packets.proofs.Leading.{Near, NearBy, Here, Next, Lists, Sur
 use Rattle.pg_world_packets.proofs.Leading.{past_after, past_of, comes_on, some_comes, with_added}
 use Rattle.pg_world_packets.proofs.Leading.{histories_grow, history_is, applied_there, agreed_there, missed_there}
 use Rattle.pg_world_packets.proofs.Ordered.{ordered_length}
-use Rattle.pg_world_packets.proofs.LosingRunning.{start_is}
+use Rattle.pg_world_packets.proofs.Running.{start_is}
 use Rattle.pg_world.proofs.over_bytes.Past.{move_mapped}
 
 -- ---- the worlds to which a step leads
@@ -273,6 +273,9 @@ module _ (given : Config) (survive : Survive) (old : Crossing) (account : Accoun
   abbrev Comes : Config → LosingFrameWorld → (LosingFrameWorld → Type 0) → Type 0
   Comes config u Shown = StepLeaves config u step result Shown
 
+  abbrev IsEvent : Config → LosingFrameWorld → LosingEvent Action → Type 0
+  IsEvent config u e = IsBytesEvent config u step e
+
   apart : AreApart After
   apart config u shows = shows.shows.traffic.nodes.apart
 
@@ -287,10 +290,10 @@ module _ (given : Config) (survive : Survive) (old : Crossing) (account : Accoun
       (told_bytes config old.nodes lost shows.frames u shows.shows.traffic.nodes shows.is seen account.formed later.formed step result told)) leaves
 
   pub bytes_go_on : BytesHavePast given old account lost → BytesGoOn given old account lost step result new later now
-  bytes_go_on past = goes_on given After apart survive bytes_past_losses step result account.formed later.formed Before Comes onward_from past (λ config u events reached shows. came config u (events, reached) shows)
+  bytes_go_on past = goes_on given After apart survive IsEvent result account.formed later.formed Before Comes onward_from past (λ config u events reached shows. came config u (events, reached) shows)
 
   pub bytes_past : BytesHavePast given old account lost → BytesHavePast given new later now
-  bytes_past past = past_after given After apart survive bytes_past_losses step result account.formed later.formed Before Comes onward_from
+  bytes_past past = past_after given After apart survive IsEvent result account.formed later.formed Before Comes onward_from
       (λ config u Q leaves. some_leaves config u Q step result leaves) past (λ config u events reached shows. came config u (events, reached) shows)
 
 -- ---- the start

@@ -1,7 +1,6 @@
 -- What steps over bytes come to where nodes may be lost: bytes that move, and events that know of no loss.
 use Rattle.std.proofs.Common.{◌≡◌, ℕ, Bool, true, false, not, ◌||◌, cond, length, List, [], ◌∷◌}
 use Rattle.std.proofs.Common.{Option, Some, None, Result, Ok, Err, refl, sym, ap, ◌∙◌, subst}
-use Rattle.std.specs.Prelude.{IfErr, nat_lt}
 use Rattle.pg_world_packets.specs.PgStep.Machines.Places.{is_place, is_pair}
 use Rattle.pg_world_packets.specs.PgStep.Machines.Machine.{Event, Take, Do, node_of, happens}
 use Rattle.pg_world_packets.specs.PgStep.Machines.Losing.{LosingEvent, Step, losing_happens}
@@ -24,16 +23,15 @@ use Rattle.pg_world_packets.specs.declared.step.FrameStep.{FrameStep}
 use Rattle.pg_world_packets.specs.declared.step.FrameStep.TheVariants as frames
 use Rattle.pg_world_packets.specs.declared.step.Stepped.{Stepped}
 use Rattle.pg_world_packets.specs.declared.step.Stepped.TheVariants.{Happened, Moved, Nothing, Gone}
-use Rattle.pg_world.specs.Bars.{IsFaultOf, put_bar, pull_bar}
+use Rattle.pg_world.specs.Bars.{put_bar, pull_bar}
 use Rattle.pg_world.specs.BytesLosing.{ShowsLosingBytes, MoveLeaves, WholeComesTo, SightComesTo}
 use Rattle.pg_world.specs.BytesLosing.{EventLeaves, LossComesTo, bars_sight, put_refusal, pull_refusal, gone_refusal}
-use Rattle.pg_world.specs.Crossings.{Crossing, ShowsBytes, ShowsBytesPast, EventComesTo, MoveComesTo, LossLeaves, is_take}
+use Rattle.pg_world.specs.Crossings.{Crossing, ShowsBytesPast, EventComesTo, is_take}
 use Rattle.pg_world_packets.specs.Effects.{effect_in, losing_effect_in}
-use Rattle.pg_world_packets.specs.Losing.{SeenAreLost, account_with, formed_at, losing_of, is_cut_off, is_barred, Telling}
+use Rattle.pg_world_packets.specs.Losing.{SeenAreLost, losing_of, is_cut_off, is_barred, Telling}
 use Rattle.pg_world_packets.specs.Losing.{CanBeMade, is_told_first, told_take, told_own, told_of, LosingLed, LosingComesTo}
 use Rattle.pg_world_packets.specs.PgWorldAccount.Losses.{is_lost}
 use Rattle.pg_world_packets.specs.PgWorldAccount.Histories.{Account, account_formed}
-use Rattle.pg_world_packets.specs.PgWorldConfig.Seen.{Seen}
 use Rattle.pg_world_packets.specs.Worlds.{TimedFrameWorld, ShowsNodes, ShowsUpdates, has_port, has_places, told_event}
 use Rattle.pg_world_packets.proofs.Barred.{cut_is, barred_told, unplaced_told, take_cut, either_stays}
 use Rattle.pg_world_packets.proofs.Barred.{take_refused_so, take_can, take_late, own_refused_so, own_can, own_first}
@@ -54,41 +52,6 @@ move_mapped one other A B (Err (BadMessage m)) same f comes = absurd comes
 move_mapped one other A B (Err TooLong) same f comes = absurd comes
 move_mapped one other A B (Err Damaged) same f comes = absurd comes
 
--- the bar where no node is lost
-bar_is : (b : Bool) → first_that_holds ((not b, NoSuchPlace) ∷ (false, NodeLost) ∷ []) ≡ cond b None (Some NoSuchPlace)
-bar_is true = refl
-bar_is false = refl
-
-none_pair : (b : Bool) → ◌≡◌ {A = Option Refusal} (cond b None (Some NoSuchPlace)) None → b ≡ true
-none_pair true e = refl
-none_pair false e = absurd (cc)
-
-some_pair : (b : Bool) (r : Refusal) → ◌≡◌ {A = Option Refusal} (cond b None (Some NoSuchPlace)) (Some r) → (r ≡ NoSuchPlace) × (b ≡ false)
-some_pair true r e = absurd (cc)
-some_pair false r e = let one : NoSuchPlace ≡ r = cc in (sym one, refl)
-
-pub move_came : (config : Config) (n x y : ℕ) (Shown : Type 0) (result : Result Stepped NodeFault) → n ≡ length config
-    → MoveLeaves (first_that_holds ((not (is_pair n x y), NoSuchPlace) ∷ (false, NodeLost) ∷ [])) result Shown → MoveComesTo config x y result Shown
-move_came config n x y Shown result size came = go result (move_mapped _ (cond (is_pair (length config) x y) None (Some NoSuchPlace)) Shown Shown result
-    (bar_is (is_pair n x y) ∙ ap (λ m. cond (is_pair m x y) None (Some NoSuchPlace)) size) (λ s. s) came)
-  where
-    go : (r : Result Stepped NodeFault) → MoveLeaves (cond (is_pair (length config) x y) None (Some NoSuchPlace)) r Shown → MoveComesTo config x y r Shown
-    go (Ok (Moved count)) (is, shown) = (none_pair (is_pair (length config) x y) is, shown)
-    go (Ok Nothing) comes = absurd comes
-    go (Ok (Happened effect)) comes = absurd comes
-    go (Ok Gone) comes = absurd comes
-    go (Err OutOfMemory) (is, shown) = (none_pair (is_pair (length config) x y) is, shown)
-    go (Err (Refused r)) (is, shown) = let both = some_pair (is_pair (length config) x y) r is in (both.0, both.1, shown)
-    go (Err (BadMessage m)) comes = absurd comes
-    go (Err TooLong) comes = absurd comes
-    go (Err Damaged) comes = absurd comes
-
--- whether all were formed says nothing of what is on the way, or of updates
-pub bytes_with : (config : Config) (crossing : Crossing) (account : Account) (w : TimedFrameWorld) (result : Result Stepped NodeFault) (nodes : List Seen) (lost : List ℕ)
-    → ShowsBytes config crossing account w → ShowsBytes config crossing (account_with result nodes lost account) w
-bytes_with config crossing account w (Ok stepped) nodes lost shows = record { traffic = shows.traffic; updates = updates_formed (formed_at nodes lost account.formed) account w shows.updates }
-bytes_with config crossing account w (Err fault) nodes lost shows = shows
-
 pub lost_with : (config : Config) (crossing : Crossing) (account account2 : Account) (u : LosingFrameWorld) (i : ℕ) (lost : List ℕ) (formed : Bool) → account2 ≡ account_formed formed account
     → LossComesTo config u i (Ok Gone) (ShowsLosingBytes config crossing account lost) → LossComesTo config u i (Ok Gone) (ShowsLosingBytes config crossing account2 lost)
 lost_with config crossing account account2 u i lost formed same (none, keep, (v, happened, shows)) = (
@@ -105,17 +68,6 @@ lost_with config crossing account account2 u i lost formed same (none, keep, (v,
     },
   ),
 )
-
--- the loss of a node where none is lost
-pub loss_came : (config : Config) (n i : ℕ) (Shown : Type 0) (result : Result Stepped NodeFault) → n ≡ length config
-    → IfErr result (IsFaultOf (first_that_holds ((not (nat_lt i n), NoSuchPlace) ∷ (false, NodeLost) ∷ []))) → Shown → LossLeaves config i result Shown
-loss_came config n i Shown (Ok stepped) size told shown = tt
-loss_came config n i Shown (Err OutOfMemory) size told shown = shown
-loss_came config n i Shown (Err (Refused r)) size told shown =
-    let both = some_pair (nat_lt i n) r (sym (bar_is (nat_lt i n)) ∙ told) in (both.0, ap (λ m. is_place m i) (sym size) ∙ both.1, shown)
-loss_came config n i Shown (Err (BadMessage m)) size told shown = absurd told
-loss_came config n i Shown (Err TooLong) size told shown = absurd told
-loss_came config n i Shown (Err Damaged) size told shown = absurd told
 
 -- ---- what bars a step is what is told
 

@@ -42,6 +42,5 @@ returns g c =
       agree = told_by_losses (Agree closed.nodes.items closed.logs.items) (SurvivorsAgree closed.nodes.items closed.lost.items closed.logs.items) closed.lost.items c.in_ok-agree.field-0
           (rw lost agree) survivors (λ nobody holds. (told.nobody nobody).1 holds) (λ some holds. (told.some some).1 holds);
       replay = is;
-      replays = replayed.unlost;
-      replays_past_losses = replayed.losing;
+      replays = replayed.replays;
     }

@@ -11,9 +11,9 @@ use Rattle.pg_world.specs.PgWorldPackets.Openings.{CanBegin}
 use Rattle.pg_world.proofs.PgWorldPackets.OrderedOnce.{only_memory}
 use Rattle.pg_cluster_judges.specs.Closed.{IsHistory, IsOneLosingRun}
 use Rattle.pg_cluster_judges.specs.Judges.{all_made, ran_out}
-use Rattle.pg_cluster_judges.specs.Together.{AreOneLosingRun}
 use Rattle.pg_cluster_judges.proofs.Histories.{always_found, found_history, none_found, told_history, unbegun_history}
 use Rattle.pg_cluster_judges.proofs.Judging.{ok_so}
+use Rattle.pg_cluster_judges.proofs.Replaying.{LeadsThere, losing_run_there}
 use Rattle.pg_cluster_judges.proofs.closed.Closed.history.Goals as goal
 
 pub returns-in-Ok : goal.returns-in-Ok
@@ -29,11 +29,11 @@ returns-in-Ok c =
     let result = c.history_of-found.result in
     let some = subst (λ ns. IfOk result (λ found. is_some found ≡ all_made ns)) c.as_slice-numbers.ensures.value found.some in
     let none = subst (λ ns. IfOk result (λ found. ran_out ns ≡ false)) c.as_slice-numbers.ensures.value found.ran in record {
-      history = told_history given closed all.steps c.args.name.now result all.are
-          (found_history given all.steps c.args.name.now view gone numbers result all.has.ran all.has.losing found.history some);
-      some = ok_so _ (λ (found : Option (Vec Entry Global)). CanBegin ring given → IsOneLosingRun given closed → is_some found ≡ true) result
-          (λ found so can run. ∥∥₁_elim (run all.steps all.are) (hlevel props) (λ (one : AreOneLosingRun given closed.lost.items closed.nodes.items all.steps). so closed.lost.items can one))
-          (always_found ring given closed.nodes.items all.steps view gone numbers result all.has.losing some none);
+      history = told_history given closed all.steps c.args.name.now result all.are (found_history given all.steps c.args.name.now view gone numbers result all.has found.history some);
+      some = ok_so (λ (found : Option (Vec Entry Global)). CanBegin ring given → LeadsThere given closed.nodes.items all.steps → is_some found ≡ true)
+          (λ (found : Option (Vec Entry Global)). CanBegin ring given → IsOneLosingRun given closed → is_some found ≡ true) result
+          (λ found so can run. ∥∥₁_elim (run all.steps all.are) (hlevel props) (λ one. so can (losing_run_there given closed.lost.items closed.nodes.items all.steps one)))
+          (always_found ring given closed.nodes.items all.steps view gone numbers result all.has some none);
     }
 
 pub returns-in-Err-clause-history : goal.returns-in-Err-clause-history

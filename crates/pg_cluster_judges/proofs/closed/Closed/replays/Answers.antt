@@ -7,10 +7,8 @@ use Rattle.pg_world.specs.PgWorldPackets.Openings.{CanBegin}
 use Rattle.pg_world.proofs.PgWorldPackets.OrderedOnce.{only_memory}
 use Rattle.pg_cluster_judges.specs.Closed.{IsOneLosingRun, IsOneRun, logs_in}
 use Rattle.pg_cluster_judges.specs.Judges.{AreShown, all_made, ran_out}
-use Rattle.pg_cluster_judges.specs.Together.{AreOneLosingRun, AreOneRun}
-use Rattle.pg_cluster_judges.proofs.Judging.{ok_so, replayed_so, replays_losing, replays_so}
-use Rattle.pg_cluster_judges.proofs.Replaying.{never_no, unbegun_so}
-use Rattle.pg_cluster_judges.proofs.ReplayingLosses.{never_no_losing}
+use Rattle.pg_cluster_judges.proofs.Judging.{ok_so, replayed_so, replays_so}
+use Rattle.pg_cluster_judges.proofs.Replaying.{LeadsThere, losing_run_there, never_no, run_there, unbegun_so}
 use Rattle.pg_cluster_judges.proofs.closed.Closed.replays.Goals as goal
 
 pub returns-in-Ok : goal.returns-in-Ok
@@ -25,17 +23,13 @@ returns-in-Ok c =
     let result = c.is_shown-told.result in
     let told = c.is_shown-told.ensures in
     let shown = subst (λ ns. IfOk result (λ yes. IsTrue yes ↔ ((all_made ns ≡ true) × AreShown (view_of world).traffic.nodes nodes))) c.as_slice.ensures.value told.shown in
-    let made = subst (λ ns. IfOk result (λ yes. ran_out ns ≡ false)) c.as_slice.ensures.value told.all_made in record {
-      one_run = ok_so (λ (yes : Bool). CanBegin ring given → AreOneRun given nodes (logs_in closed) all.steps → yes ≡ true) (λ (yes : Bool). CanBegin ring given → IsOneRun given closed → yes ≡ true) result
-          (λ yes so can run. so can (run all.steps all.are))
-          (never_no ring given nodes (logs_in closed) all.steps (view_of world) numbers result all.has.ran shown made);
-      losing_run = ok_so (λ (yes : Bool). CanBegin ring given → AreOneLosingRun given closed.lost.items nodes all.steps → yes ≡ true) (λ (yes : Bool). CanBegin ring given → IsOneLosingRun given closed → yes ≡ true) result
-          (λ yes so can run. ∥∥₁_elim (run all.steps all.are) (hlevel props) (λ one. so can one))
-          (ok_so _ (λ (yes : Bool). CanBegin ring given → AreOneLosingRun given closed.lost.items nodes all.steps → yes ≡ true) result (λ yes so. so closed.lost.items)
-          (never_no_losing ring given nodes all.steps (view_of world) (lost_of world) numbers result all.has.losing shown made));
-      replays = replayed_so given closed all.steps result all.are
-          (replays_so given all.steps nodes world numbers result all.has.ran shown)
-          (replays_losing given all.steps nodes world numbers result all.has.losing shown);
+    let made = subst (λ ns. IfOk result (λ yes. ran_out ns ≡ false)) c.as_slice.ensures.value told.all_made in
+    let There = λ (yes : Bool). CanBegin ring given → LeadsThere given nodes all.steps → yes ≡ true in
+    let always = never_no ring given nodes all.steps (view_of world) (lost_of world) numbers result all.has shown made in record {
+      one_run = ok_so There (λ (yes : Bool). CanBegin ring given → IsOneRun given closed → yes ≡ true) result (λ yes so can run. so can (run_there given nodes (logs_in closed) all.steps (run all.steps all.are))) always;
+      losing_run = ok_so There (λ (yes : Bool). CanBegin ring given → IsOneLosingRun given closed → yes ≡ true) result
+          (λ yes so can run. ∥∥₁_elim (run all.steps all.are) (hlevel props) (λ one. so can (losing_run_there given closed.lost.items nodes all.steps one))) always;
+      replays = replayed_so given closed all.steps result all.are (replays_so given all.steps nodes world numbers result all.has shown);
     }
 
 pub returns-in-Err-clause-one_run : goal.returns-in-Err-clause-one_run

@@ -8,8 +8,7 @@ use Rattle.pg_world.specs.BytesLosing.{ShowsLosingBytes}
 use Rattle.pg_world.specs.CrossingRuns.{CrossesTo}
 use Rattle.pg_world.proofs.over_bytes.Chained.{chain_all, chain_steps_more}
 use Rattle.pg_world.proofs.over_bytes.RunningOn.{bytes_run_on, bytes_run_grows}
-use Rattle.pg_world_packets.proofs.LosingRunning.{losing_reached_on}
-use Rattle.pg_world_packets.proofs.Running.{passes_at}
+use Rattle.pg_world_packets.proofs.Running.{passes_at, reached_on}
 use Rattle.pg_world_packets.proofs.Sets.{update_set}
 use Rattle.pg_world.proofs.byte_world.World.run.Goals as goal
 
@@ -31,7 +30,7 @@ loop-place-preserved g c =
           (ShowsLosingBytes config (crossing_of c.loop-place.self) (account_of c.loop-place.self) (lost_of c.loop-place.self)) Shown within inside c.index-steps-place.is
           (c.loop-place.invariant.crosses config u reached shows)
           (λ v events led shown. subst (λ (room : ℕ). CrossesTo config room (crossing_of c.loop-place.self) v (c.index-steps-place.result ∷ []) (c.step_number-number.result ∷ []) (crossing_of c.step_number-number.new.self) Shown) c.loop-place.invariant.room
-          (c.step_number-number.ensures.crosses config v (losing_reached_on config u v events reached led) shown));
+          (c.step_number-number.ensures.crosses config v (reached_on config u v events reached led) shown));
     }
 
 pub returns-clause-crosses : goal.returns-clause-crosses

@@ -1,36 +1,25 @@
-use Rattle.std.proofs.Common.{◌≡◌, ◌∙◌, ℕ, List, Bool, [], Err, length, true, false, refl, sym, ap, subst}
-use Rattle.std.specs.Prelude.{IfErr}
+use Rattle.std.proofs.Common.{◌≡◌, ◌∙◌, Err, true, false, refl, sym, subst}
 use Rattle.pg_world_packets.specs.PgStep.Machines.Places.{is_pair}
-use Rattle.pg_world_packets.proofs.PgLaws.steps.Lossless.{nobody_timed}
 use Rattle.pg_world_packets.specs.PgLawsLosses.Reached.{LosingReaches}
-use Rattle.pg_world_packets.specs.PgStep.Config.{name_at}
-use Rattle.pg_world_packets.specs.PgStep.Nodes.{Node}
 use Rattle.pg_world_packets.specs.PgStep.Step.{Issue, Retry}
 use Rattle.pg_world_packets.specs.declared.step.FrameStep.{FrameStep}
 use Rattle.pg_world.specs.BytesLosing.{ShowsLosingBytes, EventLeaves}
-use Rattle.pg_world.specs.Bars.{IsFaultOf, loss_bar}
-use Rattle.pg_world.specs.Crossings.{Crossing, crossing_of, ShowsBytes, FrameComesTo}
+use Rattle.pg_world.specs.Crossings.{crossing_of}
 use Rattle.pg_world_packets.specs.PgWorldAccount.Histories.{account_of}
 use Rattle.pg_world_packets.specs.Losing.{losing_of, is_barred, is_cut_off}
 use Rattle.pg_world_packets.specs.PgWorldAccount.Losses.{lost_in, is_lost}
 use Rattle.pg_world_packets.specs.PgWorldAccount.Histories.{Account}
 use Rattle.pg_world_packets.specs.Worlds.{has_places}
 use Rattle.pg_world_packets.proofs.Barred.{either_stays, either_unseen, take_cut}
-use Rattle.pg_world.proofs.over_bytes.Past.{bytes_with, loss_came, take_past, own_past, unplaced_past}
+use Rattle.pg_world.proofs.over_bytes.Past.{take_past, own_past, unplaced_past}
 use Rattle.pg_world.proofs.over_bytes.Past.{barred_past, take_starved, own_starved}
 use Rattle.pg_world_packets.specs.PgNodeState.declared.state.fault.NodeFault.TheVariants.{OutOfMemory}
 use Rattle.pg_world.specs.Changes.{FrameChanges, spares}
 use Rattle.pg_world_packets.specs.PgStep.declared.refusal.Refusal.TheVariants.{NoSuchPlace, NodeLost}
 use Rattle.pg_world.proofs.Changed.{barred_changes}
-use Rattle.pg_world.proofs.Harmless.{welcome_there, welcome_left}
+use Rattle.pg_world.proofs.Harmless.{welcome_left}
 use Rattle.pg_world_packets.proofs.Turning.{pair_there}
-use Rattle.pg_world.proofs.over_bytes.Unplaced.{unplaced_event}
 use Rattle.pg_world.proofs.bytes.ByteNodes.event.Goals as goal
-
-pub returns-then-not-has_places-clause-came : goal.returns-then-not-has_places-clause-came
-returns-then-not-has_places-clause-came g c = λ config w nobody reached shows.
-    unplaced_event config (crossing_of c.args.self.now).nodes w shows.traffic.nodes c.args.event.now (ShowsBytes config (crossing_of c.args.self.now) (account_of c.args.self.now.histories))
-    (sym c.has_places.ensures ∙ c.if-not-has_places.true) shows
 
 pub returns-then-not-has_places-clause-losing : goal.returns-then-not-has_places-clause-losing
 returns-then-not-has_places-clause-losing g c = λ config u reached shows.
@@ -40,17 +29,6 @@ pub returns-then-is_barred-clause-losing : goal.returns-then-is_barred-clause-lo
 returns-then-is_barred-clause-losing g c = λ config u reached shows.
     barred_past config (crossing_of c.args.self.now) (account_of c.args.self.now.histories) u (lost_in c.args.self.now.losses) shows c.args.event.now
     (sym c.has_places.ensures ∙ c.if-not-has_places.false) (sym c.is_barred.ensures ∙ c.if-is_barred.true)
-
-pub returns-in-Ok-clause-came : goal.returns-in-Ok-clause-came
-returns-in-Ok-clause-came g c = λ config w nobody reached shows.
-    let nodes = (crossing_of c.args.self.now).nodes in
-    let places = sym c.has_places.ensures ∙ c.if-not-has_places.false in
-    let pair : is_pair _ c.in-Take.node c.in-Take.peer ≡ true = subst (λ (s : FrameStep). has_places nodes s ≡ true) c.in-Take.is places in
-    let settled : account_of c.settle.new.self ≡ account_of c.args.self.now.histories = c.settle.ensures.account in
-    let now = subst (λ (a : Account). ShowsBytes config (crossing_of c.args.self.now) a w) (sym settled) shows in
-    let harmless = c.nobody_is_harmed.ensures config w reached.0 shows.traffic.nodes.apart reached.1 in
-    subst (λ (s : FrameStep). FrameComesTo config w s c.take.result (ShowsBytes config (crossing_of c.take.new.self) (account_of c.take.new.self.histories))) (sym c.in-Take.is)
-    (c.take.ensures.event config [] w refl (ap (λ (f : Node → Bool). f (name_at config c.in-Take.peer)) (nobody_timed config reached.0 w reached.1 c.in-Take.node)) (welcome_there config w c.in-Take.node c.in-Take.peer harmless (pair_there config nodes w c.in-Take.node c.in-Take.peer shows.traffic.nodes pair)) now)
 
 pub returns-in-Ok-clause-losing : goal.returns-in-Ok-clause-losing
 returns-in-Ok-clause-losing g c = λ config u reached shows.
@@ -76,22 +54,6 @@ returns-in-Ok-clause-losing g c = λ config u reached shows.
     (take_past config crossing (crossing_of c.take.new.self) _ (account_of c.take.new.self.histories) u lost _ now c.take.ensures.lost c.take.result i p pair lives
     (c.take.ensures.event config lost w stays unseen welcome now.shows))
 
-pub returns-in-Lose-clause-came : goal.returns-in-Lose-clause-came
-returns-in-Lose-clause-came g c = λ config w nobody reached shows.
-    let crossing = crossing_of c.args.self.now in
-    let now = subst (λ (a : Account). ShowsBytes config crossing a w) (sym c.lose.ensures.account) (bytes_with config crossing _ w c.lose.result crossing.nodes (lost_in c.args.self.now.losses) shows) in
-    let after = subst (λ (x : Crossing). ShowsBytes config x (account_of c.lose.new.self.histories) w) (sym c.lose.ensures.same) now in
-    let fault = subst (λ (l : List ℕ). IfErr c.lose.result (IsFaultOf (loss_bar crossing l c.in-Lose.node))) nobody c.lose.ensures.fault in
-    subst (λ (s : FrameStep). FrameComesTo config w s c.lose.result (ShowsBytes config (crossing_of c.lose.new.self) (account_of c.lose.new.self.histories))) (sym c.in-Lose.is)
-    (loss_came config (length crossing.nodes) c.in-Lose.node (ShowsBytes config (crossing_of c.lose.new.self) (account_of c.lose.new.self.histories) w) c.lose.result shows.traffic.nodes.size fault after)
-
-pub returns-in-Ok-settle-clause-came : goal.returns-in-Ok-settle-clause-came
-returns-in-Ok-settle-clause-came g c = λ config w nobody reached shows.
-    let settled : account_of c.settle-in-Command.new.self ≡ account_of c.args.self.now.histories = c.settle-in-Command.ensures.account in
-    let now = subst (λ (a : Account). ShowsBytes config (crossing_of c.args.self.now) a w) (sym settled) shows in
-    subst (λ (s : FrameStep). FrameComesTo config w s c.command.result (ShowsBytes config (crossing_of c.command.new.self) (account_of c.command.new.self.histories))) (sym c.in-Command.is)
-    (c.command.ensures.event config [] w refl now)
-
 pub returns-in-Ok-settle-clause-losing : goal.returns-in-Ok-settle-clause-losing
 returns-in-Ok-settle-clause-losing g c = λ config u reached shows.
     let crossing = crossing_of c.args.self.now in
@@ -104,13 +66,6 @@ returns-in-Ok-settle-clause-losing g c = λ config u reached shows.
     subst (λ (s : FrameStep). EventLeaves config u s c.command.result (ShowsLosingBytes config (crossing_of c.command.new.self) (account_of c.command.new.self.histories) (lost_in c.command.new.self.losses))) (sym c.in-Command.is)
     (own_past config crossing (crossing_of c.command.new.self) _ (account_of c.command.new.self.histories) u lost _ now c.command.ensures.lost c.command.result c.in-Command.node (Issue c.in-Command.port c.in-Command.command) places stays
     (c.command.ensures.event config lost now.frames stays now.shows))
-
-pub returns-in-Ok-settle-2-clause-came : goal.returns-in-Ok-settle-2-clause-came
-returns-in-Ok-settle-2-clause-came g c = λ config w nobody reached shows.
-    let settled : account_of c.settle-in-Retry.new.self ≡ account_of c.args.self.now.histories = c.settle-in-Retry.ensures.account in
-    let now = subst (λ (a : Account). ShowsBytes config (crossing_of c.args.self.now) a w) (sym settled) shows in
-    subst (λ (s : FrameStep). FrameComesTo config w s c.retry.result (ShowsBytes config (crossing_of c.retry.new.self) (account_of c.retry.new.self.histories))) (sym c.in-Retry.is)
-    (c.retry.ensures.event config [] w refl now)
 
 pub returns-in-Ok-settle-2-clause-losing : goal.returns-in-Ok-settle-2-clause-losing
 returns-in-Ok-settle-2-clause-losing g c = λ config u reached shows.

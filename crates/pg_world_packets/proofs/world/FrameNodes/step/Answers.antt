@@ -1,18 +1,12 @@
-use Rattle.std.proofs.Common.{◌≡◌, ◌∙◌, ℕ, List, true, false, refl, sym, ap, subst}
+use Rattle.std.proofs.Common.{◌≡◌, ◌∙◌, ℕ, List, true, false, refl, sym, subst}
 use Rattle.pg_node_state.specs.PgStep.Step.{Issue, Retry}
 use Rattle.pg_world_packets.specs.declared.step.FrameStep.{FrameStep}
-use Rattle.pg_node_state.specs.PgStep.Machines.Machine.{Do}
 use Rattle.pg_world_packets.specs.Losing.{lost_of, told_of, told_loss, is_barred, is_told_first, ShowsLosing, LosingComesTo}
 use Rattle.pg_world_packets.specs.Views.{View}
-use Rattle.pg_world_packets.specs.Worlds.{traffic_of, view_of, has_places, event_of, ShowsWorld, StepComesTo}
+use Rattle.pg_world_packets.specs.Worlds.{traffic_of, view_of, has_places}
 use Rattle.pg_world_packets.proofs.Barred.{take_in, own_in, take_late_in, own_late_in, unplaced_in, barred_in}
 use Rattle.pg_world_packets.proofs.Recording.{view_is}
-use Rattle.pg_world_packets.proofs.Unplaced.{starved, unplaced}
 use Rattle.pg_world_packets.proofs.world.FrameNodes.step.Goals as goal
-
-pub returns-then-not-has_places-clause-event : goal.returns-then-not-has_places-clause-event
-returns-then-not-has_places-clause-event g c = λ config w nobody shows.
-    unplaced config (traffic_of c.args.self.now).nodes w shows.traffic.nodes c.args.step.now (ShowsWorld config (view_of c.args.self.now)) (sym c.has_places.ensures ∙ c.if-not-has_places.true)
 
 pub returns-then-not-has_places-clause-losing : goal.returns-then-not-has_places-clause-losing
 returns-then-not-has_places-clause-losing g c = λ config u shows.
@@ -23,12 +17,6 @@ returns-then-is_barred-clause-losing g c = λ config u shows.
     let places = sym c.has_places.ensures ∙ c.if-not-has_places.false in
     let bars = sym c.is_barred.ensures ∙ c.if-is_barred.true in
     (barred_in config (view_of c.args.self.now) u (lost_of c.args.self.now) shows c.args.step.now places bars, shows)
-
-pub returns-in-Ok-clause-event : goal.returns-in-Ok-clause-event
-returns-in-Ok-clause-event g c = λ config w nobody shows.
-    let settled = view_is _ _ refl c.settle.ensures.account in
-    subst (λ (s : FrameStep). StepComesTo config w s c.take.result (ShowsWorld config (view_of c.take.new.self))) (sym c.in-Take.is)
-    (c.take.ensures.event config w (subst (λ (v : View). ShowsWorld config v w) (sym settled) shows))
 
 pub returns-in-Ok-clause-losing : goal.returns-in-Ok-clause-losing
 returns-in-Ok-clause-losing g c = λ config u shows.
@@ -67,10 +55,6 @@ returns-in-Ok-settle-clause-losing g c = λ config u shows.
     (own_in config _ (view_of c.command.new.self) u lost (lost_of c.command.new.self) now c.command.ensures.lost c.command.result (λ e. absurd (c.command.ensures.happens e)) c.command.ensures.err c.in-Command.node (Issue c.in-Command.port c.in-Command.command)
     (subst (λ (s : FrameStep). has_places nodes s ≡ true) c.in-Command.is places) (subst (λ (s : FrameStep). is_barred nodes lost s ≡ false) c.in-Command.is lives) (c.command.ensures.event config now.frames now.shows))
 
-pub returns-in-Err-settle-clause-event : goal.returns-in-Err-settle-clause-event
-returns-in-Err-settle-clause-event g c = λ config w nobody shows.
-    starved config (traffic_of c.args.self.now).nodes w shows.traffic.nodes c.args.step.now (Do c.in-Command.node (Issue c.in-Command.port c.in-Command.command)) _ (ap event_of c.in-Command.is) (sym c.has_places.ensures ∙ c.if-not-has_places.false)
-
 pub returns-in-Err-settle-clause-losing : goal.returns-in-Err-settle-clause-losing
 returns-in-Err-settle-clause-losing g c = λ config u shows.
     let places = sym c.has_places.ensures ∙ c.if-not-has_places.false in
@@ -95,10 +79,6 @@ returns-in-Ok-settle-2-clause-losing g c = λ config u shows.
     subst (λ (s : FrameStep). LosingComesTo config u (told_of config u s) c.retry.result (ShowsLosing config (view_of c.retry.new.self) (lost_of c.retry.new.self))) (sym c.in-Retry.is)
     (own_in config _ (view_of c.retry.new.self) u lost (lost_of c.retry.new.self) now c.retry.ensures.lost c.retry.result (λ e. absurd (c.retry.ensures.happens e)) c.retry.ensures.err c.in-Retry.node (Retry c.in-Retry.op)
     (subst (λ (s : FrameStep). has_places nodes s ≡ true) c.in-Retry.is places) (subst (λ (s : FrameStep). is_barred nodes lost s ≡ false) c.in-Retry.is lives) (c.retry.ensures.event config now.frames now.shows))
-
-pub returns-in-Err-settle-2-clause-event : goal.returns-in-Err-settle-2-clause-event
-returns-in-Err-settle-2-clause-event g c = λ config w nobody shows.
-    starved config (traffic_of c.args.self.now).nodes w shows.traffic.nodes c.args.step.now (Do c.in-Retry.node (Retry c.in-Retry.op)) _ (ap event_of c.in-Retry.is) (sym c.has_places.ensures ∙ c.if-not-has_places.false)
 
 pub returns-in-Err-settle-2-clause-losing : goal.returns-in-Err-settle-2-clause-losing
 returns-in-Err-settle-2-clause-losing g c = λ config u shows.

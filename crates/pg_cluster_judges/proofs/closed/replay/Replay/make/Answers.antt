@@ -4,4 +4,4 @@ use Rattle.pg_cluster_judges.proofs.closed.replay.Replay.make.Goals as goal
 pub returns : goal.returns
 returns c =
     made_if c.extend_from_slice.result c.args.self.now (record { world = c.run.new.self; numbers = c.extend_from_slice.new.self }) c.args.steps.now c.run.new.numbers.items c.as_slice.result.now
-    c.one_history.ensures.each_world c.each_world_past_losses.ensures c.run.ensures.lost c.run.ensures.ran c.run.ensures.losing c.as_slice.ensures.value c.extend_from_slice.ensures.items
+    c.each_world_past_losses.ensures c.run.ensures.runs c.as_slice.ensures.value c.extend_from_slice.ensures.items
