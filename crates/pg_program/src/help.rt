@@ -189,6 +189,7 @@ What goes out begins with 21:
   17 CLOCK  the clock, in four bytes
   19 N      this node was denied the lock that port N wants
   22        the node is formed
+  23 TERM   with --mirror: what the table becomes, a list of {Name}, {Name, [Pid, ..]} and {Name, Pid, Count}
 What follows from a read is in the log, and then goes out, before the next read.
 
 Status 0: the input came to its end between two bodies. Status 1: `refused N`, or without such a line, where standard output
