@@ -30,19 +30,23 @@ port_of(Name) -> 1 + erlang:phash2(Name, ?PORTS - 1).
 last_port() -> ?PORTS.
 
 %% @doc A request, and for what it is made. Gives the bodies for the program.
--spec ask(pos_integer(), term(), term(), desk()) -> {[binary()], desk()}.
+-spec ask(pos_integer(), term(), term(), desk()) -> {[iodata()], desk()}.
 ask(Port, Command, What, #desk{given = Given, waiting = Waiting} = Desk) ->
     case maps:get(Port, Given, {0, 0}) of
         {_, ?MOST} ->
             Queue = maps:get(Port, Waiting, queue:new()),
             {[], Desk#desk{waiting = Waiting#{Port => queue:in({Command, What}, Queue)}}};
         {Number, Open} ->
-            {[zulayefi_term:to_program({node(), Port, Command})],
+            {[request({node(), Port, Command})],
              Desk#desk{given = Given#{Port => {Number + 1, Open + 1}}, asked = (Desk#desk.asked)#{{Port, Number + 1} => What}}}
     end.
 
+%% (where it names a process, that stands last)
+request({_, _, {Word, _}} = Request) when Word =/= finish -> zulayefi_term:to_program(Request);
+request(Request) -> zulayefi_term:to_program_at_end(Request).
+
 %% @doc A reply came. Gives for what the request was made, and the bodies that have waited for it.
--spec answered(pos_integer(), pos_integer(), desk()) -> {term(), [binary()], desk()}.
+-spec answered(pos_integer(), pos_integer(), desk()) -> {term(), [iodata()], desk()}.
 answered(Port, Number, #desk{given = Given, asked = Asked, waiting = Waiting} = Desk) ->
     {What, Others} = maps:take({Port, Number}, Asked),
     {Last, Open} = map_get(Port, Given),

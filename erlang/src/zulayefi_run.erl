@@ -1,6 +1,6 @@
 %% @doc One run of the program: this node's part of a generation. It carries the bytes of the others, and says what each body of the program means.
 -module(zulayefi_run).
--export([start/2, bring/2, stop/2, opened/2, take/4, denied/3, ask/4, heard/2, beat/1, is_idle/1, second/1, is_of/2]).
+-export([start/2, bring/2, stop/2, opened/2, take/5, ask/4, came/2, heard/2, out/1, push/1, is_pushed/1, beat/1, is_idle/1, second/1, is_of/2]).
 -export([os_pid/1, waiting/1]).
 -export_type([run/0, event/0]).
 
@@ -27,6 +27,8 @@
     %% peers whose stream has begun, with the number of the bytes that come next, and of those that go next
     streams = #{} :: #{pid() => non_neg_integer()},
     sent = #{} :: #{pid() => non_neg_integer()},
+    %% bytes for peers, and ports at which this node was denied a lock, the last first
+    out = #{} :: #{pid() => {[binary()], [pos_integer()]}},
     desk = zulayefi_desk:new() :: zulayefi_desk:desk(),
     %% whether the clock is asked for, whether anything came in this second, and for how many seconds nothing came since it was asked for
     asks_clock = false :: boolean(),
@@ -38,12 +40,11 @@
 
 %% What a body of the program means.
 -type event() ::
-    {version, binary()}
-    | {send, pid(), Number :: non_neg_integer(), binary()}
+    none
+    | {version, binary()}
     | {assigned, [zulayefi_table:assignment()]}
     | formed
     | {clock, non_neg_integer()}
-    | {denied, Port :: pos_integer()}
     | {replied, What :: term(), Reply :: term()}
     | {has_ended, What :: term()}
     | {stop, Why :: term()}.
@@ -83,19 +84,19 @@ opened(Pid, #run{places = Places, streams = Streams} = Run) when is_map_key(Pid,
     Run#run{streams = Streams#{Pid => 0}};
 opened(_, Run) -> Run.
 
-%% @doc Bytes of a peer, with their number.
--spec take(pid(), non_neg_integer(), binary(), run()) -> {ok, run()} | ignored | gap.
-take(Pid, Number, Bytes, #run{streams = Streams, places = Places} = Run) ->
+%% @doc Bytes of a peer, with their number, and the ports at which it was denied a lock.
+-spec take(pid(), non_neg_integer(), [binary()], [pos_integer()], run()) -> {ok, run()} | ignored | gap.
+take(Pid, Number, Bytes, Denied, #run{streams = Streams} = Run) ->
     case Streams of
-        #{Pid := Number} -> {ok, give([map_get(Pid, Places), Bytes], Run#run{streams = Streams#{Pid := Number + 1}})};
+        #{Pid := Number} -> {ok, lists:foldl(fun deny/2, feed(Pid, Bytes, Run#run{streams = Streams#{Pid := Number + 1}}), Denied)};
         #{Pid := _} -> gap;
         _ -> ignored
     end.
 
-%% @doc Another node was denied the lock of a group.
--spec denied(pid(), pos_integer(), run()) -> run().
-denied(Pid, Port, #run{streams = Streams} = Run) when is_map_key(Pid, Streams) -> give([?DENIED, Port], Run);
-denied(_, _, Run) -> Run.
+feed(_, [], Run) -> Run;
+feed(Pid, Bytes, #run{places = Places} = Run) -> give([map_get(Pid, Places) | Bytes], Run).
+
+deny(Port, Run) -> give([?DENIED, Port], Run).
 
 %% ---- requests
 
@@ -106,26 +107,50 @@ ask(Port, Command, What, #run{desk = Desk} = Run) ->
 
 %% ---- what the program says
 
--spec heard(binary(), run()) -> {event(), run()}.
-heard(Body, Run) -> meaning(Body, Run#run{heard = true}).
+%% @doc The bodies that are whole now that this came of the program.
+-spec came(binary(), run()) -> {[binary() | too_long], run()}.
+came(Data, #run{program = Program} = Run) ->
+    {Bodies, Program1} = zulayefi_port:bodies(Data, Program),
+    {Bodies, Run#run{program = Program1, heard = true}}.
 
-meaning(<<Place, Bytes/binary>>, #run{peers = Peers, sent = Sent} = Run) when Place < ?PLACES ->
+%% @doc What a body means. What is for peers is gathered.
+-spec heard(binary() | too_long, run()) -> {event(), run()}.
+heard(too_long, Run) -> {{stop, too_long}, Run};
+heard(<<Place, Piece/binary>>, #run{peers = Peers, out = Out} = Run) when Place < ?PLACES ->
     Pid = element(Place + 1, Peers),
-    Number = maps:get(Pid, Sent, 0),
-    {{send, Pid, Number, Bytes}, Run#run{sent = Sent#{Pid => Number + 1}}};
-meaning(<<?ASSIGNED, Terms/binary>>, #run{creations = Creations} = Run) ->
+    {Bytes, Denied} = maps:get(Pid, Out, {[], []}),
+    {none, Run#run{out = Out#{Pid => {[Piece | Bytes], Denied}}}};
+heard(<<?ASSIGNED, Terms/binary>>, #run{creations = Creations} = Run) ->
     {{assigned, [unwrapped(Each) || Each <- zulayefi_term:from_program(Terms, Creations)]}, Run};
-meaning(<<?TERM, _/binary>> = Body, Run) -> said(binary_to_term(Body), Run);
-meaning(<<?DENIED, Port>>, Run) -> {{denied, Port}, Run};
-meaning(<<?CLOCK, Clock:32>>, Run) -> {{clock, Clock}, Run#run{asks_clock = false}};
-meaning(<<?FORMED>>, Run) -> {formed, Run};
-meaning(<<?VERSION, Format, Version/binary>>, Run) ->
+heard(<<?TERM, _/binary>> = Body, Run) -> said(binary_to_term(Body), Run);
+heard(<<?DENIED, Port>>, #run{peers = Peers} = Run) -> {none, lists:foldl(fun(Pid, Next) -> denied(Pid, Port, Next) end, Run, tuple_to_list(Peers))};
+heard(<<?CLOCK, Clock:32>>, Run) -> {{clock, Clock}, Run#run{asks_clock = false}};
+heard(<<?FORMED>>, Run) -> {formed, Run};
+heard(<<?VERSION, Format, Version/binary>>, Run) ->
     case zulayefi_port:format() of
-        Format -> {{version, Version}, Run};
+        Format -> {{version, binary:copy(Version)}, Run};
         Ours -> {{stop, {format, Format, Ours}}, Run}
     end.
 
 unwrapped(Assignment) -> setelement(1, Assignment, zulayefi_term:unwrapped(element(1, Assignment))).
+
+denied(Pid, Port, #run{out = Out} = Run) ->
+    {Bytes, Denied} = maps:get(Pid, Out, {[], []}),
+    Run#run{out = Out#{Pid => {Bytes, [Port | Denied]}}}.
+
+%% @doc What is gathered for peers: bytes with their number, and ports at which this node was denied a lock.
+-spec out(run()) -> {[{pid(), non_neg_integer(), [binary()], [pos_integer()]}], run()}.
+out(#run{out = Out, sent = Sent} = Run) ->
+    Messages = [{Pid, maps:get(Pid, Sent, 0), lists:reverse(Bytes), Denied} || {Pid, {Bytes, Denied}} <- maps:to_list(Out)],
+    {Messages, Run#run{out = #{}, sent = lists:foldl(fun({Pid, Number, _, _}, Next) -> Next#{Pid => Number + 1} end, Sent, Messages)}}.
+
+%% @doc Pushes what the program is given.
+-spec push(run()) -> run().
+push(#run{program = Program} = Run) -> Run#run{program = zulayefi_port:push(Program)}.
+
+%% @doc Whether nothing is gathered, for peers or for the program.
+-spec is_pushed(run()) -> boolean().
+is_pushed(#run{program = Program, out = Out}) -> map_size(Out) =:= 0 andalso zulayefi_port:is_pushed(Program).
 
 said({_, Port, Number, Reply}, #run{desk = Desk} = Run) ->
     {What, Bodies, Desk1} = zulayefi_desk:answered(Port, Number, Desk),

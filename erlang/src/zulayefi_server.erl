@@ -13,6 +13,10 @@
 -define(PROTOCOL, 1).
 -define(BEAT_MS, 2).
 -define(SECOND_MS, 1000).
+%% So many messages are handled at most before what follows from them is pushed.
+-define(AT_ONCE, 64).
+%% Words of memory to begin with. What a message leaves behind is little, and is collected once in a thousand or so.
+-define(HEAP, 50000).
 %% How long a proposal that did not form is left alone before it is made again.
 -define(FIRST_WAIT_MS, 10).
 -define(LAST_WAIT_MS, 10000).
@@ -48,6 +52,8 @@
     proposal = none :: {[pid()], integer(), pos_integer()} | none,
     timer = none :: reference() | none,
     is_beating = false :: boolean(),
+    %% how many messages were handled whose bytes and bodies are not pushed
+    handled = 0 :: non_neg_integer(),
 
     version = <<>> :: binary(),
     clock = 0 :: non_neg_integer(),
@@ -61,7 +67,7 @@
 }).
 
 -spec start_link() -> {ok, pid()} | {error, term()}.
-start_link() -> gen_server:start_link({local, ?MODULE}, ?MODULE, [], []).
+start_link() -> gen_server:start_link({local, ?MODULE}, ?MODULE, [], [{spawn_opt, [{min_heap_size, ?HEAP}]}]).
 
 %% @doc The request for a change.
 -spec change(create | delete | join | leave, term(), zulayefi_term:wrapped(), pid() | none) -> term().
@@ -88,28 +94,60 @@ terminate(_, S) -> stop_run(unneeded, S).
 
 %% ---- messages
 
-handle_call({?PROTOCOL, #change{} = Change}, From, S) -> reply_later(asked(Change#change{from = From}, named(S)));
-handle_call({record, Dir}, _, S) -> {reply, ok, beating(record(Dir, S))};
-handle_call(info, _, S) -> {reply, info(S), S};
-handle_call(_, _, S) -> {reply, {error, {not_in_set, node()}}, S}.
+handle_call({?PROTOCOL, #change{} = Change}, From, S) -> handled(asked(Change#change{from = From}, named(S)));
+handle_call({record, Dir}, From, S) ->
+    S1 = record(Dir, S),
+    gen_server:reply(From, ok),
+    handled(S1);
+handle_call(info, From, S) ->
+    gen_server:reply(From, info(S)),
+    handled(S);
+handle_call(_, From, S) ->
+    gen_server:reply(From, {error, {not_in_set, node()}}),
+    handled(S).
 
-handle_cast(_, S) -> {noreply, S}.
+handle_cast(_, S) -> handled(S).
 
-handle_info({Port, {data, Body}}, S) when is_port(Port) -> reply_later(came(Port, Body, S));
-handle_info({?PROTOCOL, Pid, Message}, S) when Pid =/= self() -> reply_later(message(Message, Pid, S));
-handle_info({Protocol, Pid, _}, S) when is_integer(Protocol), is_pid(Pid) -> reply_later(stranger(Protocol, node(Pid), S));
-handle_info(beat, S) -> reply_later(beat(S#state{is_beating = false}));
-handle_info({'DOWN', Monitor, process, Pid, _}, S) -> reply_later(ended(Monitor, Pid, S));
-handle_info(second, S) ->
+handle_info(timeout, S) -> pushed(S);
+handle_info(Message, S) -> handled(told(Message, S)).
+
+told({Port, {data, Data}}, S) when is_port(Port) -> came(Port, Data, S);
+told({?PROTOCOL, Pid, Message}, S) when Pid =/= self() -> message(Message, Pid, S);
+told({Protocol, Pid, _}, S) when is_integer(Protocol), is_pid(Pid) -> stranger(Protocol, node(Pid), S);
+told(beat, S) -> beat(S#state{is_beating = false});
+told({'DOWN', Monitor, process, Pid, _}, S) -> ended(Monitor, Pid, S);
+told(second, S) ->
     erlang:send_after(?SECOND_MS, self(), second),
-    reply_later(second(S));
-handle_info(propose, S) -> reply_later(consider(S#state{timer = none}));
-handle_info({nodeup, Node}, S) -> reply_later(tell_node(Node, named(S)));
-handle_info({Port, {exit_status, Status}}, S) -> reply_later(program_ended(Port, Status, S));
-handle_info({'EXIT', Port, Reason}, S) when is_port(Port) -> reply_later(program_ended(Port, Reason, S));
-handle_info(_, S) -> {noreply, S}.
+    second(S);
+told(propose, S) -> consider(S#state{timer = none});
+told({nodeup, Node}, S) -> tell_node(Node, named(S));
+told({Port, {exit_status, Status}}, S) -> program_ended(Port, Status, S);
+told({'EXIT', Port, Reason}, S) when is_port(Port) -> program_ended(Port, Reason, S);
+told(_, S) -> S.
 
-reply_later(S) -> {noreply, beating(S)}.
+%% What is for peers and for the program is gathered as long as messages wait, and then goes out together: a message costs little, a write much.
+handled(#state{handled = Handled} = S) ->
+    case is_pushed(S) of
+        true -> {noreply, beating(S)};
+        false when Handled >= ?AT_ONCE -> pushed(S);
+        false -> {noreply, S#state{handled = Handled + 1}, 0}
+    end.
+
+is_pushed(#state{run = none}) -> true;
+is_pushed(#state{run = Run}) -> zulayefi_run:is_pushed(Run).
+
+pushed(S) -> {noreply, beating(push(S#state{handled = 0}))}.
+
+push(#state{run = none} = S) -> S;
+push(S) ->
+    #state{run = Run} = S1 = bytes_out(S),
+    S1#state{run = zulayefi_run:push(Run)}.
+
+%% Bytes for peers go out.
+bytes_out(#state{run = none} = S) -> S;
+bytes_out(#state{run = Run, generation = Generation} = S) ->
+    {Out, Run1} = zulayefi_run:out(Run),
+    lists:foldl(fun({Pid, Number, Bytes, Denied}, Next) -> put_out(Pid, {bytes, Generation, Number, Bytes, Denied}, Next) end, S#state{run = Run1}, Out).
 
 message({state, Generation, Stage, Servers}, Pid, S) ->
     S1 = consider(settle(met(Pid, {Generation, Stage, Servers}, S))),
@@ -118,14 +156,12 @@ message({state, Generation, Stage, Servers}, Pid, S) ->
         false -> send(Pid, state(S1), S1)
     end;
 message({start, Generation, Set, Recording}, Pid, S) -> consider(started(Generation, Set, Recording, Pid, S));
-message({bytes, Generation, Number, Bytes}, Pid, #state{generation = Generation, run = Run} = S) when Run =/= none ->
-    case zulayefi_run:take(Pid, Number, Bytes, Run) of
+message({bytes, Generation, Number, Bytes, Denied}, Pid, #state{generation = Generation, run = Run} = S) when Run =/= none ->
+    case zulayefi_run:take(Pid, Number, Bytes, Denied, Run) of
         {ok, Run1} -> S#state{run = Run1};
         ignored -> S;
         gap -> consider(lost(Pid, S))
     end;
-message({denied, Generation, Port}, Pid, #state{generation = Generation, run = Run} = S) when Run =/= none ->
-    S#state{run = zulayefi_run:denied(Pid, Port, Run)};
 message({record, Dir}, _, S) -> record(Dir, S);
 message(_, _, S) -> S.
 
@@ -135,7 +171,10 @@ stranger(Protocol, Node, #state{strangers = Strangers} = S) ->
 
 %% ---- other servers
 
-send(To, Message, #state{links = Links} = S) -> S#state{links = zulayefi_links:send(To, {?PROTOCOL, self(), Message}, Links)}.
+%% (behind the bytes that are gathered)
+send(To, Message, S) -> put_out(To, Message, bytes_out(S)).
+
+put_out(To, Message, #state{links = Links} = S) -> S#state{links = zulayefi_links:send(To, {?PROTOCOL, self(), Message}, Links)}.
 
 send_all(Pids, Message, S) -> lists:foldl(fun(Pid, Next) -> send(Pid, Message, Next) end, S, Pids).
 
@@ -286,7 +325,16 @@ program_ended(Port, Reason, #state{run = Run} = S) ->
 
 %% ---- what the program says
 
-came(Port, Body, #state{run = Run} = S) ->
+came(Port, Data, #state{run = Run} = S) ->
+    case zulayefi_run:is_of(Port, Run) of
+        true ->
+            {Bodies, Run1} = zulayefi_run:came(Data, Run),
+            lists:foldl(fun(Body, Next) -> heard(Port, Body, Next) end, S#state{run = Run1}, Bodies);
+        false -> S
+    end.
+
+%% (by a body before it the run may have stopped)
+heard(Port, Body, #state{run = Run} = S) ->
     case zulayefi_run:is_of(Port, Run) of
         true ->
             {Event, Run1} = zulayefi_run:heard(Body, Run),
@@ -294,12 +342,11 @@ came(Port, Body, #state{run = Run} = S) ->
         false -> S
     end.
 
-on({send, Pid, Number, Bytes}, #state{generation = Generation} = S) -> send(Pid, {bytes, Generation, Number, Bytes}, S);
+on(none, S) -> S;
 on({assigned, Assignments}, #state{read = Read} = S) -> lists:foldl(fun assigned/2, S#state{read = Read + length(Assignments)}, Assignments);
 on({replied, {change, Name}, Reply}, S) -> next(Name, answer(Name, real(Reply, Name), S));
 on({replied, finish, ok}, S) -> S;
 on({replied, finish, Reply}, S) -> refused(Reply, S);
-on({denied, Port}, #state{generation = Generation, set = Set} = S) -> send_all(Set -- [self()], {denied, Generation, Port}, S);
 on(formed, S) -> consider(settle(formed(S)));
 on({clock, Clock}, S) -> S#state{clock = Clock};
 on({has_ended, {change, Name}}, S) -> has_ended(zulayefi_changes:first(Name, S#state.changes), S);
@@ -346,7 +393,7 @@ noticed(Name, Before, After, #state{changes = Changes} = S) ->
     case zulayefi_changes:first(Name, Changes) of
         #change{status = given} = Change ->
             case zulayefi_changes:is_effect(Change, Before, After) of
-                true -> S#state{changes = zulayefi_changes:mark(Name, begun, Changes)};
+                true -> S#state{changes = zulayefi_changes:begun(Name, Changes)};
                 false -> S
             end;
         _ -> S
@@ -398,16 +445,17 @@ held(#change{word = Word, pid = Pid} = Change, #state{room = Room, watch = Watch
         {ok, Room1} -> S#state{room = Room1}
     end.
 
-%% Gives the first change of a group to the program, if it can be given.
+%% Gives the next changes of a group to the program, as far as they can be given. One that is void is answered once it is the first.
 next(_, #state{is_formed = false} = S) -> S;
 next(Name, #state{changes = Changes} = S) ->
-    case zulayefi_changes:first(Name, Changes) of
-        #change{status = waits} = Change ->
+    case zulayefi_changes:next(Name, Changes) of
+        none -> S;
+        {IsFirst, Change} ->
             case is_void(Change, S) of
-                true -> next(Name, answer(Name, void(Name), S));
-                false -> give(Change, S)
-            end;
-        _ -> S
+                false -> next(Name, give(Change, S));
+                true when IsFirst -> next(Name, answer(Name, void(Name), S));
+                true -> S
+            end
     end.
 
 %% A process that has ended, maybe in an earlier life of this node, joins and leaves nothing. One that is watched has not, as far as is known.
@@ -430,7 +478,7 @@ give(#change{name = Name, wrapped = Wrapped, word = Word, pid = Pid}, #state{cha
         none -> {Word, Wrapped};
         _ -> {Word, Wrapped, Pid}
     end,
-    ask(zulayefi_desk:port_of(Name), Command, {change, Name}, S#state{changes = zulayefi_changes:mark(Name, given, Changes)}).
+    ask(zulayefi_desk:port_of(Name), Command, {change, Name}, S#state{changes = zulayefi_changes:given(Name, Changes)}).
 
 answer(Name, Reply, #state{changes = Changes} = S) ->
     reply(zulayefi_changes:first(Name, Changes), Reply, S#state{changes = zulayefi_changes:pop(Name, Changes)}).
@@ -466,7 +514,7 @@ settle(Name, #state{changes = Changes} = S) ->
 %% The group may be back, by a node that had not seen it deleted.
 settle_delete(Name, #state{changes = Changes} = S) ->
     case zulayefi_table:has(Name) of
-        true -> next(Name, S#state{changes = zulayefi_changes:mark(Name, waits, Changes)});
+        true -> next(Name, S#state{changes = zulayefi_changes:waits(Name, Changes)});
         false -> next(Name, answer(Name, ok, S))
     end.
 

@@ -5,7 +5,7 @@
 %% for a real one, and no table is needed.
 -module(zulayefi_term).
 -export([is_name/1, wrapped/1, unwrapped/1, bytes_of/1]).
--export([creation/1, number/1, fits/1, bytes_of_pid/1, to_program/1, from_program/2]).
+-export([creation/1, number/1, fits/1, bytes_of_pid/1, to_program/1, to_program_at_end/1, from_program/2]).
 -export_type([wrapped/0, creations/0]).
 
 -define(WRITTEN, [{minor_version, 2}]).
@@ -84,29 +84,36 @@ number(Pid) ->
 bytes_of_pid(Pid) -> byte_size(term_to_binary(Pid, ?WRITTEN)) - 1.
 
 %% @doc A term with processes of this node, as the program reads it.
--spec to_program(term()) -> binary().
+-spec to_program(term()) -> iodata().
 to_program(Term) -> with_creations(term_to_binary(Term, ?WRITTEN), #{atom_to_binary(node()) => 1}).
+
+%% @doc The same of a term that ends with a process of this node, and has no other.
+-spec to_program_at_end(term()) -> iodata().
+to_program_at_end(Term) ->
+    Bytes = term_to_binary(Term, ?WRITTEN),
+    [binary_part(Bytes, 0, byte_size(Bytes) - 4), <<1:32>>].
 
 %% @doc What the program wrote, with real processes: a node has the creation that stands at its name.
 -spec from_program(binary(), creations()) -> term().
-from_program(Bytes, Creations) -> binary_to_term(with_creations(Bytes, Creations)).
+from_program(Bytes, Creations) -> binary_to_term(iolist_to_binary(with_creations(Bytes, Creations))).
 
-with_creations(<<131, Terms/binary>>, Creations) -> set(Terms, Creations, <<131>>).
+with_creations(<<131, Terms/binary>> = All, Creations) -> pieces(Terms, 1, 0, All, Creations).
 
-%% One term follows another; the parts of a tuple or list stand behind its head.
-set(<<97, Byte, Rest/binary>>, Cs, Done) -> set(Rest, Cs, <<Done/binary, 97, Byte>>);
-set(<<98, Int:4/binary, Rest/binary>>, Cs, Done) -> set(Rest, Cs, <<Done/binary, 98, Int/binary>>);
-set(<<110, Size, Sign, Digits:Size/binary, Rest/binary>>, Cs, Done) -> set(Rest, Cs, <<Done/binary, 110, Size, Sign, Digits/binary>>);
-set(<<119, Size, Text:Size/binary, Rest/binary>>, Cs, Done) -> set(Rest, Cs, <<Done/binary, 119, Size, Text/binary>>);
-set(<<118, Size:16, Text:Size/binary, Rest/binary>>, Cs, Done) -> set(Rest, Cs, <<Done/binary, 118, Size:16, Text/binary>>);
-set(<<109, Size:32, Bytes:Size/binary, Rest/binary>>, Cs, Done) -> set(Rest, Cs, <<Done/binary, 109, Size:32, Bytes/binary>>);
-set(<<107, Size:16, Bytes:Size/binary, Rest/binary>>, Cs, Done) -> set(Rest, Cs, <<Done/binary, 107, Size:16, Bytes/binary>>);
-set(<<106, Rest/binary>>, Cs, Done) -> set(Rest, Cs, <<Done/binary, 106>>);
-set(<<104, Size, Rest/binary>>, Cs, Done) -> set(Rest, Cs, <<Done/binary, 104, Size>>);
-set(<<105, Size:32, Rest/binary>>, Cs, Done) -> set(Rest, Cs, <<Done/binary, 105, Size:32>>);
-set(<<108, Size:32, Rest/binary>>, Cs, Done) -> set(Rest, Cs, <<Done/binary, 108, Size:32>>);
-set(<<88, 119, Size, Node:Size/binary, Number:8/binary, _:32, Rest/binary>>, Cs, Done) ->
-    set(Rest, Cs, <<Done/binary, 88, 119, Size, Node/binary, Number/binary, (map_get(Node, Cs)):32>>);
-set(<<88, 118, Size:16, Node:Size/binary, Number:8/binary, _:32, Rest/binary>>, Cs, Done) ->
-    set(Rest, Cs, <<Done/binary, 88, 118, Size:16, Node/binary, Number/binary, (map_get(Node, Cs)):32>>);
-set(<<>>, _, Done) -> Done.
+%% Terms stand one behind another, the parts of a tuple or list behind its head. `At' is the place of the next in all bytes, `From' the end of the last
+%% creation: what is between two creations is one piece.
+pieces(<<97, _, Rest/binary>>, At, From, All, Cs) -> pieces(Rest, At + 2, From, All, Cs);
+pieces(<<98, _:32, Rest/binary>>, At, From, All, Cs) -> pieces(Rest, At + 5, From, All, Cs);
+pieces(<<104, _, Rest/binary>>, At, From, All, Cs) -> pieces(Rest, At + 2, From, All, Cs);
+pieces(<<119, Size, _:Size/binary, Rest/binary>>, At, From, All, Cs) -> pieces(Rest, At + 2 + Size, From, All, Cs);
+pieces(<<88, 119, Size, Node:Size/binary, _:96, Rest/binary>>, At, From, All, Cs) -> creation(At + 11 + Size, Node, Rest, From, All, Cs);
+pieces(<<88, 118, Size:16, Node:Size/binary, _:96, Rest/binary>>, At, From, All, Cs) -> creation(At + 12 + Size, Node, Rest, From, All, Cs);
+pieces(<<108, _:32, Rest/binary>>, At, From, All, Cs) -> pieces(Rest, At + 5, From, All, Cs);
+pieces(<<106, Rest/binary>>, At, From, All, Cs) -> pieces(Rest, At + 1, From, All, Cs);
+pieces(<<109, Size:32, _:Size/binary, Rest/binary>>, At, From, All, Cs) -> pieces(Rest, At + 5 + Size, From, All, Cs);
+pieces(<<107, Size:16, _:Size/binary, Rest/binary>>, At, From, All, Cs) -> pieces(Rest, At + 3 + Size, From, All, Cs);
+pieces(<<110, Size, _, _:Size/binary, Rest/binary>>, At, From, All, Cs) -> pieces(Rest, At + 3 + Size, From, All, Cs);
+pieces(<<118, Size:16, _:Size/binary, Rest/binary>>, At, From, All, Cs) -> pieces(Rest, At + 3 + Size, From, All, Cs);
+pieces(<<105, _:32, Rest/binary>>, At, From, All, Cs) -> pieces(Rest, At + 5, From, All, Cs);
+pieces(<<>>, At, From, All, _) -> [binary_part(All, From, At - From)].
+
+creation(At, Node, Rest, From, All, Cs) -> [binary_part(All, From, At - From), <<(map_get(Node, Cs)):32>> | pieces(Rest, At + 4, At + 4, All, Cs)].

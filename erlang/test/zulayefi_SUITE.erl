@@ -451,7 +451,8 @@ notices(_) ->
 say(Notice) ->
     Server = whereis(zulayefi_server),
     [Port] = [Each || Each <- erlang:ports(), erlang:port_info(Each, connected) =:= {connected, Server}],
-    Server ! {Port, {data, term_to_binary(Notice)}}.
+    Body = term_to_binary(Notice),
+    Server ! {Port, {data, <<(byte_size(Body)):32, Body/binary>>}}.
 
 %% The former pg2 says the same to calls one after another.
 same_as_former(_) -> same(400).
