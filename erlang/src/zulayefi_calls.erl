@@ -4,8 +4,7 @@
 -export([create/1, delete/1, join/2, leave/2, request/1]).
 -export_type([error/0]).
 
-%% For how long a server is awaited at a node that is connected.
--define(TRIES, 100).
+%% After how long a server that is about to be started again is asked again.
 -define(BETWEEN_TRIES_MS, 10).
 
 -type error() :: {error, {no_such_group, term()} | {set_full, pos_integer()} | {not_in_set, node()} | system_limit | {refused, pos_integer()}}.
@@ -33,7 +32,7 @@ at_home(Word, Name, Pid) ->
     Change = change(Word, Name, Pid),
     case node(Pid) =:= node() of
         true -> request(Change);
-        false -> there(node(Pid), Change, Name, ?TRIES)
+        false -> there(node(Pid), Change, Name)
     end.
 
 %% @doc Asks the server of this node, and waits where it is about to be started again.
@@ -48,8 +47,9 @@ request(Request) ->
             end
     end.
 
-%% Asks the server of another node. A process of a node that is not connected has left all groups, so nothing is left to do.
-there(Node, Change, Name, Tries) ->
+%% Asks the server of another node, and waits where it is about to be started again, as long as the application runs there. A process of a node that is not
+%% connected has left all groups, so nothing is left to do.
+there(Node, Change, Name) ->
     case lists:member(Node, nodes()) of
         true ->
             try gen_server:call({zulayefi_server, Node}, Change, infinity) of
@@ -58,14 +58,25 @@ there(Node, Change, Name, Tries) ->
             catch
                 exit:{{nodedown, _}, _} -> gone(Name);
                 exit:{noconnection, _} -> gone(Name);
-                exit:{noproc, _} when Tries > 0 -> timer:sleep(?BETWEEN_TRIES_MS), there(Node, Change, Name, Tries - 1);
-                exit:{noproc, _} -> {error, {not_in_set, Node}}
+                exit:{noproc, _} -> there_again(Node, Change, Name)
             end;
         false ->
             case lists:member(Node, nodes(connected)) of
                 true -> {error, {not_in_set, Node}};
                 false -> gone(Name)
             end
+    end.
+
+there_again(Node, Change, Name) ->
+    case runs(Node) of
+        true -> timer:sleep(?BETWEEN_TRIES_MS), there(Node, Change, Name);
+        false -> {error, {not_in_set, Node}}
+    end.
+
+%% Whether the application runs at a node; also where it is gone meanwhile, as the next trial sees.
+runs(Node) ->
+    try erpc:call(Node, erlang, whereis, [zulayefi_sup]) =/= undefined
+    catch error:{erpc, _} -> true
     end.
 
 gone(Name) ->

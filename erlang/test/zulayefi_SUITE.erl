@@ -2,7 +2,7 @@
 -module(zulayefi_SUITE).
 -compile({nowarn_removed, [pg2]}).
 -export([all/0, short/0]).
--export([answers/1, names/1, start_refused/1, found/1, seen_everywhere/1, ends/1, others_processes/1, node_dies/1, program_dies/1, server_dies/1, parted/1]).
+-export([answers/1, names/1, start_refused/1, found/1, seen_everywhere/1, ends/1, others_processes/1, node_dies/1, program_dies/1, server_dies/1, server_away/1, parted/1]).
 -export([partial_mesh/1, first_call/1, callers_wait/1, hanging_program/1, no_program/1, set_full/1, system_limit/1, new_name/1, recorded/1, notices/1]).
 -export([same_as_former/1, workers/1, same_for_long/1, workers_of_five/1, workers_of_eight/1]).
 -import(zulayefi_cluster, [with/2, with/3, with_nodes/3, boot/2, connect/1, formed/1, is_formed/2, call/4, stop/1, kill/1, signal/2]).
@@ -12,7 +12,7 @@ all() -> short() ++ [same_for_long, workers_of_five, workers_of_eight].
 
 %% Those that take a minute together.
 short() ->
-    [answers, names, start_refused, found, seen_everywhere, ends, others_processes, node_dies, program_dies, server_dies, parted, partial_mesh, first_call,
+    [answers, names, start_refused, found, seen_everywhere, ends, others_processes, node_dies, program_dies, server_dies, server_away, parted, partial_mesh, first_call,
      callers_wait, hanging_program, no_program, set_full, system_limit, new_name, recorded, notices, same_as_former, workers].
 
 %% The manual's answers, at a node alone.
@@ -247,6 +247,29 @@ server_dies(_) ->
         Left = lists:sort([A, A, B]),
         soon(fun() -> members_everywhere(Nodes, g) =:= [Left] end),
         soon(fun() -> not filelib:is_dir("/proc/" ++ integer_to_list(OsPid)) end)
+    end).
+
+%% A server that is away at a node whose application runs is awaited, until it is back, the application stops or the node is gone.
+server_away(_) ->
+    with(3, fun([One, Two, {_, Name} = Three]) ->
+        ok = call(One, pg2, create, [g]),
+        [A, B] = [holder(Node) || Node <- [Two, Three]],
+        [ok = call(Node, supervisor, terminate_child, [zulayefi_sup, zulayefi_server]) || Node <- [Two, Three]],
+        Me = self(),
+        Join = fun(Pid) -> spawn_link(fun() -> Me ! {joined, Pid, call(One, pg2, join, [g, Pid])} end) end,
+        [Join(Pid) || Pid <- [A, B, B]],
+        receive {joined, _, _} = Early -> exit(Early) after 1500 -> ok end,
+        {ok, _} = call(Two, supervisor, restart_child, [zulayefi_sup, zulayefi_server]),
+        receive {joined, A, ok} -> ok end,
+        receive {joined, _, _} = Also -> exit(Also) after 100 -> ok end,
+        ok = call(Three, zulayefi, stop, []),
+        [receive {joined, B, {error, {not_in_set, Name}}} -> ok end || _ <- [1, 2]],
+        ok = call(Two, supervisor, terminate_child, [zulayefi_sup, zulayefi_server]),
+        Join(A),
+        receive {joined, _, _} = Again -> exit(Again) after 100 -> ok end,
+        kill(Two),
+        receive {joined, A, ok} -> ok end,
+        [] = call(One, pg2, get_members, [g])
     end).
 
 %% Two nodes part, go on each for itself, and meet again.
