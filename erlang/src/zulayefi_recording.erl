@@ -5,10 +5,12 @@
 %% What the program takes of a label.
 -define(LABEL_BYTES, 255).
 
-%% @doc Each node and each generation have a file of their own.
+%% @doc Each node and each generation have a file of their own. A server that is started again proposes the same numbers again, as another process.
 -spec file(file:filename(), node(), zulayefi_view:generation()) -> file:filename().
 file(Dir, Node, {Number, Proposer}) ->
-    filename:join(Dir, lists:flatten(io_lib:format("~ts-~b-~ts.log", [Node, Number, node(Proposer)]))).
+    {Id, Serial} = zulayefi_term:number(Proposer),
+    Name = io_lib:format("~ts-~b-~ts-~b.~b.~b.log", [Node, Number, node(Proposer), zulayefi_term:creation(Proposer), Id, Serial]),
+    filename:join(Dir, lists:flatten(Name)).
 
 %% @doc The words that make a program record. The label says which generation it is, of which one the table is that is brought, and how many
 %% assignments of that one the node had read.

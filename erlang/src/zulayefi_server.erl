@@ -81,7 +81,7 @@ init([]) ->
     ok = net_kernel:monitor_nodes(true),
     View = zulayefi_view:new(zulayefi_app:parameter(set_size)),
     zulayefi_term:fits(self()) orelse ?LOG_WARNING("zulayefi: processes of this node have longer numbers than the program knows"),
-    S = with_table(#state{view = View, room = room()}),
+    S = with_table(#state{view = View, room = room(), recording = zulayefi_app:parameter(recording)}),
     erlang:send_after(?SECOND_MS, self(), second),
     {ok, consider(lists:foldl(fun tell_node/2, S, nodes()))}.
 

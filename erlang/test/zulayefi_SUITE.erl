@@ -450,6 +450,15 @@ recorded(_) ->
             ok = call(One, pg2, create, [i]),
             soon(fun() -> [none, none] =:= [maps:get(recording, call(Node, zulayefi, info, [])) || Node <- Nodes] end),
             formed(Nodes)
+        end),
+        %% from the start on, also with a server that is started again
+        with_nodes([zulayefi_cluster:name(1)], [{recording, Folder}], fun([{_, Name} = One]) ->
+            ok = call(One, pg2, create, [g]),
+            kill_server(One),
+            ok = call(One, pg2, create, [h]),
+            Folder = maps:get(recording, call(One, zulayefi, info, [])),
+            {ok, Files} = file:list_dir(Folder),
+            2 = length([Each || Each <- Files, lists:prefix(atom_to_list(Name), Each)])
         end)
     after
         file:del_dir_r(Folder)

@@ -1,40 +1,50 @@
-%% Clusters under load whose nodes, programs and servers are killed by chance. In the end the tables have to be the same, and as the workers know.
+%% Clusters under load whose nodes, programs and servers are killed by chance. In the end the tables have to be the same, and as the workers know. All
+%% generations are recorded.
 -module(zulayefi_chaos).
--export([run/2]).
+-export([run/3]).
 -import(zulayefi_cluster, [boot/2, connect/1, formed/1, call/4, stop/1, kill/1, signal/2, program/1, kill_program/1, kill_server/1, part/2, soon/1]).
 
 -define(WORK_MS, 2500).
 
 %% (programs that were stopped end with their server, but not where its node is killed before: they go on in the end, and then end)
--record(chaos, {alive :: [{pid(), node()}], dead = [] :: [node()], stopped = [] :: [pos_integer()], started = [] :: [term()], done = [] :: [term()]}).
+-record(chaos, {folder :: file:filename(), alive :: [{pid(), node()}], dead = [] :: [node()], stopped = [] :: [pos_integer()], started = [] :: [term()], done = [] :: [term()]}).
 
 %% Runs clusters until so many seconds are over, each by a seed of its own, from this one on; gives how many there were, and the seeds of those that failed.
-run(Seconds, Seed) -> run(erlang:monotonic_time(second) + Seconds, Seed, 0, []).
+%% Recordings of all are kept in this folder, with `none' only those of clusters that fail.
+run(Seconds, Seed, Keep) -> run(erlang:monotonic_time(second) + Seconds, Seed, Keep, 0, []).
 
-run(Until, Seed, Rounds, Failed) ->
+run(Until, Seed, Keep, Rounds, Failed) ->
     case erlang:monotonic_time(second) >= Until of
         true -> {Rounds, lists:reverse(Failed)};
         false ->
             rand:seed(exsss, {Seed, 3, 7}),
-            case round(Seed, one_of([gentle, parting])) of
-                [] -> run(Until, Seed + 1, Rounds + 1, Failed);
-                _ -> run(Until, Seed + 1, Rounds + 1, [Seed | Failed])
-            end
+            Folder = filename:join(case Keep of none -> filename:absname("recordings"); _ -> Keep end, integer_to_list(Seed)),
+            Faults = round(Seed, one_of([gentle, parting]), Folder),
+            kept(Keep, Faults, Folder),
+            run(Until, Seed + 1, Keep, Rounds + 1, [Seed || Faults =/= []] ++ Failed)
     end.
+
+kept(none, [], Folder) -> file:del_dir_r(Folder);
+kept(none, _, Folder) ->
+    Kept = string:trim(os:cmd("mktemp -d")),
+    [] = os:cmd("mv '" ++ Folder ++ "' '" ++ Kept ++ "'"),
+    io:format("its recordings: ~ts~n", [filename:join(Kept, filename:basename(Folder))]);
+kept(_, [], _) -> ok;
+kept(_, _, Folder) -> io:format("its recordings: ~ts~n", [Folder]).
 
 %% Where no node parts from another, what was answered is seen at once by all that are left. A group that one side has deleted may come back with another.
 kinds(gentle) -> [kill, program, program, stopped_program];
 kinds(parting) -> [kill, program, server, part, blink, come, back, hang].
 
-round(Seed, Way) ->
-    Nodes = boot([zulayefi_cluster:name(I) || I <- lists:seq(1, 2 + rand:uniform(3))], parameters()),
+round(Seed, Way, Folder) ->
+    Nodes = boot([zulayefi_cluster:name(I) || I <- lists:seq(1, 2 + rand:uniform(3))], parameters(Folder)),
     connect(Nodes),
     formed(Nodes),
     Readers = case Way of
         gentle -> [Name || {_, Name} <- Nodes];
         parting -> []
     end,
-    Chaos = faults(rand:uniform(4), Way, #chaos{alive = Nodes, started = zulayefi_load:start(Nodes, [1, 2, 3], ?WORK_MS, Readers)}),
+    Chaos = faults(rand:uniform(4), Way, #chaos{folder = Folder, alive = Nodes, started = zulayefi_load:start(Nodes, [1, 2, 3], ?WORK_MS, Readers)}),
     Faults = try judged(Way, Chaos)
     catch Class:Reason:Trace -> [{Class, Reason, Trace, [catch call(Node, zulayefi, info, []) || Node <- Chaos#chaos.alive]}]
     end,
@@ -44,7 +54,7 @@ round(Seed, Way) ->
     [signal("CONT", OsPid) || OsPid <- Chaos#chaos.stopped],
     Faults.
 
-parameters() -> [{seconds_of_silence, 2}, {"-kernel", ["net_ticktime", "8"]}].
+parameters(Folder) -> [{seconds_of_silence, 2}, {recording, Folder}, {"-kernel", ["net_ticktime", "8"]}].
 
 judged(Way, #chaos{alive = Alive, started = Started}) ->
     Results = zulayefi_load:results(Started),
@@ -95,8 +105,8 @@ at_one(Fault, #chaos{alive = Alive} = Chaos) ->
     Chaos.
 
 %% A node comes, and works too.
-come(Name, #chaos{alive = Alive, started = Started} = Chaos) ->
-    [Node] = boot([Name], parameters()),
+come(Name, #chaos{folder = Folder, alive = Alive, started = Started} = Chaos) ->
+    [Node] = boot([Name], parameters(Folder)),
     [call(Node, net_adm, ping, [Other]) || {_, Other} <- Alive],
     Chaos#chaos{alive = [Node | Alive], started = zulayefi_load:start([Node], [4], ?WORK_MS div 2, []) ++ Started}.
 
