@@ -27,8 +27,9 @@
     %% peers whose stream has begun, with the number of the bytes that come next, and of those that go next
     streams = #{} :: #{pid() => non_neg_integer()},
     sent = #{} :: #{pid() => non_neg_integer()},
-    %% bytes for peers, and ports at which this node was denied a lock, the last first
-    out = #{} :: #{pid() => {[binary()], [pos_integer()]}},
+    %% bytes for peers, the last first; ports at which this node was denied a lock, of which a peer is told with the next bytes, or at the next beat
+    out = #{} :: #{pid() => [binary()]},
+    denied = #{} :: #{pid() => [pos_integer()]},
     desk = zulayefi_desk:new() :: zulayefi_desk:desk(),
     %% whether the clock is asked for, whether anything came in this second, and for how many seconds nothing came since it was asked for
     asks_clock = false :: boolean(),
@@ -118,12 +119,12 @@ came(Data, #run{program = Program} = Run) ->
 heard(too_long, Run) -> {{stop, too_long}, Run};
 heard(<<Place, Piece/binary>>, #run{peers = Peers, out = Out} = Run) when Place < ?PLACES ->
     Pid = element(Place + 1, Peers),
-    {Bytes, Denied} = maps:get(Pid, Out, {[], []}),
-    {none, Run#run{out = Out#{Pid => {[Piece | Bytes], Denied}}}};
+    {none, Run#run{out = Out#{Pid => [Piece | maps:get(Pid, Out, [])]}}};
 heard(<<?ASSIGNED, Terms/binary>>, #run{creations = Creations} = Run) ->
     {{assigned, [unwrapped(Each) || Each <- zulayefi_term:from_program(Terms, Creations)]}, Run};
 heard(<<?TERM, _/binary>> = Body, Run) -> said(binary_to_term(Body), Run);
-heard(<<?DENIED, Port>>, #run{peers = Peers} = Run) -> {none, lists:foldl(fun(Pid, Next) -> denied(Pid, Port, Next) end, Run, tuple_to_list(Peers))};
+heard(<<?DENIED, Port>>, #run{peers = Peers, denied = Denied} = Run) ->
+    {none, Run#run{denied = maps:from_list([{Pid, ordsets:add_element(Port, maps:get(Pid, Denied, []))} || Pid <- tuple_to_list(Peers)])}};
 heard(<<?CLOCK, Clock:32>>, Run) -> {{clock, Clock}, Run#run{asks_clock = false}};
 heard(<<?FORMED>>, Run) -> {formed, Run};
 heard(<<?VERSION, Format, Version/binary>>, Run) ->
@@ -134,15 +135,13 @@ heard(<<?VERSION, Format, Version/binary>>, Run) ->
 
 unwrapped(Assignment) -> setelement(1, Assignment, zulayefi_term:unwrapped(element(1, Assignment))).
 
-denied(Pid, Port, #run{out = Out} = Run) ->
-    {Bytes, Denied} = maps:get(Pid, Out, {[], []}),
-    Run#run{out = Out#{Pid => {Bytes, [Port | Denied]}}}.
-
 %% @doc What is gathered for peers: bytes with their number, and ports at which this node was denied a lock.
 -spec out(run()) -> {[{pid(), non_neg_integer(), [binary()], [pos_integer()]}], run()}.
-out(#run{out = Out, sent = Sent} = Run) ->
-    Messages = [{Pid, maps:get(Pid, Sent, 0), lists:reverse(Bytes), Denied} || {Pid, {Bytes, Denied}} <- maps:to_list(Out)],
-    {Messages, Run#run{out = #{}, sent = lists:foldl(fun({Pid, Number, _, _}, Next) -> Next#{Pid => Number + 1} end, Sent, Messages)}}.
+out(#run{out = Out} = Run) -> lists:mapfoldl(fun message/2, Run#run{out = #{}}, maps:to_list(Out)).
+
+message({Pid, Bytes}, #run{sent = Sent, denied = Denied} = Run) ->
+    Number = maps:get(Pid, Sent, 0),
+    {{Pid, Number, lists:reverse(Bytes), maps:get(Pid, Denied, [])}, Run#run{sent = Sent#{Pid => Number + 1}, denied = maps:remove(Pid, Denied)}}.
 
 %% @doc Pushes what the program is given.
 -spec push(run()) -> run().
@@ -160,17 +159,17 @@ said(Notice, Run) -> {{stop, Notice}, Run}.
 
 %% ---- time
 
-%% @doc Each two milliseconds where something is open or waits: a tick, and what waits is tried again.
+%% @doc Each two milliseconds where something is open or waits: a tick, what waits is tried again, and peers are told of what was denied.
 -spec beat(run()) -> run().
-beat(#run{program = Program, desk = Desk} = Run) ->
-    Run1 = Run#run{program = zulayefi_port:again(Program)},
+beat(#run{program = Program, desk = Desk, out = Out, denied = Denied} = Run) ->
+    Run1 = Run#run{program = zulayefi_port:again(Program), out = maps:merge(maps:map(fun(_, _) -> [] end, Denied), Out)},
     case zulayefi_desk:open(Desk) > 0 andalso zulayefi_port:is_idle(Run1#run.program) of
         true -> give(<<?TICK>>, Run1);
         false -> Run1
     end.
 
 -spec is_idle(run()) -> boolean().
-is_idle(#run{program = Program, desk = Desk}) -> zulayefi_desk:open(Desk) =:= 0 andalso zulayefi_port:is_idle(Program).
+is_idle(#run{program = Program, desk = Desk, denied = Denied}) -> zulayefi_desk:open(Desk) =:= 0 andalso map_size(Denied) =:= 0 andalso zulayefi_port:is_idle(Program).
 
 %% @doc Each second. The clock is asked for from time to time; a program that says nothing for long while it is asked for hangs.
 -spec second(run()) -> {ok | hangs, run()}.
