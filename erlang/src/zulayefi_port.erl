@@ -1,7 +1,7 @@
 %% @doc The program as a port: its start, what it is given and says, its end. What it is given is gathered, and pushed at once. Nothing is pushed by a
 %% call that may suspend: what a busy port does not take waits here, and is tried again.
 -module(zulayefi_port).
--export([check/0, start/1, give/2, push/1, again/1, bodies/2, is_of/2, is_idle/1, is_pushed/1, waiting/1, os_pid/1, stop/2, format/0]).
+-export([check/0, start/1, give/2, push/1, again/1, bodies/2, is_of/2, is_idle/1, is_pushed/1, bytes/1, waiting/1, os_pid/1, stop/2, format/0]).
 -export_type([program/0]).
 
 %% The format of bodies that this application knows.
@@ -13,8 +13,9 @@
 -record(program, {
     port :: port(),
     os_pid :: pos_integer() | none,
-    %% bodies to push, the last first, each behind its length; whether the port did not take them
+    %% bodies to push, the last first, each behind its length, and the bytes of all; whether the port did not take them
     waiting = [] :: [iodata()],
+    bytes = 0 :: non_neg_integer(),
     is_busy = false :: boolean(),
     %% what came of a body that is not whole, the last piece first; its bytes, and how many there have to be
     came = [] :: [binary()],
@@ -81,13 +82,15 @@ os_pid_of(Port) ->
 
 %% @doc Gives it a body, behind those that wait.
 -spec give(iodata(), program()) -> program().
-give(Body, #program{waiting = Waiting} = Program) -> Program#program{waiting = [[<<(iolist_size(Body)):32>>, Body] | Waiting]}.
+give(Body, #program{waiting = Waiting, bytes = Bytes} = Program) ->
+    Size = iolist_size(Body),
+    Program#program{waiting = [[<<Size:32>>, Body] | Waiting], bytes = Bytes + Size}.
 
 %% @doc Pushes what waits, unless the port was busy the last time.
 -spec push(program()) -> program().
 push(#program{waiting = [_ | _] = Waiting, is_busy = false} = Program) ->
     case is_taken(lists:reverse(Waiting), Program) of
-        true -> Program#program{waiting = []};
+        true -> Program#program{waiting = [], bytes = 0};
         false -> Program#program{is_busy = true}
     end;
 push(Program) -> Program.
@@ -131,6 +134,10 @@ is_idle(#program{waiting = Waiting}) -> Waiting =:= [].
 %% @doc Whether nothing is to be pushed: nothing waits, or only for a busy port.
 -spec is_pushed(program()) -> boolean().
 is_pushed(#program{waiting = Waiting, is_busy = IsBusy}) -> IsBusy orelse Waiting =:= [].
+
+%% @doc How many bytes wait.
+-spec bytes(program()) -> non_neg_integer().
+bytes(#program{bytes = Bytes}) -> Bytes.
 
 -spec waiting(program()) -> non_neg_integer().
 waiting(#program{waiting = Waiting}) -> length(Waiting).

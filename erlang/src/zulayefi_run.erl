@@ -1,6 +1,6 @@
 %% @doc One run of the program: this node's part of a generation. It carries the bytes of the others, and says what each body of the program means.
 -module(zulayefi_run).
--export([start/2, bring/2, stop/2, opened/2, take/5, ask/4, came/2, heard/2, out/1, push/1, is_pushed/1, beat/1, is_idle/1, second/1, is_of/2]).
+-export([start/2, bring/2, stop/2, opened/2, take/5, ask/4, came/2, heard/2, out/1, push/1, is_pushed/1, gathered/1, beat/1, is_idle/1, second/1, is_of/2]).
 -export([os_pid/1, waiting/1]).
 -export_type([run/0, event/0]).
 
@@ -29,6 +29,7 @@
     sent = #{} :: #{pid() => non_neg_integer()},
     %% bytes for peers, the last first; ports at which this node was denied a lock, of which a peer is told with the next bytes, or at the next beat
     out = #{} :: #{pid() => [binary()]},
+    out_bytes = 0 :: non_neg_integer(),
     denied = #{} :: #{pid() => [pos_integer()]},
     desk = zulayefi_desk:new() :: zulayefi_desk:desk(),
     %% whether the clock is asked for, whether anything came in this second, and for how many seconds nothing came since it was asked for
@@ -117,9 +118,9 @@ came(Data, #run{program = Program} = Run) ->
 %% @doc What a body means. What is for peers is gathered.
 -spec heard(binary() | too_long, run()) -> {event(), run()}.
 heard(too_long, Run) -> {{stop, too_long}, Run};
-heard(<<Place, Piece/binary>>, #run{peers = Peers, out = Out} = Run) when Place < ?PLACES ->
+heard(<<Place, Piece/binary>>, #run{peers = Peers, out = Out, out_bytes = Bytes} = Run) when Place < ?PLACES ->
     Pid = element(Place + 1, Peers),
-    {none, Run#run{out = Out#{Pid => [Piece | maps:get(Pid, Out, [])]}}};
+    {none, Run#run{out = Out#{Pid => [Piece | maps:get(Pid, Out, [])]}, out_bytes = Bytes + byte_size(Piece)}};
 heard(<<?ASSIGNED, Terms/binary>>, #run{creations = Creations} = Run) ->
     {{assigned, [unwrapped(Each) || Each <- zulayefi_term:from_program(Terms, Creations)]}, Run};
 heard(<<?TERM, _/binary>> = Body, Run) -> said(binary_to_term(Body), Run);
@@ -137,7 +138,7 @@ unwrapped(Assignment) -> setelement(1, Assignment, zulayefi_term:unwrapped(eleme
 
 %% @doc What is gathered for peers: bytes with their number, and ports at which this node was denied a lock.
 -spec out(run()) -> {[{pid(), non_neg_integer(), [binary()], [pos_integer()]}], run()}.
-out(#run{out = Out} = Run) -> lists:mapfoldl(fun message/2, Run#run{out = #{}}, maps:to_list(Out)).
+out(#run{out = Out} = Run) -> lists:mapfoldl(fun message/2, Run#run{out = #{}, out_bytes = 0}, maps:to_list(Out)).
 
 message({Pid, Bytes}, #run{sent = Sent, denied = Denied} = Run) ->
     Number = maps:get(Pid, Sent, 0),
@@ -150,6 +151,10 @@ push(#run{program = Program} = Run) -> Run#run{program = zulayefi_port:push(Prog
 %% @doc Whether nothing is gathered, for peers or for the program.
 -spec is_pushed(run()) -> boolean().
 is_pushed(#run{program = Program, out = Out}) -> map_size(Out) =:= 0 andalso zulayefi_port:is_pushed(Program).
+
+%% @doc How many bytes are gathered.
+-spec gathered(run()) -> non_neg_integer().
+gathered(#run{program = Program, out_bytes = Bytes}) -> Bytes + zulayefi_port:bytes(Program).
 
 said({_, Port, Number, Reply}, #run{desk = Desk} = Run) ->
     {What, Bodies, Desk1} = zulayefi_desk:answered(Port, Number, Desk),

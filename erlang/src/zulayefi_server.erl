@@ -13,8 +13,9 @@
 -define(PROTOCOL, 1).
 -define(BEAT_MS, 2).
 -define(SECOND_MS, 1000).
-%% So many messages are handled at most before what follows from them is pushed.
+%% So many messages are handled at most, or so many bytes gathered, before what follows from them is pushed.
 -define(AT_ONCE, 64).
+-define(GATHERED, 16384).
 %% Words of memory to begin with. What a message leaves behind is little, and is collected once in a thousand or so.
 -define(HEAP, 50000).
 %% How long a proposal that did not form is left alone before it is made again.
@@ -129,8 +130,11 @@ told(_, S) -> S.
 handled(#state{handled = Handled} = S) ->
     case is_pushed(S) of
         true -> {noreply, beating(S)};
-        false when Handled >= ?AT_ONCE -> pushed(S);
-        false -> {noreply, S#state{handled = Handled + 1}, 0}
+        false ->
+            case Handled >= ?AT_ONCE orelse zulayefi_run:gathered(S#state.run) >= ?GATHERED of
+                true -> pushed(S);
+                false -> {noreply, S#state{handled = Handled + 1}, 0}
+            end
     end.
 
 is_pushed(#state{run = none}) -> true;
