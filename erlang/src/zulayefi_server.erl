@@ -383,14 +383,21 @@ assigned(Assignment, #state{is_formed = false, rows = Rows} = S) ->
     end;
 assigned(Assignment, S) ->
     {Before, After} = zulayefi_table:assign(Assignment),
-    noticed(element(1, Assignment), Before, After, follow(Before, After, S)).
+    noticed(element(1, Assignment), Before, After, follow(told_of(Assignment, local(Before)), told_of(Assignment, local(After)), Before, After, S)).
 
 %% The table had the one row, and has the other now.
-follow(Before, After, #state{watch = Watch, room = Room} = S) ->
-    S#state{watch = zulayefi_watch:change(local(Before), local(After), Watch), room = zulayefi_room:change(Before, After, Room)}.
+follow(Before, After, S) -> follow(local(Before), local(After), Before, After, S).
+
+%% (of members of this node those that may have come or gone)
+follow(Were, Are, Before, After, #state{watch = Watch, room = Room} = S) ->
+    S#state{watch = zulayefi_watch:change(Were, Are, Watch), room = zulayefi_room:change(Before, After, Room)}.
 
 local(none) -> [];
 local({_, _, Local}) -> Local.
+
+%% What an assignment tells of one process leaves the others as they are.
+told_of({_, Pid, _}, Pids) -> [Pid || lists:member(Pid, Pids)];
+told_of(_, Pids) -> Pids.
 
 %% A change that is under way has begun once its effect is seen.
 noticed(Name, Before, After, #state{changes = Changes} = S) ->
