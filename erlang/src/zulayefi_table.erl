@@ -102,6 +102,7 @@ assign(Assignment) ->
 -spec assigned(assignment(), row() | none) -> row() | none.
 assigned({_}, _) -> none;
 assigned({Name, Members}, _) -> row(Name, Members);
+assigned({_, _, _}, none) -> none;
 assigned({Name, Pid, Count}, {Name, Members, Local}) when node(Pid) =:= node() ->
     {Name, counted(Pid, Count, Members), counted(Pid, Count, Local)};
 assigned({Name, Pid, Count}, {Name, Members, Local}) -> {Name, counted(Pid, Count, Members), Local}.
