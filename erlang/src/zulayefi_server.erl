@@ -10,7 +10,7 @@
 -export([init/1, handle_call/3, handle_cast/2, handle_info/2, terminate/2]).
 
 %% It stands first in each message, so that later ones can differ.
--define(PROTOCOL, 1).
+-define(PROTOCOL, 2).
 -define(BEAT_MS, 2).
 -define(SECOND_MS, 1000).
 %% So many messages are handled at most, or so many bytes gathered, before what follows from them is pushed.
