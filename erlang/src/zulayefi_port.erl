@@ -71,7 +71,7 @@ start(Words) ->
     try open_port({spawn_executable, path()}, [stream, binary, exit_status, {args, Args}]) of
         Port -> {ok, #program{port = Port, os_pid = os_pid_of(Port)}}
     catch
-        error:Reason -> {error, Reason}
+        error:Reason -> {error, {Reason, path()}}
     end.
 
 os_pid_of(Port) ->

@@ -77,7 +77,7 @@ start_refused(_) ->
             File
         end,
         Programs = [
-            {filename:join(Folder, "none"), enoent},
+            {filename:join(Folder, "none"), {enoent, filename:join(Folder, "none")}},
             {Script("ends", "exit 3\n"), {exit_status, 3}},
             {Script("other", "printf '\\000\\000\\000\\003\\025\\011x'\nexec cat\n"), {format, 9, zulayefi_port:format()}},
             {Script("silent", "exec sleep 60\n"), timeout}

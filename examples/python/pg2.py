@@ -51,11 +51,21 @@ class NodeLost(ClusterError):
 
 
 class BadRequest(ClusterError):
-    """The service takes no such request. The number is its place among all bodies."""
+    """The service takes no such request. The number is its place among all bodies, and no fault number."""
+
+    def __str__(self):
+        return f"body {self.args[0]} is no request of the protocol"
 
 
 class ServerEnded(ClusterError):
-    """The service is over, with this status. A request that was under way may have happened."""
+    """The service is over, with this status. A request that was under way may have happened. `lines`: the last that it wrote on standard error."""
+
+    def __init__(self, status, lines=()):
+        super().__init__(status)
+        self.lines = list(lines)
+
+    def __str__(self):
+        return "; ".join([f"the service ended with status {self.args[0]}", *list(filter(None, self.lines))[-3:]])
 
 
 class Port:
@@ -77,7 +87,7 @@ class Waiting:
 
 class Cluster:
     """A cluster of nodes with these names, each with so many ports. `timeout`: after how many seconds without a reply a call gives up by
-    TimeoutError; the request stays under way. `./pg2sim` of a fresh clone is built first, which takes minutes: run `./pg2sim --version` before."""
+    TimeoutError; the request stays under way. `./pg2sim` of a fresh clone is built first, which takes minutes: run `./pg2sim version` before."""
 
     def __init__(self, program, names, ports=1, words=(), timeout=60):
         named = [word for name in names for word in ("--name", name)]
@@ -91,7 +101,7 @@ class Cluster:
         self.bodies, self.places, self.losses = 0, {}, collections.defaultdict(collections.deque)
         self.ports = {(name, port): Port() for name in names for port in range(1, ports + 1)}
         self.queue, self.lines = queue.SimpleQueue(), collections.deque(maxlen=1000)
-        self.threads = [threading.Thread(target=work, daemon=True) for work in (self._write, self._read, self._hear)]
+        self.threads = [threading.Thread(target=work, daemon=True) for work in (self._hear, self._write, self._read)]
         for thread in self.threads:
             thread.start()
 
@@ -112,7 +122,7 @@ class Cluster:
         body = b"\x83" + encode(request)
         with self.lock:
             if self.ended or self.closing:
-                raise ServerEnded(self.process.poll())
+                raise ServerEnded(self.process.poll(), self.lines)
             self.bodies += 1
             waiting = Waiting(self.bodies, self._port_of(request))
             self.places[self.bodies] = waiting
@@ -177,13 +187,15 @@ class Cluster:
 
     def _end(self, status):
         """The service is over: no request that is left is answered any more."""
+        # (what it wrote last says why)
+        self.threads[0].join(1)
         with self.lock:
             self.ended = True
             left = list(self.places.values())
             self.places.clear()
             self.queue.put(None)
         for waiting in left:
-            waiting.future.set_exception(ServerEnded(status))
+            waiting.future.set_exception(ServerEnded(status, self.lines))
 
     def _hear(self):
         with self.process.stderr as pipe:
