@@ -10,6 +10,7 @@ pub(crate) const ABOUT: &str =
 Status 0: done. Status 1: the run was refused. Status 2: the words, the script or its configuration
 were refused. A refusal is a line `refused N` on standard error, a faulty line of a script `line L
 refused N`. With --explain, or where standard error is a terminal, a second line says it in words.
+A step of a script that is refused prints its `line L refused N` among what the others print.
 
 Questions about the program, answered on standard output: `fault [N]`, what a fault is, or all;
 `help [WORD]`; `version`.";
