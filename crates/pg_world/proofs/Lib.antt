@@ -1,4 +1,5 @@
 mod Changed
+mod Coming
 pub mod Crossed
 mod Cutting
 mod Harmless

@@ -42,13 +42,15 @@ use Rattle.pg_world_packets.specs.declared.effect.Effect.{Effect}
 use Rattle.pg_world_packets.specs.declared.step.Stepped.TheVariants.{Happened}
 use Rattle.pg_world_packets.specs.Effects.{effect_by}
 use Rattle.pg_world.specs.Crossings.{Crossing, link_at, bytes_at, packet_as, packets_between, CanCross}
-use Rattle.pg_world.specs.Crossings.{IsOnWay, IsWelcome, ShowsPast, ShowsBytesPast, EventComesTo}
+use Rattle.pg_world.specs.Crossings.{IsOnWay, IsWelcome, ShowsPast, ShowsBytesPast}
+use Rattle.pg_world.proofs.Coming.{CameOverBytes}
+use Rattle.pg_world_packets.proofs.Coming.{CameOf}
 use Rattle.pg_world_packets.specs.PgWorldAccount.Losses.{is_lost}
 use Rattle.pg_world_packets.specs.PgWorldAccount.Histories.{update_asked_by}
 use Rattle.pg_world_packets.specs.PgWorldConfig.Seen.{Seen}
 use Rattle.pg_world_packets.specs.Views.{peer_place}
 use Rattle.pg_world_packets.specs.PgWorldAccount.Histories.{Account}
-use Rattle.pg_world_packets.specs.Worlds.{TimedFrameWorld, ShowsNode, ComesTo}
+use Rattle.pg_world_packets.specs.Worlds.{TimedFrameWorld, ShowsNode}
 use Rattle.pg_world.proofs.Crossed.{Acts, all_short, event_shown}
 use Rattle.pg_world.proofs.Past.{Adds, ReadsFirst, ReadsLawful}
 use Rattle.pg_world.proofs.Silent.{acts_silent, takes_silent}
@@ -152,7 +154,7 @@ module _ (config : Config) (lost : List ℕ) (crossing : Crossing) (w : TimedFra
 -- what came of an event, from what it comes to with the world that it leaves
 happened_as : (config : Config) (w : TimedFrameWorld) (e : Event Action) (did effect : Effect) → effect ≡ did → (One Other : TimedFrameWorld → Type 0)
     → ((v : TimedFrameWorld) → happens (frame_machine config) w e ≡ Some v → One v → Other v)
-    → ComesTo config w e (Ok (Happened did)) One → EventComesTo config w e (Ok (Happened effect)) Other
+    → CameOf config w e (Ok (Happened did)) One → CameOverBytes config w e (Ok (Happened effect)) Other
 happened_as config w e did effect same One Other f (made, (v, is, one)) = (made ∙ ap Some (sym same), (v, is, f v is one))
 
 module _ (config : Config) (lost : List ℕ) (crossing crossing2 : Crossing) (account account2 : Account) (w : TimedFrameWorld) (shows : ShowsBytesPast config lost crossing account w) (adds : Adds) where
@@ -161,7 +163,7 @@ module _ (config : Config) (lost : List ℕ) (crossing crossing2 : Crossing) (ac
       (names : after.names ≡ node.names) (ports : after.ports ≡ node.ports) (fits : AreSendable node.names (listed_of done.sends)) (small : AreSmallFrames (listed_of done.sends))
       (acts : Acts crossing crossing2 (Do i action) (listed_of done.sends)) (grew : Grew account account2 i None done.began) (effect : Effect) (did : effect ≡ effect_by done) where
     pub own_shown : Comes node.names (step_act (whole_in node.names) node.ports action node.state) (Ok done) after.state node.answers after.answers
-        → EventComesTo config w (Do i action) (Ok (Happened effect)) (ShowsBytesPast config lost crossing2 account2)
+        → CameOverBytes config w (Do i action) (Ok (Happened effect)) (ShowsBytesPast config lost crossing2 account2)
     own_shown comes = happened_as config w (Do i action) (effect_by done) effect did _ _ whole
         (own_left config crossing.nodes w i action node shows.traffic.nodes here crossing2.nodes after done set names ports fits comes)
       where
@@ -183,7 +185,7 @@ module _ (config : Config) (lost : List ℕ) (crossing crossing2 : Crossing) (ac
         (names : after.names ≡ node.names) (ports : after.ports ≡ node.ports) (fits : AreSendable node.names (listed_of done.sends)) (small : AreSmallFrames (listed_of done.sends))
         (acts : Acts crossing crossing2 (Take i p) (listed_of done.sends)) (grew : Grew account account2 i (update_asked_by packet.message) done.began) (effect : Effect) (did : effect ≡ effect_by done) where
       pub taken_shown : Comes node.names (step_take (whole_in node.names) (place_name node.names (peer_place i p + 1)) (stamped_of packet) node.state) (Ok done) after.state node.answers after.answers
-          → EventComesTo config w (Take i p) (Ok (Happened effect)) (ShowsBytesPast config lost crossing2 account2)
+          → CameOverBytes config w (Take i p) (Ok (Happened effect)) (ShowsBytesPast config lost crossing2 account2)
       taken_shown comes = happened_as config w (Take i p) (effect_by done) effect did _ _ whole
           (take_left config crossing.nodes w i p shows.traffic.nodes pair node here (stamped_of packet) first.rest first.begins crossing2.nodes after done set names ports fits comes)
         where
@@ -216,7 +218,7 @@ module _ (config : Config) (lost : List ℕ) (crossing crossing2 : Crossing) (ac
 module _ (config : Config) (lost : List ℕ) (crossing : Crossing) (w : TimedFrameWorld) (shows : ShowsPast config lost crossing w) (Shown : TimedFrameWorld → Type 0) where
   -- something of its own
   pub own_err : (i : ℕ) (action : Action) (node : Seen) (s : Timed State) (after : ℕ → List Answer) → slice_get crossing.nodes i ≡ Some node → (fault : NodeFault)
-      → Comes {h = frames.ghosts} node.names (step_act (whole_in node.names) node.ports action node.state) (Err fault) s node.answers after → Shown w → EventComesTo config w (Do i action) (Err fault) Shown
+      → Comes {h = frames.ghosts} node.names (step_act (whole_in node.names) node.ports action node.state) (Err fault) s node.answers after → Shown w → CameOverBytes config w (Do i action) (Err fault) Shown
   own_err i action node s after here OutOfMemory comes shown = shown
   own_err i action node s after here (Refused refusal) comes shown = (own_refused config crossing.nodes w i action node shows.nodes here frames.ghosts (Refused refusal) s node.answers after Shown comes, shown)
   own_err i action node s after here (BadMessage fault) comes shown = own_refused config crossing.nodes w i action node shows.nodes here frames.ghosts (BadMessage fault) s node.answers after Shown comes
@@ -229,7 +231,7 @@ module _ (config : Config) (lost : List ℕ) (crossing : Crossing) (w : TimedFra
     step_there : Result TimedTurn Refusal
     step_there = step_take (whole_in node.names) (place_name node.names (peer_place i p + 1)) (stamped_of packet) node.state
 
-    refused_by : (fault : NodeFault) → Comes {h = frames.ghosts} node.names (step_take (whole_in node.names) (place_name node.names (peer_place i p + 1)) (stamped_of packet) node.state) (Err fault) s node.answers after → ComesTo config w (Take i p) (Err fault) Shown
+    refused_by : (fault : NodeFault) → Comes {h = frames.ghosts} node.names (step_take (whole_in node.names) (place_name node.names (peer_place i p + 1)) (stamped_of packet) node.state) (Err fault) s node.answers after → CameOf config w (Take i p) (Err fault) Shown
     refused_by fault comes = taken_refused config crossing.nodes w i p shows.nodes pair node here (stamped_of packet) first.rest first.begins frames.ghosts fault s node.answers after Shown comes
 
     no_message : (r : Result TimedTurn Refusal) → Comes {h = frames.ghosts} node.names r (Err (Refused NotAMessage)) s node.answers after → r ≡ Err NotAMessage
@@ -241,7 +243,7 @@ module _ (config : Config) (lost : List ℕ) (crossing : Crossing) (w : TimedFra
         (sym (taken_told config crossing.nodes w i p shows.nodes pair node here (stamped_of packet) first.rest first.begins) ∙ no_message _ comes)
 
     pub take_err : (fault : NodeFault) → Comes {h = frames.ghosts} node.names (step_take (whole_in node.names) (place_name node.names (peer_place i p + 1)) (stamped_of packet) node.state) (Err fault) s node.answers after
-        → (damages fault ≡ false → Shown w) → EventComesTo config w (Take i p) (Err fault) Shown
+        → (damages fault ≡ false → Shown w) → CameOverBytes config w (Take i p) (Err fault) Shown
     take_err OutOfMemory comes shown = shown refl
     take_err (Refused NotAMessage) comes shown = absurd (never comes)
     take_err (Refused NoSuchPlace) comes shown = (refused_by (Refused NoSuchPlace) comes, shown refl)
@@ -295,8 +297,8 @@ only_memory (Some packet) Damaged h = absurd (cc)
 only_memory None fault h = absurd (cc)
 
 -- what came of a packet that could not be read
-pub unread_err : (config : Config) (w : TimedFrameWorld) (e : Event Action) (fault : NodeFault) (Shown : TimedFrameWorld → Type 0) → fault ≡ OutOfMemory → Shown w → EventComesTo config w e (Err fault) Shown
-unread_err config w e fault Shown is shown = subst (λ f. EventComesTo config w e (Err f) Shown) (sym is) shown
+pub unread_err : (config : Config) (w : TimedFrameWorld) (e : Event Action) (fault : NodeFault) (Shown : TimedFrameWorld → Type 0) → fault ≡ OutOfMemory → Shown w → CameOverBytes config w e (Err fault) Shown
+unread_err config w e fault Shown is shown = subst (λ f. CameOverBytes config w e (Err f) Shown) (sym is) shown
 
 -- where a packet is on the way from a node whose loss was not seen, no more than memory is missing
 pub unread_memory : (config : Config) (lost : List ℕ) (crossing : Crossing) (w : TimedFrameWorld) (i p : ℕ) → ShowsPast config lost crossing w → is_pair (length crossing.nodes) i p ≡ true → is_lost lost i ≡ false

@@ -1,6 +1,6 @@
 -- A world whose packets cross as bytes: how it is seen, and the frame world that it shows.
 use Rattle.std.specs.Prelude.{◌≡◌, ◌≢◌, ◌≤◌, ◌+◌, ◌-◌, ℕ, Bool, true, false, map, length}
-use Rattle.std.specs.Prelude.{get_or, replicate, List, [], ◌∷◌, Some, Result, Ok, Err}
+use Rattle.std.specs.Prelude.{get_or, replicate, List, [], ◌∷◌, Ok, Err}
 use Rattle.std.specs.List.{AllByRecursion}
 use Rattle.pg_world_packets.specs.PgTermIo.Writing.{written}
 use Rattle.pg_world_packets.specs.PgFrame.Frames.{IsBody}
@@ -10,30 +10,24 @@ use Rattle.pg_world_packets.specs.PgMessageTypes.declared.packet.Packet.{Packet}
 use Rattle.pg_world_packets.specs.PgMessageTypes.Reading.{packet_spelled}
 use Rattle.pg_world_packets.specs.PgMessageTypes.Writing.{is_exchange, term_of_packet}
 use Rattle.pg_world_packets.specs.PgStep.Machines.Places.{is_pair}
-use Rattle.pg_world_packets.specs.PgStep.Machines.Machine.{Event, Take, Do}
+use Rattle.pg_world_packets.specs.PgStep.Machines.Machine.{Event}
 use Rattle.pg_world_packets.specs.PgStep.Machines.Clocked.{Stamped}
 use Rattle.pg_world_packets.specs.PgFrame.Pieces.{Bytes, ArePackets, AreCut}
 use Rattle.pg_world_packets.specs.PgStep.declared.refusal.Refusal.TheVariants.{NotAMessage}
 use Rattle.pg_world_packets.specs.PgStep.Config.{Config, name_at, nodes_at}
-use Rattle.pg_world_packets.specs.PgStep.FrameMachine.{frame_machine}
-use Rattle.pg_world_packets.specs.PgStep.Step.{Action, step_take}
+use Rattle.pg_world_packets.specs.PgStep.Step.{step_take}
 use Rattle.pg_node.specs.declared.node.Node.{Node}
-use Rattle.pg_world_packets.specs.PgNodeState.declared.state.fault.NodeFault.{NodeFault}
-use Rattle.pg_world_packets.specs.PgNodeState.declared.state.fault.NodeFault.TheVariants.{Refused, OutOfMemory}
 use Rattle.pg_node.specs.Links.{Link, idle_link}
 use Rattle.pg_node.specs.Nodes.{held_by, links_of}
 use Rattle.pg_world.specs.declared.rings.Rings.{Rings}
 use Rattle.pg_world.specs.declared.step.Step.{Step}
 use Rattle.pg_world.specs.declared.step.Step.TheVariants as steps
-use Rattle.pg_world_packets.specs.declared.step.Stepped.{Stepped}
-use Rattle.pg_world_packets.specs.declared.step.Stepped.TheVariants.{Nothing, Happened}
 use Rattle.pg_world.specs.declared.bytes.ByteNodes.{ByteNodes}
 use Rattle.pg_world_packets.specs.PgWorldAccount.Losses.{is_lost}
 use Rattle.pg_world_packets.specs.PgWorldConfig.Seen.{Seen, seen_of}
-use Rattle.pg_world_packets.specs.Effects.{effect_in}
 use Rattle.pg_world_packets.specs.Views.{peer_place}
 use Rattle.pg_world_packets.specs.PgWorldAccount.Histories.{Account}
-use Rattle.pg_world_packets.specs.Worlds.{TimedFrameWorld, ShowsNodes, ShowsUpdates, EventLed, is_loss, told_event}
+use Rattle.pg_world_packets.specs.Worlds.{TimedFrameWorld, ShowsNodes, ShowsUpdates, is_loss}
 
 -- ---- a world as it is seen
 
@@ -132,20 +126,6 @@ IsWelcome config w i p = (x : Stamped Message) (rest : List (Stamped Message)) �
     → step_take (nodes_at config i) (name_at config p) x (w.node i) ≢ Err NotAMessage
 
 -- ---- steps
-
-abbrev pub is_take : Event Action → Bool
-is_take (Take i p) = true
-is_take (Do i action) = false
-
--- What came of an event in the world w: it happened, did what is reported, and led to a world that is shown; or no whole packet had
--- come, memory ran out, or it was refused as is told, and the world w is shown.
-abbrev pub EventComesTo : Config → TimedFrameWorld → Event Action → Result Stepped NodeFault → (TimedFrameWorld → Type 0) → Type 0
-EventComesTo config w e (Ok (Happened effect)) Shown = (effect_in (frame_machine config) w e ≡ Some effect) × EventLed config w e Shown
-EventComesTo config w e (Ok Nothing) Shown = (is_take e ≡ true) × Shown w
-EventComesTo config w e (Ok stepped) Shown = ⊥
-EventComesTo config w e (Err OutOfMemory) Shown = Shown w
-EventComesTo config w e (Err (Refused refusal)) Shown = (told_event config w e ≡ Some (Err refusal)) × Shown w
-EventComesTo config w e (Err fault) Shown = ⊥
 
 -- a step by which a node is lost
 abbrev pub is_loss_in : Step → Bool

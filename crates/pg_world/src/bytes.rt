@@ -46,15 +46,14 @@ impl<T: GroupTable + Drop> ByteNodes<T> {
     ghost use Rattle.pg_node.specs.Nodes.{links_of};
     ghost use Rattle.pg_world_packets.specs.PgRing.Capacity.{IsCapacity};
     ghost use Rattle.pg_world_packets.specs.PgStep.Machines.Places.{is_pair};
-    ghost use Rattle.pg_world_packets.specs.PgStep.Machines.Machine.{Take, Do};
     ghost use Rattle.pg_world_packets.specs.PgStep.Config.{Config, name_at};
     ghost use Rattle.pg_world_packets.specs.PgStep.Step.{Issue, Retry};
     ghost use Rattle.pg_world_packets.specs.PgMessageTypes.Members.{IsShort};
     ghost use Rattle.pg_node.specs.Bytes.{next_packet};
     ghost use Rattle.pg_world_packets.specs.PgWorldAccount.Histories.{AreInRows, account_of};
     ghost use Rattle.pg_world_packets.specs.PgStep.LossLaws.{LosingFrameWorld};
-    ghost use Rattle.pg_world.specs.BytesLosing.{ShowsLosingBytes, MoveLeaves, EventLeaves, StepLeaves};
-    ghost use Rattle.pg_world_packets.specs.Losing.{IsReachedLosing};
+    ghost use Rattle.pg_world.specs.BytesLosing.{ShowsLosingBytes, MoveLeaves, WholeComesTo, EventLeaves, StepLeaves};
+    ghost use Rattle.pg_world_packets.specs.Losing.{IsReachedLosing, LosingComesTo, is_cut_off, told_take, told_own};
     ghost use Rattle.pg_world_packets.specs.PgWorldAccount.Losses.{lost_in, is_lost};
     ghost use Rattle.pg_world_packets.specs.Losing.{SeenAreLost, formed_after, lost_after};
     ghost use Rattle.pg_world.specs.Bars.{RefusesBarred, StepTellsUndrained, TellsUndrained, put_bar};
@@ -66,7 +65,7 @@ impl<T: GroupTable + Drop> ByteNodes<T> {
     ghost use Rattle.pg_world.specs.Changes.{is_harmless, spares, spares_links};
     ghost use Rattle.pg_world_packets.specs.PgFrame.Pieces.{ring_put, pull};
     ghost use Rattle.pg_world.specs.Crossings.{crossing_of, node_of, room_of, idle_crossing, link_at};
-    ghost use Rattle.pg_world.specs.Crossings.{bytes_at, IsWelcome, ShowsPast, ShowsBytesPast, EventComesTo};
+    ghost use Rattle.pg_world.specs.Crossings.{bytes_at, IsWelcome, ShowsPast, ShowsBytesPast};
 
     /// A world of these nodes, with an empty ring from each to each other, which has room for `ring` bytes, and where
     /// nothing has begun.
@@ -300,11 +299,12 @@ impl<T: GroupTable + Drop> ByteNodes<T> {
     fn take(&mut self, node: usize, peer: usize) -> Result<Stepped, NodeFault>
         requires settled { AreInRows self.old.histories }
         requires pair { is_pair (length (crossing_of self.old).nodes) node peer ≡ true }
-        ensures event { (config : Config) (lost : List ℕ) (w : TimedFrameWorld) → is_lost lost node ≡ false → (w.node node).state.lost (name_at config peer) ≡ false → IsWelcome config w node peer
-            → ShowsBytesPast config lost (crossing_of self.old) (account_of self.old.histories) w
-            → EventComesTo config w (Take node peer) result (ShowsBytesPast config lost (crossing_of self.new) (account_of self.new.histories)) }
-        ensures harmless { (config : Config) (lost : List ℕ) (w : TimedFrameWorld) → is_lost lost node ≡ false → (w.node node).state.lost (name_at config peer) ≡ false → IsWelcome config w node peer
-            → ShowsBytesPast config lost (crossing_of self.old) (account_of self.old.histories) w → is_harmless result ≡ true }
+        requires lives { is_cut_off (crossing_of self.old).nodes (lost_in self.old.losses) node peer ≡ false }
+        ensures losing { (config : Config) (u : LosingFrameWorld) (shown : ShowsLosingBytes config (crossing_of self.old) (account_of self.old.histories) (lost_in self.old.losses) u)
+            → IsWelcome config shown.frames node peer
+            → WholeComesTo config u (told_take config u node peer) result (ShowsLosingBytes config (crossing_of self.new) (account_of self.new.histories) (lost_in self.new.losses)) }
+        ensures harmless { (config : Config) (u : LosingFrameWorld) (shown : ShowsLosingBytes config (crossing_of self.old) (account_of self.old.histories) (lost_in self.old.losses) u)
+            → IsWelcome config shown.frames node peer → is_harmless result ≡ true }
         ensures changes { is_harmless result ≡ true → TakeChanges (crossing_of self.old) (crossing_of self.new) node peer result }
         ensures formed { self.new.histories.formed ≡ self.old.histories.formed }
         ensures lost { lost_in self.new.losses ≡ lost_in self.old.losses }
@@ -332,13 +332,14 @@ impl<T: GroupTable + Drop> ByteNodes<T> {
     ) -> Result<Stepped, NodeFault>
         requires settled { AreInRows self.old.histories }
         requires pair { is_pair (length (crossing_of self.old).nodes) node peer ≡ true }
+        requires lives { is_cut_off (crossing_of self.old).nodes (lost_in self.old.losses) node peer ≡ false }
         requires few { (packet : Packet) → next.now ≡ Some packet → IsShort (2 ^ 32) packet.message }
         requires front { next_packet (link_at (crossing_of self.old) node peer) ≡ Ok next.now }
-        ensures event { (config : Config) (lost : List ℕ) (w : TimedFrameWorld) → is_lost lost node ≡ false → IsWelcome config w node peer
-            → ShowsBytesPast config lost (crossing_of self.old) (account_of self.old.histories) w
-            → EventComesTo config w (Take node peer) result (ShowsBytesPast config lost (crossing_of self.new) (account_of self.new.histories)) }
-        ensures harmless { (config : Config) (lost : List ℕ) (w : TimedFrameWorld) → is_lost lost node ≡ false → IsWelcome config w node peer
-            → ShowsBytesPast config lost (crossing_of self.old) (account_of self.old.histories) w → is_harmless result ≡ true }
+        ensures losing { (config : Config) (u : LosingFrameWorld) (shown : ShowsLosingBytes config (crossing_of self.old) (account_of self.old.histories) (lost_in self.old.losses) u)
+            → IsWelcome config shown.frames node peer
+            → WholeComesTo config u (told_take config u node peer) result (ShowsLosingBytes config (crossing_of self.new) (account_of self.new.histories) (lost_in self.new.losses)) }
+        ensures harmless { (config : Config) (u : LosingFrameWorld) (shown : ShowsLosingBytes config (crossing_of self.old) (account_of self.old.histories) (lost_in self.old.losses) u)
+            → IsWelcome config shown.frames node peer → is_harmless result ≡ true }
         ensures changes { is_harmless result ≡ true → TakeChanges (crossing_of self.old) (crossing_of self.new) node peer result }
         ensures formed { self.new.histories.formed ≡ self.old.histories.formed }
         ensures lost { lost_in self.new.losses ≡ lost_in self.old.losses }
@@ -354,13 +355,14 @@ impl<T: GroupTable + Drop> ByteNodes<T> {
     fn take_read(&mut self, node: usize, peer: usize, packet: &Packet) -> Result<Stepped, NodeFault>
         requires settled { AreInRows self.old.histories }
         requires pair { is_pair (length (crossing_of self.old).nodes) node peer ≡ true }
+        requires lives { is_cut_off (crossing_of self.old).nodes (lost_in self.old.losses) node peer ≡ false }
         requires few { IsShort (2 ^ 32) packet.now.message }
         requires front { next_packet (link_at (crossing_of self.old) node peer) ≡ Ok (Some packet.now) }
-        ensures event { (config : Config) (lost : List ℕ) (w : TimedFrameWorld) → is_lost lost node ≡ false → IsWelcome config w node peer
-            → ShowsBytesPast config lost (crossing_of self.old) (account_of self.old.histories) w
-            → EventComesTo config w (Take node peer) result (ShowsBytesPast config lost (crossing_of self.new) (account_of self.new.histories)) }
-        ensures harmless { (config : Config) (lost : List ℕ) (w : TimedFrameWorld) → is_lost lost node ≡ false → IsWelcome config w node peer
-            → ShowsBytesPast config lost (crossing_of self.old) (account_of self.old.histories) w → is_harmless result ≡ true }
+        ensures losing { (config : Config) (u : LosingFrameWorld) (shown : ShowsLosingBytes config (crossing_of self.old) (account_of self.old.histories) (lost_in self.old.losses) u)
+            → IsWelcome config shown.frames node peer
+            → WholeComesTo config u (told_take config u node peer) result (ShowsLosingBytes config (crossing_of self.new) (account_of self.new.histories) (lost_in self.new.losses)) }
+        ensures harmless { (config : Config) (u : LosingFrameWorld) (shown : ShowsLosingBytes config (crossing_of self.old) (account_of self.old.histories) (lost_in self.old.losses) u)
+            → IsWelcome config shown.frames node peer → is_harmless result ≡ true }
         ensures changes { is_harmless result ≡ true → TakeChanges (crossing_of self.old) (crossing_of self.new) node peer result }
         ensures formed { self.new.histories.formed ≡ self.old.histories.formed }
         ensures lost { lost_in self.new.losses ≡ lost_in self.old.losses }
@@ -389,9 +391,9 @@ impl<T: GroupTable + Drop> ByteNodes<T> {
     fn command(&mut self, node: usize, port: u16, command: &Command) -> Result<Stepped, NodeFault>
         requires settled { AreInRows self.old.histories }
         requires port { has_port (crossing_of self.old).nodes node port ≡ true }
-        ensures event { (config : Config) (lost : List ℕ) (w : TimedFrameWorld) → is_lost lost node ≡ false
-            → ShowsBytesPast config lost (crossing_of self.old) (account_of self.old.histories) w
-            → EventComesTo config w (Do node (Issue port command.now)) result (ShowsBytesPast config lost (crossing_of self.new) (account_of self.new.histories)) }
+        requires lives { is_lost (lost_in self.old.losses) node ≡ false }
+        ensures losing { (config : Config) (u : LosingFrameWorld) → ShowsLosingBytes config (crossing_of self.old) (account_of self.old.histories) (lost_in self.old.losses) u
+            → LosingComesTo config u (told_own config u node (Issue port command.now)) result (ShowsLosingBytes config (crossing_of self.new) (account_of self.new.histories) (lost_in self.new.losses)) }
         ensures changes { OwnChanges (crossing_of self.old) (crossing_of self.new) node result }
         ensures formed { self.new.histories.formed ≡ self.old.histories.formed }
         ensures lost { lost_in self.new.losses ≡ lost_in self.old.losses }
@@ -413,9 +415,9 @@ impl<T: GroupTable + Drop> ByteNodes<T> {
     fn retry(&mut self, node: usize, op: OpId) -> Result<Stepped, NodeFault>
         requires settled { AreInRows self.old.histories }
         requires port { has_port (crossing_of self.old).nodes node op.port ≡ true }
-        ensures event { (config : Config) (lost : List ℕ) (w : TimedFrameWorld) → is_lost lost node ≡ false
-            → ShowsBytesPast config lost (crossing_of self.old) (account_of self.old.histories) w
-            → EventComesTo config w (Do node (Retry op)) result (ShowsBytesPast config lost (crossing_of self.new) (account_of self.new.histories)) }
+        requires lives { is_lost (lost_in self.old.losses) node ≡ false }
+        ensures losing { (config : Config) (u : LosingFrameWorld) → ShowsLosingBytes config (crossing_of self.old) (account_of self.old.histories) (lost_in self.old.losses) u
+            → LosingComesTo config u (told_own config u node (Retry op)) result (ShowsLosingBytes config (crossing_of self.new) (account_of self.new.histories) (lost_in self.new.losses)) }
         ensures changes { OwnChanges (crossing_of self.old) (crossing_of self.new) node result }
         ensures formed { self.new.histories.formed ≡ self.old.histories.formed }
         ensures lost { lost_in self.new.losses ≡ lost_in self.old.losses }

@@ -43,7 +43,8 @@ use Rattle.pg_world_account.specs.Losses.{is_lost}
 use Rattle.pg_world_config.specs.Seen.{Seen}
 use Rattle.pg_world_packets.specs.Views.{View, peer_place}
 use Rattle.pg_world_packets.specs.Worlds.{TimedFrameWorld, ShowsNodes, ShowsNode, ShowsWorld}
-use Rattle.pg_world_packets.specs.Worlds.{ComesTo, has_port, has_places, told_event, told_of_first}
+use Rattle.pg_world_packets.specs.Worlds.{has_port, has_places}
+use Rattle.pg_world_packets.proofs.Coming.{CameOf, turn_told, told_of_first}
 use Rattle.pg_world_packets.proofs.Lossy.{lifted, same_effect, lost_kept}
 use Rattle.pg_world_packets.proofs.Peering.{lt_false, peer_name, named, there_and_back}
 use Rattle.pg_world_packets.proofs.Turning.{pair_is}
@@ -228,16 +229,16 @@ module _ (config : Config) (nodes : List Seen) (w : TimedFrameWorld) (lost : Lis
     pub take_cut : (is_lost lost i || (w.node i).state.lost (name_at config p)) ≡ false
     take_cut = sym (cut_is config nodes w lost shows seen i p take_pair) ∙ lives
 
-    told_first : told_event config w (Take i p) ≡ told_of_first (nodes_at config i) (name_at config p) (w.node i) (w.wire p i)
+    told_first : turn_told config w (Take i p) ≡ told_of_first (nodes_at config i) (name_at config p) (w.node i) (w.wire p i)
     told_first = ap (λ b. cond b (told_of_first (nodes_at config i) (name_at config p) (w.node i) (w.wire p i)) (Some (Err NoSuchPlace))) take_pair
 
     refusal_is : take_refusal config (losing_of config w lost) i p ≡ first_refusal (nodes_at config i) (name_at config p) (w.node i) (map sent_packet (w.wire p i) ++ notices config w lost p i)
     refusal_is = take_barred config nodes w lost shows seen i p true false take_pair take_cut
 
-    pub take_refused_so : (r : Refusal) → told_event config w (Take i p) ≡ Some (Err r) → take_refusal config (losing_of config w lost) i p ≡ Some r
+    pub take_refused_so : (r : Refusal) → turn_told config w (Take i p) ≡ Some (Err r) → take_refusal config (losing_of config w lost) i p ≡ Some r
     take_refused_so r e = refusal_is ∙ first_told (nodes_at config i) (name_at config p) (w.node i) (w.wire p i) (notices config w lost p i) r (sym told_first ∙ e)
 
-    pub take_idle_so : told_event config w (Take i p) ≡ None → (none_sent (map sent_packet (w.wire p i) ++ notices config w lost p i) ≡ true) × (take_refusal config (losing_of config w lost) i p ≡ None)
+    pub take_idle_so : turn_told config w (Take i p) ≡ None → (none_sent (map sent_packet (w.wire p i) ++ notices config w lost p i) ≡ true) × (take_refusal config (losing_of config w lost) i p ≡ None)
     take_idle_so e = let none = only_notices (nodes_at config i) (name_at config p) (w.node i) (w.node p) (w.wire p i) (is_pair (length config) p i && (is_lost lost p && not ((w.node i).state.lost (name_at config p)))) (sym told_first ∙ e) in
         (none.0, refusal_is ∙ none.1)
 
@@ -274,7 +275,7 @@ module _ (config : Config) (nodes : List Seen) (w : TimedFrameWorld) (lost : Lis
         both_second false b e = absurd (cc)
 
   pub own_refused_so : (i : ℕ) (action : Action) → has_port nodes i (port_of action) ≡ true → is_lost lost i ≡ false
-      → (r : Refusal) → told_event config w (Do i action) ≡ Some (Err r) → own_refusal config (losing_of config w lost) i action ≡ Some r
+      → (r : Refusal) → turn_told config w (Do i action) ≡ Some (Err r) → own_refusal config (losing_of config w lost) i action ≡ Some r
   own_refused_so i action places stays r e =
       let there : (is_place (length config) i && nat_lt (port_of action) (ports_at config i)) ≡ true = sym (port_is config nodes w lost shows i (port_of action)) ∙ places in
       let same : cond (is_place (length config) i) (step_act (nodes_at config i) (ports_at config i) action (w.node i)) (Err NoSuchPlace) ≡ Err r = some_is e in
@@ -297,7 +298,7 @@ module _ (config : Config) (old new : View) (lost lost2 : List ℕ) (w : TimedFr
   }
 
   module _ (e : Event Action) (tells : Telling) (event : tells.event ≡ Step e) (loss : tells.is_loss ≡ false) (stays : is_lost lost (node_of e) ≡ false)
-      (refused : (r : Refusal) → told_event config w e ≡ Some (Err r) → tells.refusal ≡ Some r) (idle : told_event config w e ≡ None → (tells.is_idle ≡ true) × (tells.refusal ≡ None))
+      (refused : (r : Refusal) → turn_told config w e ≡ Some (Err r) → tells.refusal ≡ Some r) (idle : turn_told config w e ≡ None → (tells.is_idle ≡ true) × (tells.refusal ≡ None))
       (can : (v : TimedFrameWorld) → happens (frame_machine config) w e ≡ Some v → CanBeMade tells) (late : is_told_first tells.refusal ≡ false) where
     led : (v : TimedFrameWorld) → happens (frame_machine config) w e ≡ Some v → ShowsWorld config new v → LosingLed config (losing_of config w lost) tells.event (ShowsLosing config new lost2)
     led v is shown =
@@ -317,7 +318,7 @@ module _ (config : Config) (old new : View) (lost lost2 : List ℕ) (w : TimedFr
         → losing_effect_in config (losing_of config w lost) tells.event ≡ Some effect
     did_so v effect is did = ap (losing_effect_in config (losing_of config w lost)) event ∙ (same_effect config lost w v e (happened (frame_machine config) w v e is) stays ∙ did)
 
-    pub comes : (result : Result Stepped NodeFault) → ComesTo config w e result (ShowsWorld config new) → (result ≡ Ok Nothing → new ≡ old) → OnErr result (new ≡ old)
+    pub comes : (result : Result Stepped NodeFault) → CameOf config w e result (ShowsWorld config new) → (result ≡ Ok Nothing → new ≡ old) → OnErr result (new ≡ old)
         → LosingComesTo config (losing_of config w lost) tells result (ShowsLosing config new lost2)
     comes (Ok (Happened effect)) (did, (v, is, shown)) nothing err = (loss, can v is, did_so v effect is did, led v is shown)
     comes (Ok Nothing) c nothing err = ((idle c).0, (idle c).1, still (nothing refl))
@@ -331,7 +332,7 @@ module _ (config : Config) (old new : View) (lost lost2 : List ℕ) (w : TimedFr
 
   -- a packet is taken
   pub take_comes : (i p : ℕ) (result : Result Stepped NodeFault) → is_pair (length old.traffic.nodes) i p ≡ true → is_cut_off old.traffic.nodes lost i p ≡ false
-      → ComesTo config w (Take i p) result (ShowsWorld config new) → (result ≡ Ok Nothing → new ≡ old) → OnErr result (new ≡ old)
+      → CameOf config w (Take i p) result (ShowsWorld config new) → (result ≡ Ok Nothing → new ≡ old) → OnErr result (new ≡ old)
       → LosingComesTo config (losing_of config w lost) (told_take config (losing_of config w lost) i p) result (ShowsLosing config new lost2)
   take_comes i p result places lives came nothing err =
       let nodes = old.traffic.nodes in
@@ -341,7 +342,7 @@ module _ (config : Config) (old new : View) (lost lost2 : List ℕ) (w : TimedFr
 
   -- something of its own
   pub own_comes : (i : ℕ) (action : Action) (result : Result Stepped NodeFault) → has_port old.traffic.nodes i (port_of action) ≡ true → is_lost lost i ≡ false
-      → ComesTo config w (Do i action) result (ShowsWorld config new) → (result ≡ Ok Nothing → new ≡ old) → OnErr result (new ≡ old)
+      → CameOf config w (Do i action) result (ShowsWorld config new) → (result ≡ Ok Nothing → new ≡ old) → OnErr result (new ≡ old)
       → LosingComesTo config (losing_of config w lost) (told_own config (losing_of config w lost) i action) result (ShowsLosing config new lost2)
   own_comes i action result places stays came nothing err =
       comes (Do i action) (told_own config (losing_of config w lost) i action) refl refl stays (own_refused_so config old.traffic.nodes w lost shows.traffic.nodes seen i action places stays)
@@ -352,12 +353,12 @@ module _ (config : Config) (old new : View) (lost lost2 : List ℕ) (w : TimedFr
 module _ (config : Config) (old new : View) (u : LosingFrameWorld) (lost lost2 : List ℕ) (shows : ShowsLosing config old lost u) (same : lost2 ≡ lost) (result : Result Stepped NodeFault)
     (nothing : result ≡ Ok Nothing → new ≡ old) (err : OnErr result (new ≡ old)) where
   pub take_in : (i p : ℕ) → is_pair (length old.traffic.nodes) i p ≡ true → is_cut_off old.traffic.nodes lost i p ≡ false
-      → ComesTo config shows.frames (Take i p) result (ShowsWorld config new) → LosingComesTo config u (told_take config u i p) result (ShowsLosing config new lost2)
+      → CameOf config shows.frames (Take i p) result (ShowsWorld config new) → LosingComesTo config u (told_take config u i p) result (ShowsLosing config new lost2)
   take_in i p places lives came = subst (λ (x : LosingFrameWorld). LosingComesTo config x (told_take config x i p) result (ShowsLosing config new lost2)) (sym shows.is)
       (take_comes config old new lost lost2 shows.frames shows.shows shows.seen same i p result places lives came nothing err)
 
   pub own_in : (i : ℕ) (action : Action) → has_port old.traffic.nodes i (port_of action) ≡ true → is_lost lost i ≡ false
-      → ComesTo config shows.frames (Do i action) result (ShowsWorld config new) → LosingComesTo config u (told_own config u i action) result (ShowsLosing config new lost2)
+      → CameOf config shows.frames (Do i action) result (ShowsWorld config new) → LosingComesTo config u (told_own config u i action) result (ShowsLosing config new lost2)
   own_in i action places stays came = subst (λ (x : LosingFrameWorld). LosingComesTo config x (told_own config x i action) result (ShowsLosing config new lost2)) (sym shows.is)
       (own_comes config old new lost lost2 shows.frames shows.shows shows.seen same i action result places stays came nothing err)
 

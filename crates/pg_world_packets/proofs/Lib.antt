@@ -2,6 +2,7 @@ pub mod Answering
 mod Applying
 pub mod AtLosses
 pub mod Barred
+pub mod Coming
 mod Copied
 pub mod Counted
 mod Dropped

@@ -26,7 +26,8 @@ use Rattle.pg_world_account.specs.Histories.{update_asked_by}
 use Rattle.pg_world_config.specs.Seen.{Seen}
 use Rattle.pg_world_packets.specs.Effects.{effect_by}
 use Rattle.pg_world_packets.specs.Views.{Traffic, peer_place, on_the_way, next_packet_of, packets_to}
-use Rattle.pg_world_packets.specs.Worlds.{ShowsTraffic, TimedFrameWorld, ComesTo}
+use Rattle.pg_world_packets.specs.Worlds.{ShowsTraffic, TimedFrameWorld}
+use Rattle.pg_world_packets.proofs.Coming.{CameOf}
 use Rattle.pg_world_packets.proofs.Peering.{peers_differ}
 use Rattle.pg_world_packets.proofs.Recording.{Records}
 use Rattle.pg_world_packets.proofs.Turning.{way_at, Left, Passes, pair_is, pair_turned, pair_there, none_told}
@@ -43,7 +44,7 @@ none_first (x ∷ xs) e = absurd (cc)
 
 -- what came of an event says more of what it left
 comes_as : (config : Config) (w : TimedFrameWorld) (e : Event Action) (effect : Effect) (One Other : TimedFrameWorld → Type 0) → ((v : TimedFrameWorld) → One v → Other v)
-    → ComesTo config w e (Ok (Happened effect)) One → ComesTo config w e (Ok (Happened effect)) Other
+    → CameOf config w e (Ok (Happened effect)) One → CameOf config w e (Ok (Happened effect)) Other
 comes_as config w e effect One Other f (did, (v, happened, one)) = (did, (v, happened, f v one))
 
 module _ (config : Config) (traffic traffic2 : Traffic) (w : TimedFrameWorld) (e : Event Action) (sends : List (ℕ × Packet)) (asked : Option Update) (began : Option (OpId × Update)) (shows : ShowsTraffic config traffic w)
@@ -63,14 +64,14 @@ module _ (config : Config) (traffic traffic2 : Traffic) (w : TimedFrameWorld) (e
 
 module _ (config : Config) (traffic : Traffic) (w : TimedFrameWorld) (i : ℕ) (action : Action) (node : Seen) (shows : ShowsTraffic config traffic w) (here : slice_get traffic.nodes i ≡ Some node) where
   pub own_refused : (fault : NodeFault) (s : Timed State) (before after : ℕ → List Answer) (Shown : TimedFrameWorld → Type 0)
-      → Comes {h = packets.ghosts} node.names (step_act (whole_in node.names) node.ports action node.state) (Err fault) s before after → ComesTo config w (Do i action) (Err fault) Shown
+      → Comes {h = packets.ghosts} node.names (step_act (whole_in node.names) node.ports action node.state) (Err fault) s before after → CameOf config w (Do i action) (Err fault) Shown
   own_refused = refused_own config traffic.nodes w i action node shows.nodes here packets.ghosts
 
   pub own_happened : (traffic2 : Traffic) (after : Seen) (done : PacketsDone) → traffic2.nodes ≡ slice_set traffic.nodes i after → after.names ≡ node.names → after.ports ≡ node.ports
       → AreSendable node.names done.sends.items → ((k : ℕ) → way_at traffic2 i k ≡ way_at traffic i k ++ packets_to done.sends.items k)
       → ((x : ℕ) → x ≢ i → (k : ℕ) → way_at traffic2 x k ≡ way_at traffic x k)
       → Comes node.names (step_act (whole_in node.names) node.ports action node.state) (Ok done) after.state node.answers after.answers
-      → ComesTo config w (Do i action) (Ok (Happened (effect_by done))) (λ v. ShowsTraffic config traffic2 v × Records w v i None done.began)
+      → CameOf config w (Do i action) (Ok (Happened (effect_by done))) (λ v. ShowsTraffic config traffic2 v × Records w v i None done.began)
   own_happened traffic2 after done nodes names ports fits sent others comes =
       comes_as config w (Do i action) (effect_by done) _ _ (shown_so config traffic traffic2 w (Do i action) done.sends.items None done.began shows sent ways_so)
       (own_left config traffic.nodes w i action node shows.nodes here traffic2.nodes after done nodes names ports fits comes)
@@ -88,7 +89,7 @@ module _ (config : Config) (traffic : Traffic) (w : TimedFrameWorld) (i p : ℕ)
   wire_is = shows.ways p i (pair_turned (length config) i p there)
 
   -- nothing is on the way
-  pub take_nothing : None ≡ next_packet_of (on_the_way traffic p i) → (Shown : TimedFrameWorld → Type 0) → ComesTo config w (Take i p) (Ok Nothing) Shown
+  pub take_nothing : None ≡ next_packet_of (on_the_way traffic p i) → (Shown : TimedFrameWorld → Type 0) → CameOf config w (Take i p) (Ok Nothing) Shown
   take_nothing none Shown = none_told config traffic.nodes w i p shows.nodes pair (wire_is ∙ none_first (on_the_way traffic p i) none)
 
   module _ (node : Seen) (here : slice_get traffic.nodes i ≡ Some node) (x : Stamped Message) (first : Some x ≡ next_packet_of (on_the_way traffic p i)) where
@@ -98,7 +99,7 @@ module _ (config : Config) (traffic : Traffic) (w : TimedFrameWorld) (i p : ℕ)
     -- it is refused
     pub take_refused : (fault : NodeFault) (s : Timed State) (before after : ℕ → List Answer) (Shown : TimedFrameWorld → Type 0)
         → Comes {h = packets.ghosts} node.names (step_take (whole_in node.names) (place_name node.names (peer_place i p + 1)) x node.state) (Err fault) s before after
-        → ComesTo config w (Take i p) (Err fault) Shown
+        → CameOf config w (Take i p) (Err fault) Shown
     take_refused = taken_refused config traffic.nodes w i p shows.nodes pair node here x (drop 1 (on_the_way traffic p i)) begins packets.ghosts
 
     -- it happened
@@ -107,7 +108,7 @@ module _ (config : Config) (traffic : Traffic) (w : TimedFrameWorld) (i p : ℕ)
         → way_at traffic2 p (peer_place p i) ≡ drop 1 (way_at traffic p (peer_place p i))
         → ((a k : ℕ) → a ≢ i → ((a ≡ p) × (k ≡ peer_place p i) → ⊥) → way_at traffic2 a k ≡ way_at traffic a k)
         → Comes node.names (step_take (whole_in node.names) (place_name node.names (peer_place i p + 1)) x node.state) (Ok done) after.state node.answers after.answers
-        → ComesTo config w (Take i p) (Ok (Happened (effect_by done))) (λ v. ShowsTraffic config traffic2 v × Records w v i (update_asked_by x.packet) done.began)
+        → CameOf config w (Take i p) (Ok (Happened (effect_by done))) (λ v. ShowsTraffic config traffic2 v × Records w v i (update_asked_by x.packet) done.began)
     take_happened traffic2 after done nodes names ports fits sent passed others comes =
         comes_as config w (Take i p) (effect_by done) _ _ (shown_so config traffic traffic2 w (Take i p) done.sends.items (update_asked_by x.packet) done.began shows sent ways_so)
         (take_left config traffic.nodes w i p shows.nodes pair node here x (drop 1 (on_the_way traffic p i)) begins traffic2.nodes after done nodes names ports fits comes)

@@ -18,7 +18,8 @@ use Rattle.pg_world_packets.specs.declared.step.Stepped.TheVariants.{Happened}
 use Rattle.pg_world_account.specs.Histories.{begun_by, one_of}
 use Rattle.pg_world_packets.specs.Views.{View}
 use Rattle.pg_world_account.specs.Histories.{Account}
-use Rattle.pg_world_packets.specs.Worlds.{TimedFrameWorld, ShowsWorld, ShowsTraffic, ShowsUpdates, ComesTo}
+use Rattle.pg_world_packets.specs.Worlds.{TimedFrameWorld, ShowsWorld, ShowsTraffic, ShowsUpdates}
+use Rattle.pg_world_packets.proofs.Coming.{CameOf}
 use Rattle.pg_world_packets.proofs.Applying.{Applies}
 
 -- The marks behind an event of node i, by which an update that was asked for was applied or another began, of the marks before it.
@@ -109,7 +110,7 @@ updates_after old new w v i asked began shows grew kept = record {
 -- the whole is shown
 pub shows_all : (config : Config) (old new : View) (w : TimedFrameWorld) (e : Event Action) (i : ℕ) (asked : Option Update) (began : Option (OpId × Update)) (did effect : Effect) → effect ≡ did
     → ShowsWorld config old w → Grew old.account new.account i asked began
-    → ComesTo config w e (Ok (Happened did)) (λ v. ShowsTraffic config new.traffic v × Records w v i asked began) → ComesTo config w e (Ok (Happened effect)) (ShowsWorld config new)
+    → CameOf config w e (Ok (Happened did)) (λ v. ShowsTraffic config new.traffic v × Records w v i asked began) → CameOf config w e (Ok (Happened effect)) (ShowsWorld config new)
 shows_all config old new w e i asked began did effect same shows grew (made, (v, happened, both)) =
     (made ∙ ap Some (sym same), (v, happened, record { traffic = both.0; updates = updates_after old.account new.account w v i asked began shows.updates grew both.1 }))
 

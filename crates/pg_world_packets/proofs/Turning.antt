@@ -18,17 +18,15 @@ use Rattle.pg_node_state.specs.PgStep.Machines.Clocked.{Timed, Stamped}
 use Rattle.pg_node_state.proofs.PgStep.Machines.Steps.{turn_changes, turn_made, happens_so}
 use Rattle.pg_node_state.specs.PgStep.Config.{Config, names_of, name_at, nodes_at, ports_at}
 use Rattle.pg_node_state.specs.PgStep.FrameMachine.{frame_machine}
-use Rattle.pg_node_state.specs.PgStep.Faults.{first_that_holds}
-use Rattle.pg_node_state.specs.PgStep.Nodes.{Node, Nodes, all_of}
-use Rattle.pg_node_state.specs.PgStep.State.{State, live_nodes}
+use Rattle.pg_node_state.specs.PgStep.Nodes.{Node, all_of}
+use Rattle.pg_node_state.specs.PgStep.State.{State}
 use Rattle.pg_node_state.specs.PgStep.Step.{Action, TimedTurn, node_takes, node_acts, step_take, step_act}
-use Rattle.pg_node_state.proofs.PgStep.Machines.Options.{some_is}
-use Rattle.pg_node_state.proofs.PgStep.Refusals.{acts_in_order, same_step}
-use Rattle.pg_node_state.specs.PgStep.StepLaws.{place_timed, timed_placed, refusal_of, port_of, retries_none, is_full}
+use Rattle.pg_node_state.proofs.PgStep.Refusals.{same_step}
+use Rattle.pg_node_state.specs.PgStep.StepLaws.{place_timed, timed_placed}
 use Rattle.pg_node_state.specs.PgStep.Turns.{Report}
 use Rattle.pg_node_state.specs.PgStep.declared.answer.Answer.{Answer}
 use Rattle.pg_node_state.specs.PgStep.declared.refusal.Refusal.{Refusal}
-use Rattle.pg_node_state.specs.PgStep.declared.refusal.Refusal.TheVariants.{NoSuchPlace, NotWaiting, ClockFull}
+use Rattle.pg_node_state.specs.PgStep.declared.refusal.Refusal.TheVariants.{NoSuchPlace}
 use Rattle.pg_laws_losses.specs.PgLaws.History.{answers_by}
 use Rattle.pg_node_state.specs.PgNodeOpens.Places.{whole_in, name_at as place_name}
 use Rattle.pg_node_state.specs.PgNodeSends.declared.done.Done.{Done}
@@ -44,7 +42,8 @@ use Rattle.pg_world_config.specs.Seen.{Seen}
 use Rattle.pg_world_packets.specs.Effects.{sum_below, op_of, effect_of, effect_by}
 use Rattle.pg_world_packets.specs.Views.{Traffic, peer_place, packets_to}
 use Rattle.pg_world_packets.specs.Worlds.{AreAnswers, ShowsNodes, ShowsNode}
-use Rattle.pg_world_packets.specs.Worlds.{TimedFrameWorld, told_event, told_of_first, ComesTo}
+use Rattle.pg_world_packets.specs.Worlds.{TimedFrameWorld}
+use Rattle.pg_world_packets.proofs.Coming.{turn_told, told_of_first, CameOf}
 use Rattle.pg_world_packets.proofs.Counted.{sum_same, count_to, count_all}
 use Rattle.pg_world_packets.proofs.Peering.{peer_name, named, known, there_and_back, sent_to, sent_home}
 use Rattle.pg_world_account.specs.Histories.{update_asked_by}
@@ -227,14 +226,6 @@ module _ {S : Type 0} {listing : Listing S} (config : Config) (nodes nodes2 : Li
 
 -- ---- something of its own
 
--- what is not refused is done at a port that is there
-port_so : (m : Nodes) (ports : ℕ) (action : Action) (s : Timed State) (t : TimedTurn) → step_act m ports action s ≡ Ok t → nat_lt (port_of action) ports ≡ true
-port_so m ports action s t is = go (nat_lt (port_of action) ports) (sym (acts_in_order m ports action s) ∙ ap refusal_of is)
-  where
-    go : (b : Bool) → first_that_holds ((not b, NoSuchPlace) ∷ (retries_none (live_nodes m s.state) action s.state, NotWaiting) ∷ (is_full (s.clock + 1), ClockFull) ∷ []) ≡ None → b ≡ true
-    go true e = refl
-    go false e = absurd (cc)
-
 module _ (config : Config) (nodes : List Seen) (w : TimedFrameWorld) (i : ℕ) (action : Action) (node : Seen) (shows : ShowsNodes config nodes w) (here : slice_get nodes i ≡ Some node) where
   its : ShowsNode config w i node
   its = shows.each i node here
@@ -246,16 +237,16 @@ module _ (config : Config) (nodes : List Seen) (w : TimedFrameWorld) (i : ℕ) (
   own_told : step_act (whole_in node.names) node.ports action node.state ≡ step_act (nodes_at config i) (ports_at config i) action (w.node i)
   own_told = λ j. step_act (whole_in (its.names j)) (its.ports j) action (sym its.state j)
 
-  own_is : told_event config w (Do i action) ≡ Some (step_act (whole_in node.names) node.ports action node.state)
+  own_is : turn_told config w (Do i action) ≡ Some (step_act (whole_in node.names) node.ports action node.state)
   own_is = ap (λ b. Some (cond b (step_act (nodes_at config i) (ports_at config i) action (w.node i)) (Err NoSuchPlace))) its_place ∙ ap Some (sym own_told)
 
   -- it is refused
   pub own_refused : {S : Type 0} (listing : Listing S) (fault : NodeFault) (s : Timed State) (before after : ℕ → List Answer) (Shown : TimedFrameWorld → Type 0)
-      → Comes {S = S} {h = listing} node.names (step_act (whole_in node.names) node.ports action node.state) (Err fault) s before after → ComesTo config w (Do i action) (Err fault) Shown
+      → Comes {S = S} {h = listing} node.names (step_act (whole_in node.names) node.ports action node.state) (Err fault) s before after → CameOf config w (Do i action) (Err fault) Shown
   own_refused {S} listing fault s before after Shown comes = go (step_act (whole_in node.names) node.ports action node.state) fault own_is comes
     where
-      go : (r : Result TimedTurn Refusal) (fault : NodeFault) → told_event config w (Do i action) ≡ Some r → Comes {S = S} {h = listing} node.names r (Err fault) s before after → ComesTo config w (Do i action) (Err fault) Shown
-      go (Ok t) OutOfMemory is h = (λ j. its_place j && port_so (nodes_at config i) (ports_at config i) action (w.node i) t (some_is (sym (own_is ∙ ap Some own_told) ∙ is)) j)
+      go : (r : Result TimedTurn Refusal) (fault : NodeFault) → turn_told config w (Do i action) ≡ Some r → Comes {S = S} {h = listing} node.names r (Err fault) s before after → CameOf config w (Do i action) (Err fault) Shown
+      go (Ok t) OutOfMemory is h = tt
       go (Ok t) (Refused refusal) is h = absurd h
       go (Ok t) (BadMessage fault) is h = absurd h
       go (Ok t) TooLong is h = absurd h
@@ -269,7 +260,7 @@ module _ (config : Config) (nodes : List Seen) (w : TimedFrameWorld) (i : ℕ) (
   module _ {S : Type 0} {listing : Listing S} (nodes2 : List Seen) (after : Seen) (done : Done S listing) (set : nodes2 ≡ slice_set nodes i after) (names : after.names ≡ node.names) (ports : after.ports ≡ node.ports)
       (fits : AreSendable node.names (listing.listed done.sends)) where
     own_so : (t : TimedTurn) → step_act (whole_in node.names) node.ports action node.state ≡ Ok t → Happens node.names t done after.state node.answers after.answers
-        → ComesTo config w (Do i action) (Ok (HasHappened (effect_by done))) (Left config nodes2 (Do i action) (listing.listed done.sends) None done.began w)
+        → CameOf config w (Do i action) (Ok (HasHappened (effect_by done))) (Left config nodes2 (Do i action) (listing.listed done.sends) None done.began w)
     own_so t is happened =
         let turn = place_timed config t in
         let v = perform (without_input w (Do i action)) i turn in
@@ -293,11 +284,11 @@ module _ (config : Config) (nodes : List Seen) (w : TimedFrameWorld) (i : ℕ) (
 
     -- it happened
     pub own_left : Comes node.names (step_act (whole_in node.names) node.ports action node.state) (Ok done) after.state node.answers after.answers
-        → ComesTo config w (Do i action) (Ok (HasHappened (effect_by done))) (Left config nodes2 (Do i action) (listing.listed done.sends) None done.began w)
+        → CameOf config w (Do i action) (Ok (HasHappened (effect_by done))) (Left config nodes2 (Do i action) (listing.listed done.sends) None done.began w)
     own_left comes = go (step_act (whole_in node.names) node.ports action node.state) refl comes
       where
         go : (r : Result TimedTurn Refusal) → step_act (whole_in node.names) node.ports action node.state ≡ r
-            → Comes node.names r (Ok done) after.state node.answers after.answers → ComesTo config w (Do i action) (Ok (HasHappened (effect_by done))) (Left config nodes2 (Do i action) (listing.listed done.sends) None done.began w)
+            → Comes node.names r (Ok done) after.state node.answers after.answers → CameOf config w (Do i action) (Ok (HasHappened (effect_by done))) (Left config nodes2 (Do i action) (listing.listed done.sends) None done.began w)
         go (Ok t) is h = own_so t is h
         go (Err refusal) is h = absurd (cc)
 
@@ -307,11 +298,11 @@ module _ (config : Config) (nodes : List Seen) (w : TimedFrameWorld) (i p : ℕ)
   pub pair_there : is_pair (length config) i p ≡ true
   pair_there = ap (λ n. is_pair n i p) (sym shows.size) ∙ pair
 
-  take_told : told_event config w (Take i p) ≡ told_of_first (nodes_at config i) (name_at config p) (w.node i) (w.wire p i)
+  take_told : turn_told config w (Take i p) ≡ told_of_first (nodes_at config i) (name_at config p) (w.node i) (w.wire p i)
   take_told = ap (λ b. cond b (told_of_first (nodes_at config i) (name_at config p) (w.node i) (w.wire p i)) (Some (Err NoSuchPlace))) pair_there
 
   -- nothing is on the way
-  pub none_told : w.wire p i ≡ [] → told_event config w (Take i p) ≡ None
+  pub none_told : w.wire p i ≡ [] → turn_told config w (Take i p) ≡ None
   none_told none = take_told ∙ ap (told_of_first (nodes_at config i) (name_at config p) (w.node i)) none
 
   module _ (node : Seen) (here : slice_get nodes i ≡ Some node) (x : Stamped Message) (rest : List (Stamped Message)) (begins : w.wire p i ≡ x ∷ rest) where
@@ -329,17 +320,17 @@ module _ (config : Config) (nodes : List Seen) (w : TimedFrameWorld) (i p : ℕ)
     pub taken_told : step_take (whole_in node.names) (place_name node.names (peer_place i p + 1)) x node.state ≡ step_take (nodes_at config i) (name_at config p) x (w.node i)
     taken_told = λ j. step_take (whole_in (taker.names j)) (peer_is j) x (sym taker.state j)
 
-    take_is : told_event config w (Take i p) ≡ Some (step_take (whole_in node.names) (place_name node.names (peer_place i p + 1)) x node.state)
+    take_is : turn_told config w (Take i p) ≡ Some (step_take (whole_in node.names) (place_name node.names (peer_place i p + 1)) x node.state)
     take_is = take_told ∙ (ap (told_of_first (nodes_at config i) (name_at config p) (w.node i)) begins ∙ ap Some (sym taken_told))
 
     -- it is refused
     pub taken_refused : {S : Type 0} (listing : Listing S) (fault : NodeFault) (s : Timed State) (before after : ℕ → List Answer) (Shown : TimedFrameWorld → Type 0)
         → Comes {S = S} {h = listing} node.names (step_take (whole_in node.names) (place_name node.names (peer_place i p + 1)) x node.state) (Err fault) s before after
-        → ComesTo config w (Take i p) (Err fault) Shown
+        → CameOf config w (Take i p) (Err fault) Shown
     taken_refused {S} listing fault s before after Shown comes = go (step_take (whole_in node.names) (place_name node.names (peer_place i p + 1)) x node.state) fault take_is comes
       where
-        go : (r : Result TimedTurn Refusal) (fault : NodeFault) → told_event config w (Take i p) ≡ Some r → Comes {S = S} {h = listing} node.names r (Err fault) s before after → ComesTo config w (Take i p) (Err fault) Shown
-        go (Ok t) OutOfMemory is h = pair_there
+        go : (r : Result TimedTurn Refusal) (fault : NodeFault) → turn_told config w (Take i p) ≡ Some r → Comes {S = S} {h = listing} node.names r (Err fault) s before after → CameOf config w (Take i p) (Err fault) Shown
+        go (Ok t) OutOfMemory is h = tt
         go (Ok t) (Refused refusal) is h = absurd h
         go (Ok t) (BadMessage fault) is h = absurd h
         go (Ok t) TooLong is h = absurd h
@@ -353,7 +344,7 @@ module _ (config : Config) (nodes : List Seen) (w : TimedFrameWorld) (i p : ℕ)
     module _ {S : Type 0} {listing : Listing S} (nodes2 : List Seen) (after : Seen) (done : Done S listing) (set : nodes2 ≡ slice_set nodes i after) (names : after.names ≡ node.names) (ports : after.ports ≡ node.ports)
         (fits : AreSendable node.names (listing.listed done.sends)) where
       take_so : (t : TimedTurn) → step_take (whole_in node.names) (place_name node.names (peer_place i p + 1)) x node.state ≡ Ok t
-          → Happens node.names t done after.state node.answers after.answers → ComesTo config w (Take i p) (Ok (HasHappened (effect_by done))) (Left config nodes2 (Take i p) (listing.listed done.sends) (update_asked_by x.packet) done.began w)
+          → Happens node.names t done after.state node.answers after.answers → CameOf config w (Take i p) (Ok (HasHappened (effect_by done))) (Left config nodes2 (Take i p) (listing.listed done.sends) (update_asked_by x.packet) done.began w)
       take_so t is happened =
           let turn = place_timed config t in
           let v = perform (without_input {C = Action} w (Take i p)) i turn in
@@ -381,10 +372,10 @@ module _ (config : Config) (nodes : List Seen) (w : TimedFrameWorld) (i p : ℕ)
 
       -- it happened
       pub take_left : Comes node.names (step_take (whole_in node.names) (place_name node.names (peer_place i p + 1)) x node.state) (Ok done) after.state node.answers after.answers
-          → ComesTo config w (Take i p) (Ok (HasHappened (effect_by done))) (Left config nodes2 (Take i p) (listing.listed done.sends) (update_asked_by x.packet) done.began w)
+          → CameOf config w (Take i p) (Ok (HasHappened (effect_by done))) (Left config nodes2 (Take i p) (listing.listed done.sends) (update_asked_by x.packet) done.began w)
       take_left comes = go (step_take (whole_in node.names) (place_name node.names (peer_place i p + 1)) x node.state) refl comes
         where
           go : (r : Result TimedTurn Refusal) → step_take (whole_in node.names) (place_name node.names (peer_place i p + 1)) x node.state ≡ r
-              → Comes node.names r (Ok done) after.state node.answers after.answers → ComesTo config w (Take i p) (Ok (HasHappened (effect_by done))) (Left config nodes2 (Take i p) (listing.listed done.sends) (update_asked_by x.packet) done.began w)
+              → Comes node.names r (Ok done) after.state node.answers after.answers → CameOf config w (Take i p) (Ok (HasHappened (effect_by done))) (Left config nodes2 (Take i p) (listing.listed done.sends) (update_asked_by x.packet) done.began w)
           go (Ok t) is h = take_so t is h
           go (Err refusal) is h = absurd (cc)

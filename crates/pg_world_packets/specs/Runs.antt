@@ -32,7 +32,7 @@ abbrev pub IsToldEvent : Telling → LosingEvent Action → Type 0
 IsToldEvent told e = (e ≡ told.event) × CanBeMade told
 
 -- The event of a step happened in the world u, and the step's number is 0; the rest follows in the world that it left.
-pub record Goes (config : Config) (u : LosingFrameWorld) (step : FrameStep) (number : ℕ) (Rest : LosingEvent Action → LosingFrameWorld → Type 0) : Type 0 where
+pub record IsMade (config : Config) (u : LosingFrameWorld) (step : FrameStep) (number : ℕ) (Rest : LosingEvent Action → LosingFrameWorld → Type 0) : Type 0 where
   pub listed : number ≡ 0
   pub e : LosingEvent Action
   pub is : IsToldEvent (told_of config u step) e
@@ -42,7 +42,7 @@ pub record Goes (config : Config) (u : LosingFrameWorld) (step : FrameStep) (num
 
 -- what came of a step: it happened and led to a world that is shown, or left the world as it was
 abbrev pub StepsTo : Config → LosingFrameWorld → FrameStep → ℕ → (LosingFrameWorld → Type 0) → Type 0
-StepsTo config u step number Shown = Goes config u step number (λ e left. Shown left) ⊎ (IsLeftOut (told_of config u step) number × Shown u)
+StepsTo config u step number Shown = IsMade config u step number (λ e left. Shown left) ⊎ (IsLeftOut (told_of config u step) number × Shown u)
 
 -- ---- runs
 
@@ -56,7 +56,7 @@ pub record Led {E : Type 0} (event : E) (events : List E) (Rest : List E → Typ
 abbrev pub RunsTo : Config → LosingFrameWorld → List FrameStep → List ℕ → List (LosingEvent Action) → LosingFrameWorld → Type 0
 RunsTo config u [] [] events v = (events ≡ []) × (u ≡ v)
 RunsTo config u (step ∷ later) (number ∷ numbers) events v =
-    Goes config u step number (λ e left. Led e events (λ others. RunsTo config left later numbers others v))
+    IsMade config u step number (λ e left. Led e events (λ others. RunsTo config left later numbers others v))
     ⊎ (IsLeftOut (told_of config u step) number × RunsTo config u later numbers events v)
 RunsTo config u all numbers events v = ⊥
 

@@ -1,37 +1,28 @@
 -- The frame world that a world of nodes shows, and what a step makes of it.
-use Rattle.std.specs.Prelude.{◌≡◌, ◌<◌, ℕ, Bool, true, false, ◌&&◌, cond, nat_lt, length, slice_get}
-use Rattle.std.specs.Prelude.{List, [], ◌∷◌, Option, Some, None, Result, Ok, Err}
+use Rattle.std.specs.Prelude.{◌≡◌, ◌<◌, ℕ, Bool, true, false, ◌&&◌, nat_lt, length, slice_get}
+use Rattle.std.specs.Prelude.{List, [], ◌∷◌, Option, Some, None}
 use Rattle.std.specs.List.{IsDistinct}
 use Rattle.std.specs.Option.{option_map_or}
 use Rattle.pg_term.specs.declared.term.Term.{Term}
 use Rattle.pg_term.specs.Same.{same_atom}
 use Rattle.pg_node_state.specs.PgGroup.declared.table.GroupTable.{Ghosts}
 use Rattle.pg_node_state.specs.PgMessageTypes.declared.message.Message.{Message}
-use Rattle.pg_node_state.specs.PgStep.Machines.Places.{is_place, is_pair}
-use Rattle.pg_node_state.specs.PgStep.Machines.Machine.{Event, Take, Do, happens}
-use Rattle.pg_node_state.specs.PgStep.Machines.Clocked.{Timed, Stamped, TimedWorld}
+use Rattle.pg_node_state.specs.PgStep.Machines.Places.{is_pair}
+use Rattle.pg_node_state.specs.PgStep.Machines.Machine.{Event, Take, Do}
+use Rattle.pg_node_state.specs.PgStep.Machines.Clocked.{TimedWorld}
 use Rattle.pg_node_state.specs.PgStep.declared.answer.Answer.{Answer}
-use Rattle.pg_node_state.specs.PgStep.declared.refusal.Refusal.{Refusal}
-use Rattle.pg_node_state.specs.PgStep.declared.refusal.Refusal.TheVariants.{NoSuchPlace}
 use Rattle.pg_node_state.specs.PgStep.Commands.{Answers}
 use Rattle.pg_node_state.specs.PgStep.Config.{Config, names_of as names_in, name_at, nodes_at, ports_at}
-use Rattle.pg_node_state.specs.PgStep.FrameMachine.{frame_machine}
-use Rattle.pg_node_state.specs.PgStep.Nodes.{Node, Nodes, all_of}
+use Rattle.pg_node_state.specs.PgStep.Nodes.{Node, all_of}
 use Rattle.pg_node_state.specs.PgStep.State.{State, Response}
-use Rattle.pg_node_state.specs.PgStep.Step.{Action, Issue, Retry, TimedTurn, step_take, step_act}
-use Rattle.pg_node_state.specs.PgStep.StepLaws.{port_of}
+use Rattle.pg_node_state.specs.PgStep.Step.{Action, Issue, Retry}
 use Rattle.pg_node_state.specs.PgStep.Turns.{Report}
 use Rattle.pg_laws_losses.specs.PgLaws.History.{answers_by, history, applied_count}
-use Rattle.pg_node_state.specs.declared.state.fault.NodeFault.{NodeFault}
-use Rattle.pg_node_state.specs.declared.state.fault.NodeFault.TheVariants.{Refused, OutOfMemory}
 use Rattle.pg_world_packets.specs.declared.step.FrameStep.{FrameStep}
 use Rattle.pg_world_packets.specs.declared.step.FrameStep.TheVariants as steps
-use Rattle.pg_world_packets.specs.declared.step.Stepped.{Stepped}
-use Rattle.pg_world_packets.specs.declared.step.Stepped.TheVariants.{Nothing, Happened}
 use Rattle.pg_world_packets.specs.declared.world.FrameNodes.{FrameNodes}
 use Rattle.pg_world_account.specs.Histories.{account_of}
 use Rattle.pg_world_config.specs.Seen.{Seen}
-use Rattle.pg_world_packets.specs.Effects.{effect_in}
 use Rattle.pg_world_packets.specs.Views.{Traffic, View, traffic_in, on_the_way}
 use Rattle.pg_world_account.specs.Histories.{Account}
 use Rattle.pg_laws_losses.specs.Remains.Missed.{marks}
@@ -107,35 +98,6 @@ has_places nodes (steps.Command node port command) = has_port nodes node port
 has_places nodes (steps.Retry node op) = has_port nodes node op.port
 has_places nodes (steps.SeeLoss node peer) = is_pair (length nodes) node peer
 has_places nodes (steps.Lose node keep) = nat_lt node (length nodes)
-
--- what the step of a node tells of the first packet of a peer; None where there is none
-abbrev pub told_of_first : Nodes → Node → Timed State → List (Stamped Message) → Option (Result TimedTurn Refusal)
-told_of_first m p s [] = None
-told_of_first m p s (x ∷ rest) = Some (step_take m p x s)
-
--- What is told of an event: what its node makes of it, or that a place is not there. None where nothing is on the way.
-abbrev pub told_event : Config → TimedFrameWorld → Event Action → Option (Result TimedTurn Refusal)
-told_event config w (Take i p) = cond (is_pair (length config) i p) (told_of_first (nodes_at config i) (name_at config p) (w.node i) (w.wire p i)) (Some (Err NoSuchPlace))
-told_event config w (Do i action) = Some (cond (is_place (length config) i) (step_act (nodes_at config i) (ports_at config i) action (w.node i)) (Err NoSuchPlace))
-
--- it happened in the world w, and led to a world that is shown
-abbrev pub EventLed : Config → TimedFrameWorld → Event Action → (TimedFrameWorld → Type 0) → Type 0
-EventLed config w e Shown = (v : TimedFrameWorld) × (happens (frame_machine config) w e ≡ Some v) × Shown v
-
--- the places that an event names are there
-abbrev pub are_there : Config → Event Action → Bool
-are_there config (Take i p) = is_pair (length config) i p
-are_there config (Do i action) = is_place (length config) i && nat_lt (port_of action) (ports_at config i)
-
--- What came of an event in the world w: it happened, did what is reported, and led to a world that is shown; nothing was on the way;
--- memory ran out, where its places are there; or it was refused as is told.
-abbrev pub ComesTo : Config → TimedFrameWorld → Event Action → Result Stepped NodeFault → (TimedFrameWorld → Type 0) → Type 0
-ComesTo config w e (Ok (Happened effect)) Shown = (effect_in (frame_machine config) w e ≡ Some effect) × EventLed config w e Shown
-ComesTo config w e (Ok Nothing) Shown = told_event config w e ≡ None
-ComesTo config w e (Ok stepped) Shown = ⊥
-ComesTo config w e (Err OutOfMemory) Shown = are_there config e ≡ true
-ComesTo config w e (Err (Refused refusal)) Shown = told_event config w e ≡ Some (Err refusal)
-ComesTo config w e (Err fault) Shown = ⊥
 
 -- a step by which a node is lost
 abbrev pub is_loss : FrameStep → Bool

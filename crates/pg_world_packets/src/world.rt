@@ -1,6 +1,6 @@
 //! Nodes and the packets on the way between them, and what a step makes of them.
 
-ghost use Rattle.std.specs.Prelude.{◌≡◌, ◌≢◌, [], true, Ok, IfSome, OnErr, length, map};
+ghost use Rattle.std.specs.Prelude.{◌≡◌, ◌≢◌, [], true, false, Ok, IfSome, OnErr, length, map};
 ghost use Rattle.std.specs.Option.{is_some};
 ghost use Rattle.pg_node_state.specs.PgNodeSends.Sent.{stamped_of};
 ghost use Rattle.pg_world_packets.specs.Views.{IsWhole, traffic_in};
@@ -32,14 +32,14 @@ pub(crate) struct FrameNodes<T: GroupTable> {
 impl<T: GroupTable + Drop> FrameNodes<T> {
     ghost use Rattle.pg_world_packets.specs.Views.{fresh_view, on_the_way};
     ghost use Rattle.pg_node_state.specs.PgStep.Machines.Places.{is_pair};
-    ghost use Rattle.pg_node_state.specs.PgStep.Machines.Machine.{Take, Do};
     ghost use Rattle.pg_node_state.specs.PgStep.Config.{Config};
     ghost use Rattle.pg_node_state.specs.PgStep.Step.{Issue, Retry};
     ghost use Rattle.pg_world_account.specs.Histories.{AreInRows};
+    ghost use Rattle.pg_world_account.specs.Losses.{is_lost};
     ghost use Rattle.pg_world_packets.specs.Worlds.{traffic_of, view_of, has_port, has_places};
-    ghost use Rattle.pg_world_packets.specs.Worlds.{TimedFrameWorld, ShowsWorld, ComesTo};
     ghost use Rattle.pg_node_state.specs.PgStep.LossLaws.{LosingFrameWorld};
-    ghost use Rattle.pg_world_packets.specs.Losing.{lost_of, lost_after, formed_after, told_of, ShowsLosing, LosingComesTo};
+    ghost use Rattle.pg_world_packets.specs.Losing.{lost_of, lost_after, formed_after, is_cut_off};
+    ghost use Rattle.pg_world_packets.specs.Losing.{told_of, told_take, told_own, ShowsLosing, LosingComesTo};
 
     /// These nodes, and what is on the way from each of them, where nothing has begun.
     ///
@@ -161,8 +161,9 @@ impl<T: GroupTable + Drop> FrameNodes<T> {
     fn take(&mut self, node: usize, peer: usize) -> Result<Stepped, NodeFault>
         requires settled { AreInRows self.old.histories }
         requires pair { is_pair (length (traffic_of self.old).nodes) node peer ≡ true }
-        ensures event { (config : Config) (w : TimedFrameWorld) → ShowsWorld config (view_of self.old) w
-            → ComesTo config w (Take node peer) result (ShowsWorld config (view_of self.new)) }
+        requires lives { is_cut_off (traffic_of self.old).nodes (lost_of self.old) node peer ≡ false }
+        ensures losing { (config : Config) (u : LosingFrameWorld) → ShowsLosing config (view_of self.old) (lost_of self.old) u
+            → LosingComesTo config u (told_take config u node peer) result (ShowsLosing config (view_of self.new) (lost_of self.new)) }
         ensures nothing { result ≡ Ok Stepped.Nothing → view_of self.new ≡ view_of self.old }
         ensures err { OnErr result (view_of self.new ≡ view_of self.old) }
         ensures lost { lost_of self.new ≡ lost_of self.old }
@@ -202,8 +203,9 @@ impl<T: GroupTable + Drop> FrameNodes<T> {
     fn command(&mut self, node: usize, port: u16, command: &Command) -> Result<Stepped, NodeFault>
         requires settled { AreInRows self.old.histories }
         requires port { has_port (traffic_of self.old).nodes node port ≡ true }
-        ensures event { (config : Config) (w : TimedFrameWorld) → ShowsWorld config (view_of self.old) w
-            → ComesTo config w (Do node (Issue port command.now)) result (ShowsWorld config (view_of self.new)) }
+        requires lives { is_lost (lost_of self.old) node ≡ false }
+        ensures losing { (config : Config) (u : LosingFrameWorld) → ShowsLosing config (view_of self.old) (lost_of self.old) u
+            → LosingComesTo config u (told_own config u node (Issue port command.now)) result (ShowsLosing config (view_of self.new) (lost_of self.new)) }
         ensures happens { result ≢ Ok Stepped.Nothing }
         ensures err { OnErr result (view_of self.new ≡ view_of self.old) }
         ensures lost { lost_of self.new ≡ lost_of self.old }
@@ -230,8 +232,9 @@ impl<T: GroupTable + Drop> FrameNodes<T> {
     fn retry(&mut self, node: usize, op: OpId) -> Result<Stepped, NodeFault>
         requires settled { AreInRows self.old.histories }
         requires port { has_port (traffic_of self.old).nodes node op.port ≡ true }
-        ensures event { (config : Config) (w : TimedFrameWorld) → ShowsWorld config (view_of self.old) w
-            → ComesTo config w (Do node (Retry op)) result (ShowsWorld config (view_of self.new)) }
+        requires lives { is_lost (lost_of self.old) node ≡ false }
+        ensures losing { (config : Config) (u : LosingFrameWorld) → ShowsLosing config (view_of self.old) (lost_of self.old) u
+            → LosingComesTo config u (told_own config u node (Retry op)) result (ShowsLosing config (view_of self.new) (lost_of self.new)) }
         ensures happens { result ≢ Ok Stepped.Nothing }
         ensures err { OnErr result (view_of self.new ≡ view_of self.old) }
         ensures lost { lost_of self.new ≡ lost_of self.old }

@@ -26,13 +26,15 @@ use Rattle.pg_world_packets.specs.declared.step.Stepped.TheVariants.{Happened, M
 use Rattle.pg_world.specs.Bars.{put_bar, pull_bar}
 use Rattle.pg_world.specs.BytesLosing.{ShowsLosingBytes, MoveLeaves, WholeComesTo, SightComesTo}
 use Rattle.pg_world.specs.BytesLosing.{EventLeaves, LossComesTo, bars_sight, put_refusal, pull_refusal, gone_refusal}
-use Rattle.pg_world.specs.Crossings.{Crossing, ShowsBytesPast, EventComesTo, is_take}
+use Rattle.pg_world.specs.Crossings.{Crossing, ShowsBytesPast}
+use Rattle.pg_world.proofs.Coming.{CameOverBytes, is_take}
+use Rattle.pg_world_packets.proofs.Coming.{turn_told}
 use Rattle.pg_world_packets.specs.Effects.{effect_in, losing_effect_in}
 use Rattle.pg_world_packets.specs.Losing.{SeenAreLost, losing_of, is_cut_off, is_barred, Telling}
 use Rattle.pg_world_packets.specs.Losing.{CanBeMade, is_told_first, told_take, told_own, told_of, LosingLed, LosingComesTo}
 use Rattle.pg_world_packets.specs.PgWorldAccount.Losses.{is_lost}
 use Rattle.pg_world_packets.specs.PgWorldAccount.Histories.{Account, account_formed}
-use Rattle.pg_world_packets.specs.Worlds.{TimedFrameWorld, ShowsNodes, ShowsUpdates, has_port, has_places, told_event}
+use Rattle.pg_world_packets.specs.Worlds.{TimedFrameWorld, ShowsNodes, ShowsUpdates, has_port, has_places}
 use Rattle.pg_world_packets.proofs.Barred.{cut_is, barred_told, unplaced_told, take_cut, either_stays}
 use Rattle.pg_world_packets.proofs.Barred.{take_refused_so, take_can, take_late, own_refused_so, own_can, own_first}
 use Rattle.pg_world_packets.proofs.Lossy.{lifted, same_effect, lost_kept}
@@ -102,7 +104,7 @@ module _ (config : Config) (crossing2 : Crossing) (account2 : Account) (lost los
   }
 
   module _ (e : Event Action) (tells : Telling) (event : tells.event ≡ Step e) (loss : tells.is_loss ≡ false) (stays : is_lost lost (node_of e) ≡ false)
-      (refused : (r : Refusal) → told_event config w e ≡ Some (Err r) → tells.refusal ≡ Some r)
+      (refused : (r : Refusal) → turn_told config w e ≡ Some (Err r) → tells.refusal ≡ Some r)
       (can : (v : TimedFrameWorld) → happens (frame_machine config) w e ≡ Some v → CanBeMade tells) (late : is_told_first tells.refusal ≡ false) where
     led_past : (v : TimedFrameWorld) → happens (frame_machine config) w e ≡ Some v → ShowsBytesPast config lost crossing2 account2 v
         → LosingLed config (losing_of config w lost) tells.event (ShowsLosingBytes config crossing2 account2 lost2)
@@ -124,7 +126,7 @@ module _ (config : Config) (crossing2 : Crossing) (account2 : Account) (lost los
     did_past v effect is did = ap (losing_effect_in config (losing_of config w lost)) event ∙ (same_effect config lost w v e (happened (frame_machine config) w v e is) stays ∙ did)
 
     -- something of its own
-    own_comes : (result : Result Stepped NodeFault) → is_take e ≡ false → EventComesTo config w e result (ShowsBytesPast config lost crossing2 account2)
+    own_comes : (result : Result Stepped NodeFault) → is_take e ≡ false → CameOverBytes config w e result (ShowsBytesPast config lost crossing2 account2)
         → LosingComesTo config (losing_of config w lost) tells result (ShowsLosingBytes config crossing2 account2 lost2)
     own_comes (Ok (Happened effect)) own (did, (v, is, shown)) = (loss, can v is, did_past v effect is did, led_past v is shown)
     own_comes (Ok Nothing) own (takes, shown) = let no : true ≡ false = sym takes ∙ own in absurd (cc)
@@ -137,7 +139,7 @@ module _ (config : Config) (crossing2 : Crossing) (account2 : Account) (lost los
     own_comes (Err Damaged) own comes = absurd comes
 
     -- a packet that is taken
-    taken_comes : (result : Result Stepped NodeFault) → EventComesTo config w e result (ShowsBytesPast config lost crossing2 account2)
+    taken_comes : (result : Result Stepped NodeFault) → CameOverBytes config w e result (ShowsBytesPast config lost crossing2 account2)
         → WholeComesTo config (losing_of config w lost) tells result (ShowsLosingBytes config crossing2 account2 lost2)
     taken_comes (Ok (Happened effect)) (did, (v, is, shown)) = (loss, can v is, did_past v effect is did, led_past v is shown)
     taken_comes (Ok Nothing) (takes, shown) = (late, still_past shown)
@@ -170,14 +172,14 @@ module _ (config : Config) (crossing crossing2 : Crossing) (account account2 : A
       (λ s. subst (ShowsLosingBytes config crossing2 account2 lost2) (sym shows.is) (still_past config crossing2 account2 lost lost2 w shows.seen same s))
 
   pub take_past : (i p : ℕ) → is_pair (length crossing.nodes) i p ≡ true → is_cut_off crossing.nodes lost i p ≡ false
-      → EventComesTo config w (Take i p) result (ShowsBytesPast config lost crossing2 account2) → WholeComesTo config u (told_take config u i p) result (ShowsLosingBytes config crossing2 account2 lost2)
+      → CameOverBytes config w (Take i p) result (ShowsBytesPast config lost crossing2 account2) → WholeComesTo config u (told_take config u i p) result (ShowsLosingBytes config crossing2 account2 lost2)
   take_past i p places lives came = subst (λ (x : LosingFrameWorld). WholeComesTo config x (told_take config x i p) result (ShowsLosingBytes config crossing2 account2 lost2)) (sym shows.is)
       (taken_comes config crossing2 account2 lost lost2 w shows.seen same (Take i p) (told_take config (losing_of config w lost) i p) refl refl
       (either_stays config crossing.nodes w lost nodes shows.seen (is_lost lost i) _ (take_cut config crossing.nodes w lost nodes shows.seen i p places lives))
       (take_refused_so config crossing.nodes w lost nodes shows.seen i p places lives) (take_can config crossing.nodes w lost nodes shows.seen i p places lives) (take_late config crossing.nodes w lost nodes shows.seen i p places lives) result came)
 
   pub own_past : (i : ℕ) (action : Action) → has_port crossing.nodes i (port_of action) ≡ true → is_lost lost i ≡ false
-      → EventComesTo config w (Do i action) result (ShowsBytesPast config lost crossing2 account2) → LosingComesTo config u (told_own config u i action) result (ShowsLosingBytes config crossing2 account2 lost2)
+      → CameOverBytes config w (Do i action) result (ShowsBytesPast config lost crossing2 account2) → LosingComesTo config u (told_own config u i action) result (ShowsLosingBytes config crossing2 account2 lost2)
   own_past i action places stays came = subst (λ (x : LosingFrameWorld). LosingComesTo config x (told_own config x i action) result (ShowsLosingBytes config crossing2 account2 lost2)) (sym shows.is)
       (own_comes config crossing2 account2 lost lost2 w shows.seen same (Do i action) (told_own config (losing_of config w lost) i action) refl refl stays
       (own_refused_so config crossing.nodes w lost nodes shows.seen i action places stays) (own_can config crossing.nodes w lost nodes shows.seen i action places stays) (own_first config crossing.nodes w lost nodes shows.seen i action places stays) result refl came)

@@ -11,7 +11,7 @@ use Rattle.pg_world_packets.specs.PgWorldAccount.Losses.{lost_in, is_lost}
 use Rattle.pg_world_packets.specs.PgWorldAccount.Histories.{Account}
 use Rattle.pg_world_packets.specs.Worlds.{has_places}
 use Rattle.pg_world_packets.proofs.Barred.{either_stays, either_unseen, take_cut}
-use Rattle.pg_world.proofs.over_bytes.Past.{take_past, own_past, unplaced_past}
+use Rattle.pg_world.proofs.over_bytes.Past.{unplaced_past}
 use Rattle.pg_world.proofs.over_bytes.Past.{barred_past, take_starved, own_starved}
 use Rattle.pg_world_packets.specs.PgNodeState.declared.state.fault.NodeFault.TheVariants.{OutOfMemory}
 use Rattle.pg_world.specs.Changes.{FrameChanges, spares}
@@ -51,8 +51,7 @@ returns-in-Ok-clause-losing g c = λ config u reached shows.
     let led = subst (LosingReaches config reached.0) now.is reached.1 in
     let welcome = welcome_left config w lost i p (λ packet rest begins. c.no_packet_is_refused.ensures config (losing_of config w lost) reached.0 i p packet rest its.apart led (pair_there config nodes w i p its pair) stays unseen begins) in
     subst (λ (s : FrameStep). EventLeaves config u s c.take.result (ShowsLosingBytes config (crossing_of c.take.new.self) (account_of c.take.new.self.histories) (lost_in c.take.new.self.losses))) (sym c.in-Take.is)
-    (take_past config crossing (crossing_of c.take.new.self) _ (account_of c.take.new.self.histories) u lost _ now c.take.ensures.lost c.take.result i p pair lives
-    (c.take.ensures.event config lost w stays unseen welcome now.shows))
+    (c.take.ensures.losing config u now welcome)
 
 pub returns-in-Ok-settle-clause-losing : goal.returns-in-Ok-settle-clause-losing
 returns-in-Ok-settle-clause-losing g c = λ config u reached shows.
@@ -64,8 +63,7 @@ returns-in-Ok-settle-clause-losing g c = λ config u reached shows.
     let settled : account_of c.settle-in-Command.new.self ≡ account_of c.args.self.now.histories = c.settle-in-Command.ensures.account in
     let now = subst (λ (a : Account). ShowsLosingBytes config crossing a lost u) (sym settled) shows in
     subst (λ (s : FrameStep). EventLeaves config u s c.command.result (ShowsLosingBytes config (crossing_of c.command.new.self) (account_of c.command.new.self.histories) (lost_in c.command.new.self.losses))) (sym c.in-Command.is)
-    (own_past config crossing (crossing_of c.command.new.self) _ (account_of c.command.new.self.histories) u lost _ now c.command.ensures.lost c.command.result c.in-Command.node (Issue c.in-Command.port c.in-Command.command) places stays
-    (c.command.ensures.event config lost now.frames stays now.shows))
+    (c.command.ensures.losing config u now)
 
 pub returns-in-Ok-settle-2-clause-losing : goal.returns-in-Ok-settle-2-clause-losing
 returns-in-Ok-settle-2-clause-losing g c = λ config u reached shows.
@@ -77,8 +75,7 @@ returns-in-Ok-settle-2-clause-losing g c = λ config u reached shows.
     let settled : account_of c.settle-in-Retry.new.self ≡ account_of c.args.self.now.histories = c.settle-in-Retry.ensures.account in
     let now = subst (λ (a : Account). ShowsLosingBytes config crossing a lost u) (sym settled) shows in
     subst (λ (s : FrameStep). EventLeaves config u s c.retry.result (ShowsLosingBytes config (crossing_of c.retry.new.self) (account_of c.retry.new.self.histories) (lost_in c.retry.new.self.losses))) (sym c.in-Retry.is)
-    (own_past config crossing (crossing_of c.retry.new.self) _ (account_of c.retry.new.self.histories) u lost _ now c.retry.ensures.lost c.retry.result c.in-Retry.node (Retry c.in-Retry.op) places stays
-    (c.retry.ensures.event config lost now.frames stays now.shows))
+    (c.retry.ensures.losing config u now)
 
 pub returns-in-SeeLoss-clause-losing : goal.returns-in-SeeLoss-clause-losing
 returns-in-SeeLoss-clause-losing g c = λ config u reached shows.
@@ -157,4 +154,4 @@ returns-in-Ok-clause-harmless g c = λ config u reached shows.
     let unseen = either_unseen config nodes w lost its now.seen (is_lost lost i) _ cut in
     let led = subst (LosingReaches config reached.0) now.is reached.1 in
     let welcome = welcome_left config w lost i p (λ packet rest begins. c.no_packet_is_refused.ensures config (losing_of config w lost) reached.0 i p packet rest its.apart led (pair_there config nodes w i p its pair) stays unseen begins) in
-    subst (λ (s : FrameStep). spares s c.take.result ≡ true) (sym c.in-Take.is) (c.take.ensures.harmless config lost w stays unseen welcome now.shows)
+    subst (λ (s : FrameStep). spares s c.take.result ≡ true) (sym c.in-Take.is) (c.take.ensures.harmless config u now welcome)

@@ -1,4 +1,4 @@
-use Rattle.std.proofs.Common.{refl, sym, subst}
+use Rattle.std.proofs.Common.{Ok, Err, refl, sym, subst}
 use Rattle.pg_world_packets.specs.PgStep.Machines.Machine.{Do}
 use Rattle.pg_world_packets.specs.PgStep.Step.{Retry}
 use Rattle.pg_node.specs.Nodes.{held_by}
@@ -8,12 +8,19 @@ use Rattle.pg_world_packets.specs.PgWorldAccount.Histories.{account_of}
 use Rattle.pg_world_packets.specs.PgNodeSends.Framed.{listed_of}
 use Rattle.pg_world.proofs.Linked.{port_place, seen_there, nodes_set, seen_kept, own_acts, node_same, sends_on}
 use Rattle.pg_world.proofs.Passing.{own_shown, own_err}
+use Rattle.pg_world.proofs.over_bytes.Past.{own_past}
+use Rattle.pg_world_packets.specs.PgWorldAccount.Losses.{lost_in}
+use Rattle.pg_world_packets.specs.declared.step.Stepped.TheVariants.{Happened}
 use Rattle.pg_world_packets.proofs.Recording.{grew_own}
 use Rattle.pg_world.proofs.bytes.ByteNodes.retry.Goals as goal
 
 pub returns-in-Ok : goal.returns-in-Ok
 returns-in-Ok g c = record {
-  event = λ config lost w stays shows.
+  losing = λ config u shown.
+      let lost = lost_in c.args.self.now.losses in
+      let w = shown.frames in
+      let stays = c.requires.lives in
+      let shows = shown.shows in
       let nodes = c.args.self.now.nodes.items in
       let rings = c.args.self.now.rings.items in
       let i = c.args.node in
@@ -21,10 +28,11 @@ returns-in-Ok g c = record {
       let node2 = c.retry.new.self in
       let at = c.index_mut-state.ensures.value in
       let l = port_place nodes i c.args.op.port c.requires.port in
-      own_shown config lost (crossing_of c.args.self.now) _ (account_of c.args.self.now.histories) _ w shows (λ packets others bytes are. c.sending_adds_packets.ensures written_of packets others bytes are)
+      own_past config (crossing_of c.args.self.now) _ (account_of c.args.self.now.histories) _ u lost _ shown refl (Ok (Happened c.of-effect.result)) i (Retry c.args.op) c.requires.port stays
+      (own_shown config lost (crossing_of c.args.self.now) _ (account_of c.args.self.now.histories) _ w shows (λ packets others bytes are. c.sending_adds_packets.ensures written_of packets others bytes are)
       i stays (Retry c.args.op) (node_of node) (node_of node2) c.in-Ok.done (seen_there nodes rings i node l at) (nodes_set nodes rings i node2) c.in-Ok.ensures.stays.names c.in-Ok.ensures.stays.ports c.in-Ok.ensures.fits c.in-Ok.ensures.small
       (own_acts nodes rings i node node2 (listed_of c.in-Ok.done.sends) l at (Retry c.args.op) c.in-Ok.ensures.sent)
-      (grew_own (account_of c.args.self.now.histories) _ i c.in-Ok.done.began c.unpack.result c.unpack.ensures c.begin.ensures.history c.begin.ensures.applied c.begin.ensures.marked) c.of-effect.result c.of-effect.ensures c.in-Ok.ensures.event;
+      (grew_own (account_of c.args.self.now.histories) _ i c.in-Ok.done.began c.unpack.result c.unpack.ensures c.begin.ensures.history c.begin.ensures.applied c.begin.ensures.marked) c.of-effect.result c.of-effect.ensures c.in-Ok.ensures.event);
   changes =
       let nodes = c.args.self.now.nodes.items in
       let rings = c.args.self.now.rings.items in
@@ -41,7 +49,11 @@ returns-in-Ok g c = record {
 
 pub returns-in-Err : goal.returns-in-Err
 returns-in-Err g c = record {
-  event = λ config lost w stays shows.
+  losing = λ config u shown.
+      let lost = lost_in c.args.self.now.losses in
+      let w = shown.frames in
+      let stays = c.requires.lives in
+      let shows = shown.shows in
       let nodes = c.args.self.now.nodes.items in
       let rings = c.args.self.now.rings.items in
       let i = c.args.node in
@@ -51,8 +63,9 @@ returns-in-Err g c = record {
       let l = port_place nodes i c.args.op.port c.requires.port in
       let seen = seen_kept node node2 c.in-Err.ensures.stays.names c.in-Err.ensures.stays.ports c.in-Err.ensures.stays.state c.in-Err.ensures.stays.answers in
       let same = node_same nodes rings i node node2 l at seen c.in-Err.ensures.kept in
-      own_err config lost (crossing_of c.args.self.now) w shows.traffic _ i (Retry c.args.op) (node_of node) (state_of (held_by node2)) (answers_of (held_by node2)) (seen_there nodes rings i node l at) c.in-Err.fault c.in-Err.ensures.event
-      (subst (λ (crossing : Crossing). ShowsBytesPast config lost crossing (account_of c.args.self.now.histories) w) (sym same) shows);
+      own_past config (crossing_of c.args.self.now) _ (account_of c.args.self.now.histories) _ u lost _ shown refl (Err c.in-Err.fault) i (Retry c.args.op) c.requires.port stays
+      (own_err config lost (crossing_of c.args.self.now) w shows.traffic _ i (Retry c.args.op) (node_of node) (state_of (held_by node2)) (answers_of (held_by node2)) (seen_there nodes rings i node l at) c.in-Err.fault c.in-Err.ensures.event
+      (subst (λ (crossing : Crossing). ShowsBytesPast config lost crossing (account_of c.args.self.now.histories) w) (sym same) shows));
   changes =
       let nodes = c.args.self.now.nodes.items in
       let rings = c.args.self.now.rings.items in

@@ -1,4 +1,4 @@
-use Rattle.std.proofs.Common.{◌≡◌, ◌∙◌, ℕ, List, false, not, refl, sym, ap, subst}
+use Rattle.std.proofs.Common.{◌≡◌, ◌∙◌, ℕ, List, Err, false, not, refl, sym, ap, subst}
 use Rattle.pg_world_packets.specs.PgStep.Machines.Machine.{Take}
 use Rattle.pg_world_packets.specs.PgNodeState.declared.state.fault.NodeFault.{NodeFault}
 use Rattle.pg_world_packets.specs.PgNodeState.declared.state.fault.NodeFault.TheVariants.{OutOfMemory}
@@ -10,11 +10,13 @@ use Rattle.pg_world_packets.specs.PgWorldAccount.Histories.{account_of}
 use Rattle.pg_world_packets.specs.PgWorldConfig.Seen.{seen_of}
 use Rattle.pg_world_packets.specs.Views.{peer_place}
 use Rattle.pg_world_packets.specs.PgStep.Config.{Config, name_at}
-use Rattle.pg_world_packets.specs.PgWorldAccount.Losses.{is_lost}
+use Rattle.pg_world_packets.specs.PgWorldAccount.Losses.{is_lost, lost_in}
+use Rattle.pg_world_packets.specs.Losing.{is_cut_off}
 use Rattle.pg_world_packets.specs.Worlds.{TimedFrameWorld}
 use Rattle.pg_world.specs.Changes.{TakeChanges}
 use Rattle.pg_world.proofs.Changed.{spared, unread_changes}
-use Rattle.pg_world_packets.proofs.Barred.{unseen_by}
+use Rattle.pg_world_packets.proofs.Barred.{unseen_by, either_stays, either_unseen, take_cut}
+use Rattle.pg_world.proofs.over_bytes.Past.{take_past}
 use Rattle.pg_world.proofs.Linked.{first_there, seen_there, links_here, links_now, node_same}
 use Rattle.pg_world.proofs.Passing.{read_ok, unread_err, unread_memory, unmarked}
 use Rattle.pg_world.proofs.Past.{reads_first, reads_lawful}
@@ -31,9 +33,19 @@ take_next-taken-requires-clause-front g c =
     ap (λ (ls : ℕ → Link). next_packet (ls (peer_place i c.args.peer))) (links_now nodes rings rings i c.next.new.self l ∙ c.in-Ok.ensures.same)
     ∙ (ap (λ k. next_packet (links_of node k)) (sym c.peer_place.ensures) ∙ read_ok (has_lost (held_by node) c.peer_place.result) (links_of node c.peer_place.result) c.in-Ok.next c.in-Ok.ensures.told)
 
+pub take_next-taken-requires-clause-lives : goal.take_next-taken-requires-clause-lives
+take_next-taken-requires-clause-lives g c =
+    let nodes = c.args.self.now.nodes.items in
+    let rings = c.args.self.now.rings.items in
+    let i = c.args.node in
+    let node = c.index_mut-taker.result.now in
+    let l = first_there nodes rings i c.args.peer c.requires.pair c.args.self.now.rows in
+    let same = node_same nodes rings i node c.next.new.self l c.index_mut-taker.ensures.value (ap seen_of c.in-Ok.ensures.state) c.in-Ok.ensures.same in
+    subst (λ (crossing : Crossing). is_cut_off crossing.nodes (lost_in c.args.self.now.losses) i c.args.peer ≡ false) (sym same) c.requires.lives
+
 pub returns-in-Ok : goal.returns-in-Ok
 returns-in-Ok g c = record {
-  event = λ config lost w stays unseen welcome shows.
+  losing = λ config u shown welcome.
       let nodes = c.args.self.now.nodes.items in
       let rings = c.args.self.now.rings.items in
       let i = c.args.node in
@@ -41,15 +53,25 @@ returns-in-Ok g c = record {
       let node2 = c.next.new.self in
       let l = first_there nodes rings i c.args.peer c.requires.pair c.args.self.now.rows in
       let same = node_same nodes rings i node node2 l c.index_mut-taker.ensures.value (ap seen_of c.in-Ok.ensures.state) c.in-Ok.ensures.same in
-      c.take_next-taken.ensures.event config lost w stays welcome (subst (λ (crossing : Crossing). ShowsBytesPast config lost crossing (account_of c.args.self.now.histories) w) (sym same) shows);
-  harmless = λ config lost w stays unseen welcome shows.
+      c.take_next-taken.ensures.losing config u (record {
+        frames = shown.frames;
+        shows = subst (λ (crossing : Crossing). ShowsBytesPast config (lost_in c.args.self.now.losses) crossing (account_of c.args.self.now.histories) shown.frames) (sym same) shown.shows;
+        seen = shown.seen;
+        is = shown.is;
+      }) welcome;
+  harmless = λ config u shown welcome.
       let nodes = c.args.self.now.nodes.items in
       let rings = c.args.self.now.rings.items in
       let i = c.args.node in
       let node = c.index_mut-taker.result.now in
       let l = first_there nodes rings i c.args.peer c.requires.pair c.args.self.now.rows in
       let same = node_same nodes rings i node c.next.new.self l c.index_mut-taker.ensures.value (ap seen_of c.in-Ok.ensures.state) c.in-Ok.ensures.same in
-      c.take_next-taken.ensures.harmless config lost w stays welcome (subst (λ (crossing : Crossing). ShowsBytesPast config lost crossing (account_of c.args.self.now.histories) w) (sym same) shows);
+      c.take_next-taken.ensures.harmless config u (record {
+        frames = shown.frames;
+        shows = subst (λ (crossing : Crossing). ShowsBytesPast config (lost_in c.args.self.now.losses) crossing (account_of c.args.self.now.histories) shown.frames) (sym same) shown.shows;
+        seen = shown.seen;
+        is = shown.is;
+      }) welcome;
   changes = λ safe.
       let nodes = c.args.self.now.nodes.items in
       let rings = c.args.self.now.rings.items in
@@ -65,7 +87,14 @@ returns-in-Ok g c = record {
 
 pub returns-in-Err : goal.returns-in-Err
 returns-in-Err g c = record {
-  event = λ config lost w stays unseen welcome shows.
+  losing = λ config u shown welcome.
+      let lost = lost_in c.args.self.now.losses in
+      let w = shown.frames in
+      let shows = shown.shows in
+      let its = shows.traffic.nodes in
+      let cut = take_cut config (crossing_of c.args.self.now).nodes w lost its shown.seen c.args.node c.args.peer c.requires.pair c.requires.lives in
+      let stays = either_stays config (crossing_of c.args.self.now).nodes w lost its shown.seen (is_lost lost c.args.node) _ cut in
+      let unseen = either_unseen config (crossing_of c.args.self.now).nodes w lost its shown.seen (is_lost lost c.args.node) _ cut in
       let nodes = c.args.self.now.nodes.items in
       let rings = c.args.self.now.rings.items in
       let i = c.args.node in
@@ -76,8 +105,17 @@ returns-in-Err g c = record {
       let is = memory config lost w stays unseen shows in
       let unchanged = c.in-Err.ensures.marked ∙ (ap (λ (f : NodeFault). at_link c.peer_place.result (λ l. marked l f) (links_of node)) is ∙ unmarked (links_of node) c.peer_place.result OutOfMemory refl) in
       let same = node_same nodes rings i node node2 l c.index_mut-taker.ensures.value (ap seen_of c.in-Err.ensures.state) unchanged in
-      unread_err config w (Take i c.args.peer) fault _ is (subst (λ (crossing : Crossing). ShowsBytesPast config lost crossing (account_of c.args.self.now.histories) w) (sym same) shows);
-  harmless = λ config lost w stays unseen welcome shows. ap (λ (f : NodeFault). not (damages f)) (memory config lost w stays unseen shows);
+      take_past config (crossing_of c.args.self.now) _ (account_of c.args.self.now.histories) _ u lost _ shown refl (Err fault) i c.args.peer c.requires.pair c.requires.lives
+      (unread_err config w (Take i c.args.peer) fault _ is (subst (λ (crossing : Crossing). ShowsBytesPast config lost crossing (account_of c.args.self.now.histories) w) (sym same) shows));
+  harmless = λ config u shown welcome.
+      let lost = lost_in c.args.self.now.losses in
+      let w = shown.frames in
+      let shows = shown.shows in
+      let its = shows.traffic.nodes in
+      let cut = take_cut config (crossing_of c.args.self.now).nodes w lost its shown.seen c.args.node c.args.peer c.requires.pair c.requires.lives in
+      let stays = either_stays config (crossing_of c.args.self.now).nodes w lost its shown.seen (is_lost lost c.args.node) _ cut in
+      let unseen = either_unseen config (crossing_of c.args.self.now).nodes w lost its shown.seen (is_lost lost c.args.node) _ cut in
+      ap (λ (f : NodeFault). not (damages f)) (memory config lost w stays unseen shows);
   changes = λ safe.
       let nodes = c.args.self.now.nodes.items in
       let rings = c.args.self.now.rings.items in

@@ -1,16 +1,19 @@
-use Rattle.std.proofs.Common.{◌<◌, ◌∙◌, ◌++◌, length, sym, ap, arith, subst}
-use Rattle.std.specs.Prelude.{[], slice_set}
+use Rattle.std.proofs.Common.{◌<◌, ◌∙◌, ◌++◌, length, Ok, Err, sym, ap, arith, subst}
+use Rattle.std.specs.Prelude.{slice_set}
 use Rattle.std.proofs.lemmas.List.{length-map}
 use Rattle.pg_node_state.specs.States.{state_of, answers_of}
 use Rattle.pg_node_state.specs.PgStep.Step.{Issue}
 use Rattle.pg_world_config.specs.Seen.{seen_of}
 use Rattle.pg_world_packets.specs.Views.{ways_of, packets_to, traffic_in, HaveWayRoom, IsWhole}
-use Rattle.pg_world_packets.proofs.Barred.{port_is}
+use Rattle.pg_world_packets.proofs.Barred.{own_in}
 use Rattle.pg_world_packets.proofs.Ported.{port_there, port_place}
 use Rattle.pg_node_state.specs.PgStep.Machines.Machine.{Do}
 use Rattle.std.specs.Prelude.{None, refl}
 use Rattle.pg_world_packets.specs.Effects.{effect_by}
-use Rattle.pg_world_packets.specs.Worlds.{traffic_of, view_of}
+use Rattle.pg_world_packets.specs.Losing.{lost_of}
+use Rattle.pg_world_packets.specs.Worlds.{view_of}
+use Rattle.pg_world_packets.specs.declared.step.Stepped.TheVariants.{Happened}
+use Rattle.pg_node_state.specs.declared.state.fault.NodeFault.TheVariants.{OutOfMemory}
 use Rattle.pg_world_packets.proofs.Recording.{shows_all, view_is, grew_own}
 use Rattle.pg_world_packets.proofs.Queued.{own_refused, own_happened}
 use Rattle.pg_world_packets.proofs.Viewing.{is_set, seen_same, view_room, view_refused, seen_here, fit_ways, sent_nodes}
@@ -27,9 +30,6 @@ invariant_of-self g c =
     let outs1 = slice_set outs c.args.node c.make_room.new.self in
     let room = view_room nodes outs c.args.node c.index_mut-outgoing.result.now c.make_room.new.self inside c.index_mut-outgoing.ensures.value c.make_room.ensures.same in
     record { whole = subst IsWhole (sym room) whole }
-
-pub returns-in-Err-clause-event : goal.returns-in-Err-clause-event
-returns-in-Err-clause-event g c = λ config w shows. sym (port_is config (traffic_of c.args.self.now).nodes w [] shows.traffic.nodes c.args.node c.args.port) ∙ c.requires.port
 
 pub returns-in-Err-clause-err : goal.returns-in-Err-clause-err
 returns-in-Err-clause-err g c =
@@ -130,8 +130,27 @@ invariant_of-self-in-Err-command g c =
     let same = view_refused nodes outs c.args.node c.index_mut-outgoing.result.now c.make_room.new.self state after inside c.index_mut-outgoing.ensures.value c.make_room.ensures.same within here seen in
     record { whole = subst IsWhole (sym same) whole }
 
-pub returns-in-Ok-command-clause-event : goal.returns-in-Ok-command-clause-event
-returns-in-Ok-command-clause-event g c =
+pub returns-in-Err-command-clause-err : goal.returns-in-Err-command-clause-err
+returns-in-Err-command-clause-err g c =
+    let nodes = c.args.self.now.nodes.items in
+    let outs = c.args.self.now.outgoing.items in
+    let whole = c.args.self.now.whole in
+    let within = port_there nodes c.args.node c.args.port c.requires.port in
+    let inside : c.args.node < length outs = omega (arith, within, whole.rows, length-map outs ways_of, length-map nodes seen_of) in
+    let state = c.index_mut-state.result.now in
+    let here = c.index_mut-state.ensures.value in
+    let after = c.command.new.self in
+    let seen = seen_same nodes outs state after c.in-Err-command.ensures.stays.names c.in-Err-command.ensures.stays.ports c.in-Err-command.ensures.stays.state c.in-Err-command.ensures.stays.answers in
+    let same = view_refused nodes outs c.args.node c.index_mut-outgoing.result.now c.make_room.new.self state after inside c.index_mut-outgoing.ensures.value c.make_room.ensures.same within here seen in
+    view_is _ _ same refl
+
+pub returns-in-Err-clause-losing : goal.returns-in-Err-clause-losing
+returns-in-Err-clause-losing g c = λ config u shown.
+    own_in config (view_of c.args.self.now) _ u (lost_of c.args.self.now) _ shown refl (Err OutOfMemory) (λ e. absurd (cc)) (returns-in-Err-clause-err g c) c.args.node (Issue c.args.port c.args.command.now) c.requires.port c.requires.lives
+    tt
+
+pub returns-in-Ok-command-clause-losing : goal.returns-in-Ok-command-clause-losing
+returns-in-Ok-command-clause-losing g c =
     let nodes = c.args.self.now.nodes.items in
     let outs = c.args.self.now.outgoing.items in
     let whole = c.args.self.now.whole in
@@ -146,17 +165,20 @@ returns-in-Ok-command-clause-event g c =
     let there = c.index_mut-outgoing-in-Ok-command.ensures.value in
     let sends = c.in-Ok-command.done.sends.items in
     let whole1 = whole_as nodes outs outs1 room whole in
-    λ config w shows.
-    shows_all config (view_of c.args.self.now) _ w (Do c.args.node (Issue c.args.port c.args.command.now)) c.args.node None c.in-Ok-command.done.began (effect_by c.in-Ok-command.done) c.of-effect.result c.of-effect.ensures shows
+    λ config u shown.
+    let w = shown.frames in
+    let shows = shown.shows in
+    own_in config (view_of c.args.self.now) _ u (lost_of c.args.self.now) _ shown refl (Ok (Happened c.of-effect.result)) (λ e. absurd (cc)) tt c.args.node (Issue c.args.port c.args.command.now) c.requires.port c.requires.lives
+    (shows_all config (view_of c.args.self.now) _ w (Do c.args.node (Issue c.args.port c.args.command.now)) c.args.node None c.in-Ok-command.done.began (effect_by c.in-Ok-command.done) c.of-effect.result c.of-effect.ensures shows
     (grew_own (view_of c.args.self.now).account _ c.args.node c.in-Ok-command.done.began c.send_all.result c.send_all.ensures.began c.begin.ensures.history c.begin.ensures.applied c.begin.ensures.marked)
     (own_happened config (traffic_in nodes outs) w c.args.node (Issue c.args.port c.args.command.now) (seen_of state) shows.traffic (seen_here nodes outs c.args.node whole within state here)
     (sent_view nodes outs1 c.args.node whole1 within state here after out c.send_all.new.self sends c.in-Ok-command.ensures.stays.names there c.send_all.ensures.len c.send_all.ensures.sent) (seen_of after) c.in-Ok-command.done (sent_nodes nodes outs1 c.args.node whole1 within state here after out c.send_all.new.self sends c.in-Ok-command.ensures.stays.names there c.send_all.ensures.len c.send_all.ensures.sent) c.in-Ok-command.ensures.stays.names c.in-Ok-command.ensures.stays.ports c.in-Ok-command.ensures.fits
     (λ k. sent_there nodes outs1 c.args.node whole1 within state here after out c.send_all.new.self sends c.in-Ok-command.ensures.stays.names there c.send_all.ensures.len c.send_all.ensures.sent k ∙ ap (λ xs. xs ++ packets_to sends k) (way_as nodes outs outs1 room c.args.node k))
     (λ x n k. sent_others nodes outs1 c.args.node whole1 within state here after out c.send_all.new.self sends c.in-Ok-command.ensures.stays.names there c.send_all.ensures.len c.send_all.ensures.sent x n k ∙ way_as nodes outs outs1 room x k)
-    c.in-Ok-command.ensures.event)
+    c.in-Ok-command.ensures.event))
 
-pub returns-in-Err-command-clause-event : goal.returns-in-Err-command-clause-event
-returns-in-Err-command-clause-event g c =
+pub returns-in-Err-command-clause-losing : goal.returns-in-Err-command-clause-losing
+returns-in-Err-command-clause-losing g c =
     let nodes = c.args.self.now.nodes.items in
     let outs = c.args.self.now.outgoing.items in
     let whole = c.args.self.now.whole in
@@ -164,20 +186,9 @@ returns-in-Err-command-clause-event g c =
     let inside : c.args.node < length outs = omega (arith, within, whole.rows, length-map outs ways_of, length-map nodes seen_of) in
     let state = c.index_mut-state.result.now in
     let here = c.index_mut-state.ensures.value in
-    λ config w shows.
-    own_refused config (traffic_in nodes outs) w c.args.node (Issue c.args.port c.args.command.now) (seen_of state) shows.traffic (seen_here nodes outs c.args.node whole within state here)
-    c.in-Err-command.fault (state_of c.command.new.self) (answers_of state) (answers_of c.command.new.self) _ c.in-Err-command.ensures.event
-
-pub returns-in-Err-command-clause-err : goal.returns-in-Err-command-clause-err
-returns-in-Err-command-clause-err g c =
-    let nodes = c.args.self.now.nodes.items in
-    let outs = c.args.self.now.outgoing.items in
-    let whole = c.args.self.now.whole in
-    let within = port_there nodes c.args.node c.args.port c.requires.port in
-    let inside : c.args.node < length outs = omega (arith, within, whole.rows, length-map outs ways_of, length-map nodes seen_of) in
-    let state = c.index_mut-state.result.now in
-    let here = c.index_mut-state.ensures.value in
-    let after = c.command.new.self in
-    let seen = seen_same nodes outs state after c.in-Err-command.ensures.stays.names c.in-Err-command.ensures.stays.ports c.in-Err-command.ensures.stays.state c.in-Err-command.ensures.stays.answers in
-    let same = view_refused nodes outs c.args.node c.index_mut-outgoing.result.now c.make_room.new.self state after inside c.index_mut-outgoing.ensures.value c.make_room.ensures.same within here seen in
-    view_is _ _ same refl
+    λ config u shown.
+    let w = shown.frames in
+    let shows = shown.shows in
+    own_in config (view_of c.args.self.now) _ u (lost_of c.args.self.now) _ shown refl (Err c.in-Err-command.fault) (λ e. absurd (cc)) (returns-in-Err-command-clause-err g c) c.args.node (Issue c.args.port c.args.command.now) c.requires.port c.requires.lives
+    (own_refused config (traffic_in nodes outs) w c.args.node (Issue c.args.port c.args.command.now) (seen_of state) shows.traffic (seen_here nodes outs c.args.node whole within state here)
+    c.in-Err-command.fault (state_of c.command.new.self) (answers_of state) (answers_of c.command.new.self) _ c.in-Err-command.ensures.event)

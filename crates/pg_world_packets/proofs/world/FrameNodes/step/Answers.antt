@@ -4,7 +4,7 @@ use Rattle.pg_world_packets.specs.declared.step.FrameStep.{FrameStep}
 use Rattle.pg_world_packets.specs.Losing.{lost_of, told_of, told_loss, is_barred, is_told_first, ShowsLosing, LosingComesTo}
 use Rattle.pg_world_packets.specs.Views.{View}
 use Rattle.pg_world_packets.specs.Worlds.{traffic_of, view_of, has_places}
-use Rattle.pg_world_packets.proofs.Barred.{take_in, own_in, take_late_in, own_late_in, unplaced_in, barred_in}
+use Rattle.pg_world_packets.proofs.Barred.{take_late_in, own_late_in, unplaced_in, barred_in}
 use Rattle.pg_world_packets.proofs.Recording.{view_is}
 use Rattle.pg_world_packets.proofs.world.FrameNodes.step.Goals as goal
 
@@ -20,15 +20,11 @@ returns-then-is_barred-clause-losing g c = λ config u shows.
 
 pub returns-in-Ok-clause-losing : goal.returns-in-Ok-clause-losing
 returns-in-Ok-clause-losing g c = λ config u shows.
-    let places = sym c.has_places.ensures ∙ c.if-not-has_places.false in
-    let lives = sym c.is_barred.ensures ∙ c.if-is_barred.false in
-    let nodes = (traffic_of c.args.self.now).nodes in
     let lost = lost_of c.args.self.now in
     let settled = view_is _ _ refl c.settle.ensures.account in
     let now = subst (λ (v : View). ShowsLosing config v lost u) (sym settled) shows in
     subst (λ (s : FrameStep). LosingComesTo config u (told_of config u s) c.take.result (ShowsLosing config (view_of c.take.new.self) (lost_of c.take.new.self))) (sym c.in-Take.is)
-    (take_in config _ (view_of c.take.new.self) u lost (lost_of c.take.new.self) now c.take.ensures.lost c.take.result c.take.ensures.nothing c.take.ensures.err _ _
-    (subst (λ (s : FrameStep). has_places nodes s ≡ true) c.in-Take.is places) (subst (λ (s : FrameStep). is_barred nodes lost s ≡ false) c.in-Take.is lives) (c.take.ensures.event config now.frames now.shows))
+    (c.take.ensures.losing config u now)
 
 pub returns-in-Err-clause-losing : goal.returns-in-Err-clause-losing
 returns-in-Err-clause-losing g c = λ config u shows.
@@ -45,15 +41,11 @@ returns-in-Err-clause-losing g c = λ config u shows.
 
 pub returns-in-Ok-settle-clause-losing : goal.returns-in-Ok-settle-clause-losing
 returns-in-Ok-settle-clause-losing g c = λ config u shows.
-    let places = sym c.has_places.ensures ∙ c.if-not-has_places.false in
-    let lives = sym c.is_barred.ensures ∙ c.if-is_barred.false in
-    let nodes = (traffic_of c.args.self.now).nodes in
     let lost = lost_of c.args.self.now in
     let settled = view_is _ _ refl c.settle-in-Command.ensures.account in
     let now = subst (λ (v : View). ShowsLosing config v lost u) (sym settled) shows in
     subst (λ (s : FrameStep). LosingComesTo config u (told_of config u s) c.command.result (ShowsLosing config (view_of c.command.new.self) (lost_of c.command.new.self))) (sym c.in-Command.is)
-    (own_in config _ (view_of c.command.new.self) u lost (lost_of c.command.new.self) now c.command.ensures.lost c.command.result (λ e. absurd (c.command.ensures.happens e)) c.command.ensures.err c.in-Command.node (Issue c.in-Command.port c.in-Command.command)
-    (subst (λ (s : FrameStep). has_places nodes s ≡ true) c.in-Command.is places) (subst (λ (s : FrameStep). is_barred nodes lost s ≡ false) c.in-Command.is lives) (c.command.ensures.event config now.frames now.shows))
+    (c.command.ensures.losing config u now)
 
 pub returns-in-Err-settle-clause-losing : goal.returns-in-Err-settle-clause-losing
 returns-in-Err-settle-clause-losing g c = λ config u shows.
@@ -70,15 +62,11 @@ returns-in-Err-settle-clause-losing g c = λ config u shows.
 
 pub returns-in-Ok-settle-2-clause-losing : goal.returns-in-Ok-settle-2-clause-losing
 returns-in-Ok-settle-2-clause-losing g c = λ config u shows.
-    let places = sym c.has_places.ensures ∙ c.if-not-has_places.false in
-    let lives = sym c.is_barred.ensures ∙ c.if-is_barred.false in
-    let nodes = (traffic_of c.args.self.now).nodes in
     let lost = lost_of c.args.self.now in
     let settled = view_is _ _ refl c.settle-in-Retry.ensures.account in
     let now = subst (λ (v : View). ShowsLosing config v lost u) (sym settled) shows in
     subst (λ (s : FrameStep). LosingComesTo config u (told_of config u s) c.retry.result (ShowsLosing config (view_of c.retry.new.self) (lost_of c.retry.new.self))) (sym c.in-Retry.is)
-    (own_in config _ (view_of c.retry.new.self) u lost (lost_of c.retry.new.self) now c.retry.ensures.lost c.retry.result (λ e. absurd (c.retry.ensures.happens e)) c.retry.ensures.err c.in-Retry.node (Retry c.in-Retry.op)
-    (subst (λ (s : FrameStep). has_places nodes s ≡ true) c.in-Retry.is places) (subst (λ (s : FrameStep). is_barred nodes lost s ≡ false) c.in-Retry.is lives) (c.retry.ensures.event config now.frames now.shows))
+    (c.retry.ensures.losing config u now)
 
 pub returns-in-Err-settle-2-clause-losing : goal.returns-in-Err-settle-2-clause-losing
 returns-in-Err-settle-2-clause-losing g c = λ config u shows.
