@@ -5,9 +5,9 @@ ghost use Rattle.pg_talk.specs.declared.conversation.Conversation.{Conversation}
 ghost use Rattle.pg_talk.specs.declared.conversation.Outcome.{Outcome};
 ghost use Rattle.pg_cluster.specs.declared.fault.StartFault.{StartFault};
 
-use crate::progress::Progress;
 use pg_cluster::{StartFault, WorldFault};
 use pg_program::{LogFile, System};
+use pg_progress::Progress;
 use pg_streams::{AnyReader, Sink};
 use pg_talk::{
     Conversation, Onlooker, Outcome, Served, Service, ServiceFault, run_threads, serve_cluster,

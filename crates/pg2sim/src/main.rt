@@ -2,16 +2,13 @@
 #![tactic(auto)]
 
 mod host;
-mod progress;
-#[cfg(test)]
-mod tests;
 
 use host::{HostLog, HostSystem, Shown};
 use pg_program::{refuse, refuse_given, run_words};
 use pg_program_faults::{Aside, Heard, Kept, Told, aside_of, explain};
+use pg_progress::Progress;
 use pg_streams::{AnyReader, AnyWriter};
 use pg_term::faults::{OUT_OF_MEMORY, WRITE_FAULT};
-use progress::Progress;
 use std::io::{BufWriter, IsTerminal, Write};
 use std::process::ExitCode;
 use std::thread::Threads;

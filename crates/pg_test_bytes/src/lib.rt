@@ -1,4 +1,4 @@
-//! What is only run of bytes on their way: frames, rings, two of them between real threads, and diagrams that are written.
+//! What is only run of bytes on their way: frames, rings, two of them between real threads, diagrams that are written, and lines on a terminal.
 #![tactic(auto)]
 
 #[cfg(test)]
@@ -7,6 +7,8 @@ mod frames;
 mod moves;
 #[cfg(test)]
 mod pictures;
+#[cfg(test)]
+mod progress;
 #[cfg(test)]
 mod rings;
 #[cfg(test)]

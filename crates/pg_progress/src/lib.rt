@@ -1,16 +1,13 @@
-//! A line on a terminal that shows how far some work is.
+//! A line on a terminal that shows how far some work is: `Progress`.
+#![tactic(auto)]
 
 ghost use Rattle.std.specs.Prelude.{◌≡◌, ◌≤◌, ◌-◌, ◌/◌, ◌↔◌, ⊤, IsTrue, IsFalse, MatchOption, None, OnOk};
 ghost use Rattle.std.specs.Io.KnownBytes.{Appends};
 ghost use Rattle.std.specs.Time.{instant_nanos};
-ghost use Rattle.pg2sim.specs.Lines.{progress_line, wiped_line};
-
-use std::io::{IsTerminal, Write};
-
-#[cfg(test)]
-mod tests;
+ghost use Rattle.pg_progress.specs.Lines.{progress_line, wiped_line};
 
 use std::io;
+use std::io::{IsTerminal, Write};
 use std::time::{Clock, Instant};
 
 /// How many looks go by at most before the clock is read again.

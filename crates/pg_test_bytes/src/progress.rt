@@ -1,6 +1,6 @@
 //! When the line is written, and that it is wiped.
 
-use crate::progress::Progress;
+use pg_progress::Progress;
 use std::alloc::Global;
 use std::cell::Cell;
 use std::io;
