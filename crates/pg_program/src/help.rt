@@ -57,7 +57,7 @@ one space. A NODE is an atom, as a or 'my node'. Terms: -7, a, 'A b', {t,1}, [1,
 
 A trace begins its lines with %, behind it the line of the script, the node, its clock, what it does, with
 whom, and the packet. Where a step is refused, `line L refused N` stands behind what its line printed, and the run goes on.
-crates/pg_cookbook/README.md leads to pages that show each line with an example.";
+examples/scripts/README.md leads to pages that show each line with an example.";
 
 /// What `--trace` does.
 pub(crate) const TRACE_HELP: &str =

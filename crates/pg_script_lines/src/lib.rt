@@ -1,7 +1,7 @@
 //! Lines of scripts: their words, and what each of them says.
 //!
 //! `read_line(alloc, "create a g")?` reads a line. Begin with `src/line.rt`, what a line is, then `specs/Forms.antt` beside
-//! `data/SCRIPTS.md` of pg_cookbook, which has each line with an example.
+//! `examples/scripts/SCRIPTS.md`, which has each line with an example.
 #![tactic(auto)]
 
 mod adding;

@@ -1,4 +1,4 @@
-//! Examples as scripts, and what each node has answered then, node by node. Whole examples stand in pg_cookbook; these are also made
+//! Examples as scripts, and what each node has answered then, node by node. Whole examples stand in `examples/scripts`; these are also made
 //! in prefixes, and with refused memory.
 
 /// A script, and the answers.
