@@ -47,14 +47,24 @@ fn fault_of<T: GroupsByPlace + Drop>(alloc: Global, own: Atom, table: T) -> Opti
 
 // The same, where the table has a group with a name of so many bytes.
 fn begin(alloc: Global, bytes: usize) -> Result<Option<u8>, AllocError> {
-    let own = match Atom::new(alloc, "a") {
-        Ok(own) => own,
-        Err(_) => return Err(AllocError),
+    let name = match Vec::from_elem(alloc, 0, bytes) {
+        Ok(name) => name,
+        Err(AllocError) => return Err(AllocError),
     };
-    let name = Term::Binary(Items::from_vec(Vec::from_elem(alloc, 0, bytes)?));
-    let create = Update::Create(name);
-    let table = updated(alloc, IndexTable::new(alloc), &create)?;
-    Ok(fault_of(alloc, own, table))
+    let Ok(own) = Atom::new(alloc, "a") else {
+        drop(name);
+        return Err(AllocError);
+    };
+    let create = Update::Create(Term::Binary(Items::from_vec(name)));
+    let told = match updated(alloc, IndexTable::new(alloc), &create) {
+        Ok(table) => Ok(fault_of(alloc, own, table)),
+        Err(AllocError) => {
+            drop(own);
+            Err(AllocError)
+        }
+    };
+    drop(create);
+    told
 }
 
 #[test]

@@ -4,11 +4,7 @@
 #[cfg(test)]
 mod bodies;
 #[cfg(test)]
-mod brought;
-#[cfg(test)]
 mod configs;
-#[cfg(test)]
-mod heard;
 #[cfg(test)]
 mod logged;
 #[cfg(test)]

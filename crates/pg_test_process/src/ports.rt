@@ -5,22 +5,35 @@ use pg_node_process::{Courtesy, Desk, MAX_WAITING, Seen, Taken};
 use pg_step::Command;
 use std::alloc::{AllocError, Global};
 
-/// Whether of so many changes as wait and a few more the first are taken in, and handed over in order.
-fn go_in_turn(alloc: Global) -> Result<bool, AllocError> {
-    let mut desk = Desk::new(alloc);
+/// Whether of so many changes as wait and a few more the first are taken in.
+fn take_in_all(desk: &mut Desk) -> Result<bool, AllocError> {
     let mut is_so = desk.count() == 1;
     for place in 0..MAX_WAITING + 3 {
-        let taken = desk.take_in(Command::Make)?;
-        is_so = is_so && (taken == Taken::Waits) == (place < MAX_WAITING);
+        match desk.take_in(Command::Make) {
+            Ok(taken) => is_so = is_so && (taken == Taken::Waits) == (place < MAX_WAITING),
+            Err(AllocError) => return Err(AllocError),
+        }
     }
+    Ok(is_so && desk.count() == MAX_WAITING as u64 + 5)
+}
+
+/// Whether those that wait are handed over in order, one once the one before it is answered.
+fn hand_over_all(desk: &mut Desk) -> bool {
+    let mut is_so = true;
     for place in 0..MAX_WAITING {
         is_so = is_so && desk.next() && !desk.next();
         is_so = is_so && desk.answered() == Some(place as u64 + 2);
     }
-    is_so = is_so && !desk.next() && desk.answered().is_none();
-    let number = desk.count();
+    is_so && !desk.next() && desk.answered().is_none()
+}
+
+/// Whether changes are taken in and handed over so.
+fn go_in_turn(alloc: Global) -> Result<bool, AllocError> {
+    let mut desk = Desk::new(alloc);
+    let is_full = take_in_all(&mut desk);
+    let is_so = hand_over_all(&mut desk);
     drop(desk);
-    Ok(is_so && number == MAX_WAITING as u64 + 5)
+    Ok(is_full? && is_so)
 }
 
 #[test]

@@ -1,4 +1,4 @@
-//! What a process makes of a whole input, and how it ends.
+//! What a process makes of a whole input, what it logs, and how it ends.
 
 use crate::passed::{Sheet, blank_sheet};
 use crate::sights::holds_at;
@@ -32,30 +32,101 @@ const ROWS: &[(&[u8], &[u8], u8)] = &[
     (b"\0\0\0\x01\x10", b"", 15),
     (b"\0\0\0\0", b"", 15),
     (b"\0\0\0\x02\x83j", b"", 15),
-    // No list of groups; a group twice.
-    (b"\0\0\0\x04\x14\x83a\x01", b"", 15),
-    (
-        b"\0\0\0\x14\x14\x83l\0\0\0\x02h\x02w\x01gjh\x02w\x01gjj",
-        b"",
-        15,
-    ),
     // A group with the process that was made, asked for its members: {a, 1, 1, [<a.1.0>]}
     (
         b"\0\0\0\x23\x14\x83l\0\0\0\x01h\x02w\x01gl\0\0\0\x01Xw\x01a\0\0\0\x01\0\0\0\0\0\0\0\x01jj\0\0\0\x16\x83h\x03w\x01aa\x01h\x02w\x07membersw\x01g",
         b"\0\0\0\x01\x16\0\0\0\x20\x83h\x04w\x01aa\x01a\x01l\0\0\0\x01Xw\x01a\0\0\0\x01\0\0\0\0\0\0\0\x01j",
         0,
     ),
-    // With one that was not made.
-    (
-        b"\0\0\0\x23\x14\x83l\0\0\0\x01h\x02w\x01gl\0\0\0\x01Xw\x01a\0\0\0\x02\0\0\0\0\0\0\0\x01jj",
-        b"",
-        24,
-    ),
     // The first body counts: {error, {bad_request, 2}}
     (
         b"\0\0\0\x03\x14\x83j\0\0\0\x03\x14\x83j",
         b"\0\0\0\x01\x16\0\0\0\x1b\x83h\x02w\x05errorh\x02w\x0bbad_requesta\x02",
         0,
+    ),
+];
+
+/// The groups that the first body brings, and by which fault the process ends: none, another body than such a list, and processes that are not
+/// its own.
+const BROUGHT: &[(&[u8], u8)] = &[
+    (b"\x83j", 0),
+    // [{g, []}, {h, []}]
+    (b"\x83l\0\0\0\x02h\x02w\x01gjh\x02w\x01hjj", 0),
+    // [{g, [<a.1.0>, <a.1.0>]}]
+    (
+        b"\x83l\0\0\0\x01h\x02w\x01gl\0\0\0\x02Xw\x01a\0\0\0\x01\0\0\0\0\0\0\0\x01Xw\x01a\0\0\0\x01\0\0\0\0\0\0\0\x01jj",
+        0,
+    ),
+    (b"", 15),
+    (b"\x83", 15),
+    (b"\x83a\x01", 15),
+    (b"\x83w\x01g", 15),
+    (b"\x83l\0\0\0\x01w\x01gj", 15),
+    (b"\x83l\0\0\0\x01h\x02w\x01gw\x01gj", 15),
+    // [{g, []}, {g, []}]
+    (b"\x83l\0\0\0\x02h\x02w\x01gjh\x02w\x01gjj", 15),
+    // The process 2 of node a, and the process 1 of node b.
+    (
+        b"\x83l\0\0\0\x01h\x02w\x01gl\0\0\0\x01Xw\x01a\0\0\0\x02\0\0\0\0\0\0\0\x01jj",
+        24,
+    ),
+    (
+        b"\x83l\0\0\0\x01h\x02w\x01gl\0\0\0\x01Xw\x01b\0\0\0\x01\0\0\0\0\0\0\0\x01jj",
+        24,
+    ),
+];
+
+/// Bodies of a process with two ports, what goes out of each, and what is logged behind it.
+const HEARD: &[(&[u8], &[u8], &[u8])] = &[
+    // No groups: the node is formed.
+    (b"\x14\x83j", b"\0\0\0\x01\x16", b""),
+    // {a, 1, {create, g}}: {a, 1, 1, ok}
+    (
+        b"\x83h\x03w\x01aa\x01h\x02w\x06createw\x01g",
+        b"\0\0\0\x0e\x83h\x04w\x01aa\x01a\x01w\x02ok",
+        b"\xff\x02\0\x01",
+    ),
+    // {a, 1, {members, g}}: {a, 1, 2, []}
+    (
+        b"\x83h\x03w\x01aa\x01h\x02w\x07membersw\x01g",
+        b"\0\0\0\x0b\x83h\x04w\x01aa\x01a\x02j",
+        b"",
+    ),
+    // {a, 2, make}: {a, 2, 1, <a.2.0>}
+    (
+        b"\x83h\x03w\x01aa\x02w\x04make",
+        b"\0\0\0\x1a\x83h\x04w\x01aa\x02a\x01Xw\x01a\0\0\0\x02\0\0\0\0\0\0\0\x01",
+        b"\xff\x02\0\x02",
+    ),
+    // {a, 1, {join, g, <a.2.0>}}: {a, 1, 3, ok}
+    (
+        b"\x83h\x03w\x01aa\x01h\x03w\x04joinw\x01gXw\x01a\0\0\0\x02\0\0\0\0\0\0\0\x01",
+        b"\0\0\0\x0e\x83h\x04w\x01aa\x01a\x03w\x02ok",
+        b"\xff\x02\0\x01",
+    ),
+    // {a, 1, {members, g}}: {a, 1, 4, [<a.2.0>]}
+    (
+        b"\x83h\x03w\x01aa\x01h\x02w\x07membersw\x01g",
+        b"\0\0\0\x20\x83h\x04w\x01aa\x01a\x04l\0\0\0\x01Xw\x01a\0\0\0\x02\0\0\0\0\0\0\0\x01j",
+        b"",
+    ),
+    // A body that asks for nothing: {error, {bad_request, 7}}
+    (
+        b"\x12",
+        b"\0\0\0\x1b\x83h\x02w\x05errorh\x02w\x0bbad_requesta\x07",
+        b"",
+    ),
+    // {a, 2, {finish, <a.9.0>}}: {a, 2, 2, {refused, 26}}
+    (
+        b"\x83h\x03w\x01aa\x02h\x02w\x06finishXw\x01a\0\0\0\x09\0\0\0\0\0\0\0\x01",
+        b"\0\0\0\x17\x83h\x04w\x01aa\x02a\x02h\x02w\x07refuseda\x1a",
+        b"\xff\x02\0\x02",
+    ),
+    // The groups a second time: {error, {bad_request, 9}}
+    (
+        b"\x14\x83j",
+        b"\0\0\0\x1b\x83h\x02w\x05errorh\x02w\x0bbad_requesta\x09",
+        b"",
     ),
 ];
 
@@ -98,37 +169,52 @@ fn config(alloc: Global, ports: u16, mirrored: bool) -> Result<ProcessConfig, Al
     })
 }
 
-/// What goes out of an input, and by which fault it ends.
+/// What goes out of an input, what is logged, and by which fault it ends.
 fn served(
     alloc: Global,
     ports: u16,
     mirrored: bool,
     input: &[u8],
-) -> Result<(Vec<u8>, u8), AllocError> {
+) -> Result<(Vec<u8>, Vec<u8>, u8), AllocError> {
     let config = config(alloc, ports, mirrored)?;
     let mut reader = input;
     let mut out = Vec::new(alloc);
     let mut log = Vec::new(alloc);
     let ended = serve(alloc, config, VERSION, &mut reader, &mut out, &mut log);
-    drop(log);
-    match ended {
-        Ok(()) => Ok((out, 0)),
-        Err(fault) => Ok((out, fault.number())),
-    }
+    let number = match ended {
+        Ok(()) => 0,
+        Err(fault) => fault.number(),
+    };
+    Ok((out, log, number))
 }
 
-/// Whether just this goes out behind the version, and the process ends by that fault.
-fn is_served(alloc: Global, mirrored: bool, input: &[u8], said: &[u8], fault: u8) -> bool {
-    match served(alloc, 1, mirrored, input) {
-        Ok((out, number)) => {
+/// Whether just this goes out behind the version, this is logged last, and the process ends by that fault.
+fn is_heard(
+    alloc: Global,
+    ports: u16,
+    mirrored: bool,
+    input: &[u8],
+    said: &[u8],
+    logged: &[u8],
+    fault: u8,
+) -> bool {
+    match served(alloc, ports, mirrored, input) {
+        Ok((out, log, number)) => {
             let is_so = number == fault
                 && out.as_slice().starts_with(OPENING)
-                && &out.as_slice()[OPENING.len().min(out.len())..] == said;
+                && &out.as_slice()[OPENING.len().min(out.len())..] == said
+                && log.as_slice().ends_with(logged);
             drop(out);
+            drop(log);
             is_so
         }
         Err(AllocError) => false,
     }
+}
+
+/// The same of a process with one port, whatever is logged.
+fn is_served(alloc: Global, mirrored: bool, input: &[u8], said: &[u8], fault: u8) -> bool {
+    is_heard(alloc, 1, mirrored, input, said, b"", fault)
 }
 
 #[test]
@@ -150,12 +236,94 @@ fn a_table_is_mirrored(rt: HostRuntime) {
     );
 }
 
+/// A frame with this body behind some bytes: its length, the number that says what it is, if there is one, and the rest.
+fn put_body(bytes: &mut Vec<u8>, number: &[u8], rest: &[u8]) -> Result<(), AllocError> {
+    let len = number.len().wrapping_add(rest.len());
+    let len = u32::try_from(len).unwrap_or(u32::MAX);
+    bytes.extend_from_slice(&len.to_be_bytes())?;
+    bytes.extend_from_slice(number)?;
+    bytes.extend_from_slice(rest)
+}
+
+/// Whether a process that these groups are brought to ends by that fault, and is formed else.
+fn is_brought(alloc: Global, groups: &[u8], fault: u8) -> Result<bool, AllocError> {
+    let mut input = Vec::new(alloc);
+    put_body(&mut input, b"\x14", groups)?;
+    let said: &[u8] = if fault == 0 { b"\0\0\0\x01\x16" } else { b"" };
+    let is_so = is_served(alloc, false, input.as_slice(), said, fault);
+    drop(input);
+    Ok(is_so)
+}
+
+/// A name that is a binary of 1,025 bytes, with no members, behind a list of one group.
+fn large_name(alloc: Global) -> Result<Vec<u8>, AllocError> {
+    let mut bytes = Vec::new(alloc);
+    bytes.extend_from_slice(b"\x83l\0\0\0\x01h\x02m\0\0\x04\x01")?;
+    for _ in 0..1025 {
+        bytes.push(b'x')?;
+    }
+    bytes.extend_from_slice(b"jj")?;
+    Ok(bytes)
+}
+
+/// Whether such a name ends the process.
+fn is_too_large(alloc: Global) -> Result<bool, AllocError> {
+    let groups = large_name(alloc)?;
+    let is_so = is_brought(alloc, groups.as_slice(), 23);
+    drop(groups);
+    is_so
+}
+
+#[test]
+fn groups_are_brought(rt: HostRuntime) {
+    for place in 0..BROUGHT.len() {
+        let (groups, fault) = BROUGHT[place];
+        let is_so = is_brought(rt.alloc(), groups, fault) == Ok(true);
+        holds_at(&rt, is_so, "groups of row", place);
+    }
+    let is_so = is_too_large(rt.alloc()) == Ok(true);
+    holds_at(&rt, is_so, "a large name is refused at", 0);
+}
+
+/// Whether all of these bodies, one behind the other, have all of what goes out and is logged.
+fn are_heard(alloc: Global) -> Result<bool, AllocError> {
+    let mut input = Vec::new(alloc);
+    let mut said = Vec::new(alloc);
+    let mut logged = Vec::new(alloc);
+    for place in 0..HEARD.len() {
+        let (body, out, marks) = HEARD[place];
+        put_body(&mut input, b"", body)?;
+        said.extend_from_slice(out)?;
+        put_body(&mut logged, b"", body)?;
+        logged.extend_from_slice(marks)?;
+    }
+    let is_so = is_heard(
+        alloc,
+        2,
+        false,
+        input.as_slice(),
+        said.as_slice(),
+        logged.as_slice(),
+        0,
+    );
+    drop(input);
+    drop(said);
+    drop(logged);
+    Ok(is_so)
+}
+
+#[test]
+fn bodies_are_heard(rt: HostRuntime) {
+    holds_at(&rt, are_heard(rt.alloc()) == Ok(true), "a conversation", 0);
+}
+
 /// Whether a process without a port is refused, and nothing goes out.
 fn is_refused(alloc: Global) -> bool {
     match served(alloc, 0, false, b"\0\0\0\x03\x14\x83j") {
-        Ok((out, number)) => {
-            let is_so = number == 15 && out.is_empty();
+        Ok((out, log, number)) => {
+            let is_so = number == 15 && out.is_empty() && log.is_empty();
             drop(out);
+            drop(log);
             is_so
         }
         Err(AllocError) => false,
