@@ -25,6 +25,8 @@ use std::alloc::{AllocError, Global};
 pub struct IndexTable {
     numbers: IndexMap<Term, u32>,
     memberships: Memberships,
+    // The place of the name to which a join or a leave came last. Another name may stand there by now.
+    last: usize,
     alloc: Global,
     ghost there: { HasGroups (number_of numbers) (is_used memberships.groups) },
     ghost apart: { AreNumberedApart (number_of numbers) },
@@ -72,6 +74,15 @@ fn cut_last(numbers: &mut IndexMap<Term, u32>, memberships: &mut Memberships)
     }
 }
 
+/// The number of a group to which a join or a leave comes, whose place is noted.
+fn noted(numbers: &IndexMap<Term, u32>, last: &mut usize, name: &Term) -> Option<u32>
+    ensures { result ≡ number_of numbers.now name.now }
+{
+    let (place, _, number) = numbers.get_full(name)?;
+    *last = place;
+    Some(*number)
+}
+
 impl IndexTable {
     /// No group.
     ///
@@ -82,6 +93,7 @@ impl IndexTable {
         IndexTable {
             numbers: IndexMap::new(alloc),
             memberships: Memberships::new(alloc),
+            last: 0,
             alloc,
         }
     }
@@ -91,6 +103,16 @@ impl IndexTable {
         ensures { result ≡ number_of self.now.numbers name.now }
     {
         self.numbers.get(name).copied()
+    }
+
+    /// The number of a group, found at the place that was noted where it stands there.
+    fn number_again(&self, name: &Term) -> Option<u32>
+        ensures { result ≡ number_of self.now.numbers name.now }
+    {
+        match self.numbers.get_index(self.last) {
+            Some((found, number)) if *found == *name => Some(*number),
+            _ => self.number(name),
+        }
     }
 
     /// The members of a group.
@@ -190,7 +212,7 @@ impl IndexTable {
             ((count_in (table_of self.old.numbers self.old.memberships name.now) pid.now ≡ 0)
             ⊎ LacksRoom (table_of self.old.numbers self.old.memberships name.now) 1) }
     {
-        match self.number(name) {
+        match noted(&self.numbers, &mut self.last, name) {
             Some(number) => self.memberships.add(number, pid, 1),
             None => Ok(()),
         }
@@ -248,7 +270,7 @@ impl GroupTable for IndexTable {
 
     /// Its cost is that of a hash and of searches in order.
     fn leave(&mut self, name: &Term, pid: &Pid) {
-        match self.number(name) {
+        match noted(&self.numbers, &mut self.last, name) {
             Some(number) => self.memberships.take_one(number, pid),
             None => (),
         }
@@ -335,6 +357,7 @@ impl GroupTable for IndexTable {
         Ok(IndexTable {
             numbers,
             memberships,
+            last: self.last,
             alloc: self.alloc,
         })
     }
@@ -356,6 +379,14 @@ impl GroupsByPlace for IndexTable {
         match self.numbers.get_index(place) {
             Some((name, _)) => name,
             None => unreachable!(),
+        }
+    }
+
+    /// Its cost is that of a comparison of names, where a join or a leave came last to this group, else of a hash; and of a search in order.
+    fn count_if_there(&self, name: &Term, pid: &Pid) -> Option<u64> {
+        match self.number_again(name) {
+            Some(number) => Some(self.memberships.count(number, pid)),
+            None => None,
         }
     }
 }

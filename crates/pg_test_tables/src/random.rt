@@ -3,7 +3,7 @@
 use crate::change::{Act, has_groups, perform};
 use crate::samples::{Cast, holds};
 use pg_group::{GroupTable, RowTable, Scope};
-use pg_index::IndexTable;
+use pg_index::{GroupsByPlace, IndexTable};
 use pg_query::{QueryFault, local_members, members};
 use pg_term::{Items, Pid, Term};
 use pg_test_kit::Random;
@@ -87,16 +87,18 @@ impl Both {
         let name = Term::Int(group);
         let has = self.index.has(&name);
         let are_alike = self.rows.has(&name) == has
-            && self.count_alike(&name)
+            && self.count_alike(&name, has)
             && self.rows.size(&name, Scope::All) == self.index.size(&name, Scope::All)
             && (!has || self.list_alike(rt, &name));
         drop(name);
         are_alike
     }
 
-    fn count_alike(&self, name: &Term) -> bool {
+    fn count_alike(&self, name: &Term, has: bool) -> bool {
         for pid in &self.cast.pids {
-            if self.rows.count(name, pid) != self.index.count(name, pid) {
+            let count = self.rows.count(name, pid);
+            let there = if has { Some(count) } else { None };
+            if self.index.count(name, pid) != count || self.index.count_if_there(name, pid) != there {
                 return false;
             }
         }
