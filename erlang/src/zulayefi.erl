@@ -10,7 +10,7 @@ info() ->
 
 %% @doc From the next generation on, which begins at once, the program of each node of the set writes what it hears into a new file of this folder, on
 %% its own machine; with `none' none does.
--spec record(file:filename() | none) -> ok.
+-spec record(file:filename_all() | none) -> ok.
 record(Dir) -> zulayefi_calls:request({record, Dir}).
 
 %% @doc Stops the application on this node. Its members leave the groups of the others.

@@ -25,7 +25,7 @@ put_in_place(File, Code) ->
 stop(_) -> ok.
 
 %% @doc The folder of the program and of pg2, also where the application is not at a library path.
--spec priv() -> file:filename().
+-spec priv() -> file:filename_all().
 priv() ->
     case code:priv_dir(zulayefi) of
         {error, bad_name} -> filename:join(filename:dirname(filename:dirname(code:which(?MODULE))), "priv");

@@ -90,7 +90,7 @@ names(Changes) -> maps:keys(Changes).
 all(Changes) -> lists:append([Given ++ queue:to_list(Waiting) || {Given, Waiting} <- maps:values(Changes)]).
 
 -spec count(changes()) -> non_neg_integer().
-count(Changes) -> lists:sum([length(Given) + queue:len(Waiting) || {Given, Waiting} <- maps:values(Changes)]).
+count(Changes) -> length(all(Changes)).
 
 %% @doc Whether an assignment, by the row before and after it, has the effect of a change. By whom it was made is not told, and need not be.
 -spec is_effect(change(), Row, Row) -> boolean() when Row :: zulayefi_table:row() | none.

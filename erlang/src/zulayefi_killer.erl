@@ -10,7 +10,7 @@
 
 -type os_pid() :: pos_integer() | none.
 
--spec start_link() -> {ok, pid()} | {error, term()}.
+-spec start_link() -> gen_server:start_ret().
 start_link() -> gen_server:start_link({local, ?MODULE}, ?MODULE, [], []).
 
 %% @doc The calling server has started a program.
@@ -73,7 +73,8 @@ began(none) -> none;
 began(OsPid) ->
     case file:read_file("/proc/" ++ integer_to_list(OsPid) ++ "/stat") of
         {ok, Text} ->
-            [State | Fields] = string:lexemes(lists:last(binary:split(Text, <<")">>, [global])), " "),
+            Behind = lists:last(binary:split(Text, <<")">>, [global])),
+            [State | Fields] = binary:split(Behind, <<" ">>, [global, trim_all]),
             case State of
                 <<"Z">> -> none;
                 _ -> lists:nth(19, Fields)

@@ -50,4 +50,4 @@ is_idle(Links) -> map_size(Links) =:= 0.
 
 %% @doc How many messages wait.
 -spec waiting(links()) -> non_neg_integer().
-waiting(Links) -> lists:sum([queue:len(Queue) || Queue <- maps:values(Links)]).
+waiting(Links) -> maps:fold(fun(_, Queue, Count) -> Count + queue:len(Queue) end, 0, Links).

@@ -6,7 +6,7 @@
 -define(LABEL_BYTES, 255).
 
 %% @doc Each node and each generation have a file of their own. A server that is started again proposes the same numbers again, as another process.
--spec file(file:filename(), node(), zulayefi_view:generation()) -> file:filename().
+-spec file(file:filename_all(), node(), zulayefi_view:generation()) -> file:filename_all().
 file(Dir, Node, {Number, Proposer}) ->
     {Id, Serial} = zulayefi_term:number(Proposer),
     Name = io_lib:format("~ts-~b-~ts-~b.~b.~b.log", [Node, Number, node(Proposer), zulayefi_term:creation(Proposer), Id, Serial]),
@@ -14,7 +14,7 @@ file(Dir, Node, {Number, Proposer}) ->
 
 %% @doc The words that make a program record. The label says which generation it is, of which one the table is that is brought, and how many
 %% assignments of that one the node had read.
--spec words(file:filename(), zulayefi_view:generation(), {zulayefi_view:generation(), non_neg_integer()}) -> [unicode:chardata()].
+-spec words(file:filename_all(), zulayefi_view:generation(), {zulayefi_view:generation(), non_neg_integer()}) -> [unicode:chardata()].
 words(File, Generation, {Brought, Read}) ->
     Label = io_lib:format("~ts brings ~ts, ~b read", [text(Generation), text(Brought), Read]),
     ["--log", File, "--label", shortened(unicode:characters_to_binary(Label))].
@@ -33,7 +33,7 @@ shortened(Label) ->
     end.
 
 %% @doc Whether the program can make this file: a new one, in a folder that is there or is made.
--spec can_be_made(file:filename()) -> ok | {error, term()}.
+-spec can_be_made(file:filename_all()) -> ok | {error, term()}.
 can_be_made(File) ->
     case filelib:ensure_dir(File) of
         ok ->
@@ -45,5 +45,5 @@ can_be_made(File) ->
     end.
 
 %% @doc Whether a file has as many bytes as one may have.
--spec is_full(file:filename()) -> boolean().
+-spec is_full(file:filename_all()) -> boolean().
 is_full(File) -> filelib:file_size(File) >= zulayefi_app:parameter(recorded_bytes).

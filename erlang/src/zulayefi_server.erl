@@ -32,7 +32,7 @@
     %% the greatest generation that was heard of, its set and where it is recorded; its run, where this node's program runs
     generation = zulayefi_view:first() :: zulayefi_view:generation(),
     set = [] :: [pid()],
-    recording = none :: file:filename() | none,
+    recording = none :: file:filename_all() | none,
     run = none :: zulayefi_run:run() | none,
     is_formed = false :: boolean(),
     is_settled = false :: boolean(),
@@ -43,7 +43,7 @@
     read = 0 :: non_neg_integer(),
     brought = {zulayefi_view:first(), 0} :: {zulayefi_view:generation(), non_neg_integer()},
     %% the file in which the run is recorded
-    file = none :: file:filename() | none,
+    file = none :: file:filename_all() | none,
 
     changes = zulayefi_changes:new() :: zulayefi_changes:changes(),
     watch = zulayefi_watch:new() :: zulayefi_watch:watch(),
@@ -67,7 +67,7 @@
     strangers = #{} :: #{node() => integer()}
 }).
 
--spec start_link() -> {ok, pid()} | {error, term()}.
+-spec start_link() -> gen_server:start_ret().
 start_link() -> gen_server:start_link({local, ?MODULE}, ?MODULE, [], [{spawn_opt, [{min_heap_size, ?HEAP}]}]).
 
 %% @doc The request for a change.

@@ -54,8 +54,11 @@ bytes_of(Term) when is_integer(Term), Term >= 0, Term < 256 -> 2;
 bytes_of(Term) when is_integer(Term), Term >= -(1 bsl 31), Term < 1 bsl 31 -> 5;
 bytes_of(Term) when is_integer(Term) -> 11;
 bytes_of([]) -> 1;
-bytes_of(Term) when is_list(Term) -> 6 + lists:sum([bytes_of(Each) || Each <- Term]);
-bytes_of(Term) when is_tuple(Term) -> 5 + lists:sum([bytes_of(Each) || Each <- tuple_to_list(Term)]).
+bytes_of(Term) when is_list(Term) -> 6 + bytes_of_all(Term);
+bytes_of(Term) when is_tuple(Term) -> 5 + bytes_of_all(tuple_to_list(Term)).
+
+bytes_of_all([]) -> 0;
+bytes_of_all([First | Rest]) -> bytes_of(First) + bytes_of_all(Rest).
 
 atom_head(Size) when Size < 256 -> 2 + Size;
 atom_head(Size) -> 3 + Size.
