@@ -1,5 +1,7 @@
 -- The bytes of one assignment of what a process counts in a group.
-use Rattle.std.proofs.Common.{◌≡◌, ℕ, ℤ, pos, ◌+◌, ◌≤◌, List, [], ◌∷◌, ◌++◌, length, length-append, append_assoc, append-nil, ap, sym, ◌∙◌, arith, rules, Ok}
+use Rattle.std.proofs.Common.{◌≡◌, ℕ, ℤ, pos, ◌+◌, ◌≤◌, List, [], ◌∷◌, ◌++◌, length, length-append, append_assoc, append-nil, ap, refl, sym, ◌∙◌, arith, rules, Ok}
+use Rattle.std.specs.Int.{w32, to_be_bytes}
+use Rattle.pg_frame.specs.Frames.{frame}
 use Rattle.pg_term.specs.Depth.{depth, greatest_depth}
 use Rattle.pg_term.specs.declared.pid.Pid.{Pid}
 use Rattle.pg_term.specs.declared.term.Term.{Term, Tuple, List as Listed, the_lemmas}
@@ -42,6 +44,21 @@ pub built : (body : List ℕ) (number : ℤ) (name : Term) (pid : Pid) (count : 
 built body number name pid count same is =
     is ∙ ap (λ (n : ℤ). ((((23 ∷ 131 ∷ 108 ∷ 0 ∷ 0 ∷ 0 ∷ 1 ∷ 104 ∷ 3 ∷ []) ++ item_bytes name) ++ pid_bytes pid) ++ int_bytes n) ++ 106 ∷ []) same
     ∙ part_by_part (item_bytes name) (pid_bytes pid) (int_bytes (pos count)) ∙ sym (body_is name pid count)
+
+in_parts : (old head x y z : List ℕ) → (((((old ++ head) ++ 23 ∷ 131 ∷ 108 ∷ 0 ∷ 0 ∷ 0 ∷ 1 ∷ 104 ∷ 3 ∷ []) ++ x) ++ y) ++ z) ++ 106 ∷ []
+    ≡ old ++ (head ++ (((((23 ∷ 131 ∷ 108 ∷ 0 ∷ 0 ∷ 0 ∷ 1 ∷ 104 ∷ 3 ∷ []) ++ x) ++ y) ++ z) ++ 106 ∷ []))
+in_parts old head x y z = simp (append_assoc)
+
+-- its frame: the length, and the parts
+pub framed : (after old head : List ℕ) (name : Term) (pid : Pid) (count : ℕ) (number : ℤ) → number ≡ pos count → head ≡ to_be_bytes w32 (length (23 ∷ written (Listed (entry name pid count ∷ []))))
+    → after ≡ (((((old ++ head) ++ 23 ∷ 131 ∷ 108 ∷ 0 ∷ 0 ∷ 0 ∷ 1 ∷ 104 ∷ 3 ∷ []) ++ item_bytes name) ++ pid_bytes pid) ++ int_bytes number) ++ 106 ∷ []
+    → after ≡ old ++ frame (23 ∷ written (Listed (entry name pid count ∷ [])))
+unfolding frame
+framed after old head name pid count number same len is =
+    let body = 23 ∷ written (Listed (entry name pid count ∷ [])) in
+    is ∙ in_parts old head (item_bytes name) (pid_bytes pid) (int_bytes number)
+    ∙ ap (λ (bytes : List ℕ). old ++ (head ++ bytes)) (built (((((23 ∷ 131 ∷ 108 ∷ 0 ∷ 0 ∷ 0 ∷ 1 ∷ 104 ∷ 3 ∷ []) ++ item_bytes name) ++ pid_bytes pid) ++ int_bytes number) ++ 106 ∷ []) number name pid count same refl)
+    ∙ ap (λ (bytes : List ℕ). old ++ (bytes ++ body)) len
 
 -- how long it is
 pub body_len : (name : Term) (pid : Pid) (count : ℕ) → length (written (Listed (entry name pid count ∷ []))) ≡ 9 + length (item_bytes name) + length (pid_bytes pid) + length (int_bytes (pos count))

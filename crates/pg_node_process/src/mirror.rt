@@ -58,7 +58,7 @@ pub fn tell_rows<T: GroupTable>(
 /// Errors: `AllocError`, which says nothing.
 ///
 /// Cost: that of one assignment.
-pub fn tell_update<T: GroupTable>(
+pub fn tell_update<T: GroupsByPlace>(
     outlet: &mut Outlet,
     alloc: Global,
     table: &T,
@@ -256,7 +256,7 @@ fn tell_deleted(outlet: &mut Outlet, alloc: Global, name: &Term) -> Result<(), A
 }
 
 /// Tells how often a process counts in a group, where that is there.
-fn tell_count<T: GroupTable>(
+fn tell_count<T: GroupsByPlace>(
     outlet: &mut Outlet,
     table: &T,
     name: &Term,
@@ -266,11 +266,10 @@ fn tell_count<T: GroupTable>(
     ensures few { OnOk result (IfSome (count_told (T.contents table.now name.now) name.now pid.now) (λ term. count_in (T.contents table.now name.now) pid.now < 2 ^ 63)) }
     ensures err { OnErr result (outlet.new.gathered.items ≡ outlet.old.gathered.items) }
 {
-    let count = table.count(name, pid);
-    if count == 0 && !table.has(name) {
-        return Ok(());
+    match table.count_if_there(name, pid) {
+        Some(count) => outlet.put_entry(name, pid, count),
+        None => Ok(()),
     }
-    outlet.put_entry(name, pid, count)
 }
 
 /// Tells one assignment.

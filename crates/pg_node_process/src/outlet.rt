@@ -219,17 +219,14 @@ impl Outlet {
         if len > MAX_LEN {
             return Err(AllocError);
         }
-        self.body.clear();
-        self.body.reserve(len)?;
-        self.body.extend_reserved(&BEFORE_ENTRY);
-        put_item(&mut self.body, name);
-        put_pid(&mut self.body, pid);
-        put_int(&mut self.body, number);
-        self.body.extend_reserved(&[NIL]);
-        match frame_into(&mut self.gathered, self.body.as_slice()) {
-            Ok(()) => Ok(()),
-            Err(_) => Err(AllocError),
-        }
+        self.gathered.reserve(4 + len)?;
+        self.gathered.extend_reserved(&(len as u32).to_be_bytes());
+        self.gathered.extend_reserved(&BEFORE_ENTRY);
+        put_item(&mut self.gathered, name);
+        put_pid(&mut self.gathered, pid);
+        put_int(&mut self.gathered, number);
+        self.gathered.extend_reserved(&[NIL]);
+        Ok(())
     }
 
     /// A notice: `None`, or the number of the fault by which no frame holds the term, which then adds nothing. It is 4 (`TooDeep`), where the

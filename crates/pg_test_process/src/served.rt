@@ -3,7 +3,7 @@
 use crate::passed::{Sheet, blank_sheet};
 use crate::sights::holds_at;
 use pg_node_process::ProcessConfig;
-use pg_process::serve;
+use pg_process::{Process, serve};
 use pg_streams::AnyWriter;
 use pg_term::Atom;
 use std::alloc::{AllocError, Global};
@@ -129,6 +129,9 @@ const HEARD: &[(&[u8], &[u8], &[u8])] = &[
         b"",
     ),
 ];
+
+/// The most bytes of a body.
+const MAX: usize = 16_777_216;
 
 /// The version of all processes here, and its frame.
 const VERSION: &str = "v";
@@ -315,6 +318,51 @@ fn are_heard(alloc: Global) -> Result<bool, AllocError> {
 #[test]
 fn bodies_are_heard(rt: HostRuntime) {
     holds_at(&rt, are_heard(rt.alloc()) == Ok(true), "a conversation", 0);
+}
+
+/// Whether a process that is handed this body says just that, logs the body with these marks behind it, passes both on, and keeps neither.
+fn is_heard_alone(
+    alloc: Global,
+    process: &mut Process,
+    body: &[u8],
+    said: &[u8],
+    marks: &[u8],
+) -> bool {
+    if body.len() > MAX || process.hear(body).is_err() {
+        return false;
+    }
+    let is_so = process.output() == said && process.logged().ends_with(marks);
+    let (mut out, mut log) = (Vec::new(alloc), Vec::new(alloc));
+    let is_passed = process.pass_on(&mut out, &mut log).is_ok();
+    let is_whole = out.as_slice() == said && log.len() == 4 + body.len() + marks.len();
+    drop(out);
+    drop(log);
+    is_so && is_passed && is_whole && process.output().is_empty() && process.logged().is_empty()
+}
+
+/// The process to which no groups were brought, with two ports.
+fn begun(alloc: Global) -> Result<Process, AllocError> {
+    let config = config(alloc, 2, false)?;
+    match Process::begin(alloc, config, b"\x83j") {
+        Ok(process) => Ok(process),
+        Err(_) => Err(AllocError),
+    }
+}
+
+#[test]
+fn bodies_are_handed_over(rt: HostRuntime) {
+    let Ok(mut process) = begun(rt.alloc()) else {
+        holds_at(&rt, false, "a process that begins", 0);
+        return;
+    };
+    for place in 0..HEARD.len() {
+        let (body, said, marks) = HEARD[place];
+        // (a tick stands for the groups, which are there)
+        let body = if place == 0 { b"\x10" } else { body };
+        let is_so = is_heard_alone(rt.alloc(), &mut process, body, said, marks);
+        holds_at(&rt, is_so, "what is said of the body", place);
+    }
+    drop(process);
 }
 
 /// Whether a process without a port is refused, and nothing goes out.
