@@ -98,7 +98,9 @@ impl Both {
         for pid in &self.cast.pids {
             let count = self.rows.count(name, pid);
             let there = if has { Some(count) } else { None };
-            if self.index.count(name, pid) != count || self.index.count_if_there(name, pid) != there {
+            if self.index.count(name, pid) != count
+                || self.index.count_if_there(name, pid) != there
+            {
                 return false;
             }
         }
